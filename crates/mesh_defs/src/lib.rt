@@ -1,0 +1,12 @@
+//! The definitions of terrain meshing over a triangle bintree, for every crate above.
+//!
+//! `specs/` has the words that contracts cite: height fields, triangles and their mates, tilings,
+//! closed sets, thickness, boxes, distance, marks, priority, ranking, greedy refinement and the
+//! text of a mesh. The code here is two plain structs and small law functions.
+//! No algorithm of the mesher is here.
+
+#![tactic(auto)]
+
+mod point;
+
+pub use point::{Corners, Point};
