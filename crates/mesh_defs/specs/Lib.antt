@@ -1,1 +1,12 @@
 pub mod HeightField
+pub mod Triangle
+pub mod Tiling
+pub mod ClosedSet
+pub mod Thickness
+pub mod BoundingBox
+pub mod View
+pub mod Priority
+pub mod Ranking
+pub mod Greedy
+pub mod MeshText
+pub mod BestMesh

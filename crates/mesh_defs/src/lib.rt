@@ -7,6 +7,8 @@
 
 #![tactic(auto)]
 
+mod mark;
 mod point;
 
+pub use mark::Mark;
 pub use point::{Corners, Point};

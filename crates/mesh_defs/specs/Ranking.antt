@@ -1,0 +1,34 @@
+-- The order in which triangles deserve to be split, and the mesh of a budget that follows from it.
+-- Source: the greedy algorithm of Duchaineau et al., "ROAMing Terrain", IEEE Visualization 1997,
+-- section 4; that ties go by address and that a later, smaller triangle is not tried are this project's own.
+-- Priorities are any function of the address here.
+use Rattle.std.specs.Prelude.{◌≡◌, ℕ, ◌+◌, ◌<◌, ◌≤◌, ◌⊎◌, ◌↔◌, Bool, List, length, take, Contains, AllPairs, Some, slice_get}
+use Rattle.mesh_defs.specs.Triangle.{IsSplittable}
+use Rattle.mesh_defs.specs.ClosedSet.{IsLeastClosed, leaves_of, among}
+
+-- the greater priority first, and of equal ones the lesser address
+abbrev pub RanksBefore : (ℕ → ℕ) → ℕ → ℕ → Type 0
+RanksBefore priority a b = (priority b < priority a) ⊎ ((priority a ≡ priority b) × (a < b))
+
+-- the splittable triangles of positive priority, each once, in rank order
+pub record IsRanking (n : ℕ) (priority : ℕ → ℕ) (ranking : List ℕ) : Type 0 where
+  pub ordered : AllPairs (RanksBefore priority) ranking
+  pub members : (a : ℕ) → Contains ranking a ↔ (IsSplittable n a × (0 < priority a))
+
+-- the least closed set that holds the first k of the ranking
+abbrev pub IsFrontClosure : ℕ → List ℕ → ℕ → (ℕ → Bool) → Type 0
+IsFrontClosure n ranking k has = IsLeastClosed n (among (take k ranking)) has
+
+-- The rank closure for a budget: the closure of the longest front of the ranking whose closure has at
+-- most as many leaves as the budget. The front's triangles are the chosen ones, chosen is their number.
+pub record IsRankClosure (n budget : ℕ) (ranking : List ℕ) (chosen : ℕ) (has : ℕ → Bool) : Type 0 where
+  pub front : chosen ≤ length ranking
+  pub closure : IsFrontClosure n ranking chosen has
+  pub fits : length (leaves_of n has) ≤ budget
+  pub longest : (k : ℕ) (other : ℕ → Bool) → chosen < k → k ≤ length ranking →
+      IsFrontClosure n ranking k other → budget < length (leaves_of n other)
+
+-- The first triangle that is not chosen blocks; its need is the number of leaves with it too.
+pub record IsBlockedBy (n : ℕ) (ranking : List ℕ) (chosen triangle need : ℕ) : Type 0 where
+  pub next : slice_get ranking chosen ≡ Some triangle
+  pub counted : (has : ℕ → Bool) × IsFrontClosure n ranking (chosen + 1) has × (need ≡ length (leaves_of n has))

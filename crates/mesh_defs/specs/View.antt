@@ -1,0 +1,47 @@
+-- What is seen: the camera, the spacing, and the planes of the view frustum.
+-- Source: the view frustum culling of Duchaineau et al., "ROAMing Terrain", IEEE Visualization 1997,
+-- section 6; a mark is decided here by the eight corners of the box alone.
+use Rattle.std.specs.Prelude.{ℕ, Bool, if◌then◌else◌, List, [], ◌∷◌, ℤ, pos, ◌+ℤ◌, ◌*ℤ◌, int_lt}
+use Rattle.std.specs.List.{list_any, list_all}
+use Rattle.mesh_defs.specs.declared.mark.Mark.{Mark}
+use Rattle.mesh_defs.specs.declared.mark.Mark.TheVariants.{Inside, Cut, Outside}
+use Rattle.mesh_defs.specs.BoundingBox.{BoundingBox, CameraAt}
+
+-- a plane of whole numbers; its inside is where a x + b y + c z + d is at least 0, in world units
+pub record ViewPlane : Type 0 where
+  pub a : ℤ
+  pub b : ℤ
+  pub c : ℤ
+  pub d : ℤ
+
+-- where the camera is, how many world units a grid step has, and the planes in force
+pub record View : Type 0 where
+  pub camera : CameraAt
+  pub spacing : ℕ
+  pub planes : List ViewPlane
+
+-- the point (x, y, z) is outside the plane
+abbrev pub is_outside : ViewPlane → ℤ → ℤ → ℤ → Bool
+is_outside p x y z = int_lt ((p.a *ℤ x) +ℤ ((p.b *ℤ y) +ℤ ((p.c *ℤ z) +ℤ p.d))) (pos 0)
+
+-- for each of the eight corners of the box, whether it is outside the plane
+abbrev pub outside_corners : BoundingBox → ViewPlane → List Bool
+outside_corners box p =
+    is_outside p box.x0 box.y0 box.z0 ∷ (is_outside p box.x1 box.y0 box.z0 ∷ (
+    is_outside p box.x0 box.y1 box.z0 ∷ (is_outside p box.x1 box.y1 box.z0 ∷ (
+    is_outside p box.x0 box.y0 box.z1 ∷ (is_outside p box.x1 box.y0 box.z1 ∷ (
+    is_outside p box.x0 box.y1 box.z1 ∷ (is_outside p box.x1 box.y1 box.z1 ∷ [])))))))
+
+-- all corners of the box are outside the plane
+abbrev pub is_all_outside : BoundingBox → ViewPlane → Bool
+is_all_outside box p = list_all (λ outside. outside) (outside_corners box p)
+
+-- some corner of the box is outside the plane
+abbrev pub is_some_outside : BoundingBox → ViewPlane → Bool
+is_some_outside box p = list_any (λ outside. outside) (outside_corners box p)
+
+-- Outside where all corners are outside one plane, Inside where no corner is outside any, else Cut.
+unfoldable pub mark_of : List ViewPlane → BoundingBox → Mark
+mark_of planes box =
+    if list_any (is_all_outside box) planes then Outside
+    else (if list_any (is_some_outside box) planes then Cut else Inside)
