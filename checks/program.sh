@@ -1,0 +1,288 @@
+# shellcheck shell=bash disable=SC2154
+# The built program over real files: what it reports, how it ends, and which meshes stand after it.
+# Sourced by checks/run. Each check works in a folder of its own, with a grid `g` and a script `s`.
+
+# flat_mesh M: the two base triangles of a flat square whose side has M units.
+flat_mesh() {
+  printf 'v 0 0 0\nv %d 0 0\nv 0 %d 0\nv %d %d 0\nf 1 2 3\nf 4 3 2\n' "$1" "$1" "$1" "$1"
+}
+
+# flat_grid SIDE: a height field of that many samples a row, all 0.
+flat_grid() {
+  printf 'P5\n%d %d\n65535\n' "$1" "$1"
+  head -c "$((2 * $1 * $1))" /dev/zero
+}
+
+# lines N: the report of N frames, each line ended by the two characters \n.
+lines() {
+  local k
+  for ((k = 1; k <= $1; k++)); do printf 'frame %d triangles 2 vertices 4\\n' "$k"; done
+}
+
+# start NAME: a new folder with the flat 3x3 grid and a script of one frame.
+start() {
+  name=$1
+  mkdir -- "$room/$name" && cd -- "$room/$name" || exit 1
+  flat_grid 3 >g
+  printf 'frame\n' >s
+  flat_mesh 2 >"$room/mesh"
+  prefix=out
+}
+
+# run WORDS..: the program in the present folder; run_to FILE WORDS.. with that standard output.
+run() { run_to "$room/report" "$@"; }
+run_to() {
+  local to=$1
+  shift
+  find . -mindepth 1 >"$room/before"
+  : >"$room/report"
+  timeout 60 "$program" "$@" >"$to" 2>"$room/said" </dev/null
+  status=$?
+}
+
+# expect STATUS MESHES REPORT [TEXT]: how the program ended, how many whole meshes are there and no other new file,
+# what the report has (as printf's %b), and what the one line on standard error has in it, where there is to be one.
+expect() {
+  local k why=() meshes=()
+  for ((k = 1; k <= $2; k++)); do meshes+=("$(printf './%s%06d.obj' "$prefix" "$k")"); done
+  [ "$status" = "$1" ] || why+=("exit status $status, not $1")
+  printf '%b' "$3" >"$room/wanted"
+  cmp -s "$room/wanted" "$room/report" || why+=("the report is '$(head -c 200 "$room/report" | tr '\n' '/')'")
+  if [ "$2" -gt 0 ]; then
+    [ "$(cksum -- "${meshes[@]}" 2>&1 | cut -d' ' -f1,2 | sort -u)" = "$(cksum <"$room/mesh")" ] ||
+      why+=("the $2 meshes are not as wanted")
+  fi
+  find . -mindepth 1 | sort >"$room/after"
+  { cat "$room/before"; [ "$2" -eq 0 ] || printf '%s\n' "${meshes[@]}"; } | sort -u |
+    cmp -s - "$room/after" || why+=("the files there are not those wanted")
+  case $1 in
+    0 | 3 | 4) [ ! -s "$room/said" ] || why+=("standard error has '$(head -c 200 "$room/said")'") ;;
+    1 | 2 | 5 | 6) [ "$(wc -l <"$room/said")" -eq 1 ] || why+=("standard error has not one line") ;;
+  esac
+  grep -qF -- "${4:-}" "$room/said" || [ -z "${4:-}" ] || why+=("standard error does not say '$4'")
+  decide "$name" ${why[0]+"${why[@]}"}
+}
+
+# --- Examples: the one line of `command`, run where the example's files lie, gives what is in expected/. ---
+
+for example in "$top"/examples/*/; do
+  name=example_$(basename -- "$example" | tr - _)
+  mkdir -- "$room/$name" && cd -- "$room/$name" || exit 1
+  cp -- "$example"* . 2>/dev/null
+  read -r _ words <./command
+  why=()
+  # shellcheck disable=SC2086 # words of an example have no blanks of their own
+  run $words
+  [ "$status" = "$(cat "$example/expected/status" 2>/dev/null || echo 0)" ] || why+=("exit status $status")
+  cmp -s "$example/expected/report" "$room/report" || why+=("the report differs")
+  for mesh in "$example"expected/*.obj; do
+    [ -f "$mesh" ] || continue
+    cmp -s -- "$mesh" "${mesh##*/}" || why+=("${mesh##*/} differs")
+  done
+  [ "$(find . -name '*.obj' | wc -l)" -eq "$(find "$example/expected" -name '*.obj' | wc -l)" ] ||
+    why+=("not as many meshes as wanted")
+  decide "$name" ${why[0]+"${why[@]}"}
+done
+
+# --- Scripts over the flat 3x3 grid. ---
+
+while IFS='|' read -r name script wanted meshes refusal; do
+  start "$name"
+  printf '%b' "$script" >s
+  run mesh g s out 2 1
+  expect "$wanted" "$meshes" "$(lines "$meshes")$refusal"
+done <<'TABLE'
+an_empty_script_makes_no_mesh||0|0|
+a_frame_makes_a_mesh|frame\n|0|1|
+a_last_line_without_lf_is_accepted|frame\nframe|0|2|
+an_unknown_word_comes_after_a_whole_mesh|frame\nfly\n|4|1|line 2 refused: unknown command\n
+nothing_is_made_after_a_refused_line|frame\nfly\nframe\n|4|1|line 2 refused: unknown command\n
+a_refused_last_line_without_lf|frame\nfram|4|1|line 2 refused: unknown command\n
+an_empty_line_is_refused|\n|4|0|line 1 refused: unknown command\n
+an_empty_line_between_frames_is_refused|frame\n\nframe\n|4|1|line 2 refused: unknown command\n
+a_blank_after_the_word_is_refused|frame \n|4|0|line 1 refused: unknown command\n
+a_cr_after_the_word_is_refused|frame\r\n|4|0|line 1 refused: unknown command\n
+a_blank_before_the_word_is_refused| frame\n|4|0|line 1 refused: unknown command\n
+a_sixth_letter_is_refused|frames\n|4|0|line 1 refused: unknown command\n
+a_capital_letter_is_refused|Frame\n|4|0|line 1 refused: unknown command\n
+a_zero_byte_is_refused|fram\0\n|4|0|line 1 refused: unknown command\n
+TABLE
+
+start a_line_longer_than_a_read_is_refused
+head -c 300000 /dev/zero | tr '\0' x >s
+run mesh g s out 2 1
+expect 4 0 'line 1 refused: unknown command\n'
+
+start a_script_of_a_thousand_frames
+for ((k = 0; k < 1000; k++)); do echo frame; done >s
+run mesh g s out 2 1
+expect 0 1000 "$(lines 1000)"
+
+# --- Grids. ---
+
+for side in 3 5 9 17 33 65 129 257 513 1025 2049; do
+  start "a_grid_of_side_$side"
+  flat_grid "$side" >g
+  flat_mesh "$((side - 1))" >"$room/mesh"
+  run mesh g s out 2 1
+  expect 0 1 "$(lines 1)"
+done
+
+# The first row of samples is the far side (the greatest y); of a sample's two bytes the first counts 256.
+start heights_of_the_four_corners
+{
+  printf 'P5\n3 3\n65535\n'
+  printf '\0\3\0\0\2\1'
+  printf '\0\0\0\0\0\0'
+  printf '\1\2\0\0\377\377'
+} >g
+printf 'v 0 0 258\nv 2 0 65535\nv 0 2 3\nv 2 2 513\nf 1 2 3\nf 4 3 2\n' >"$room/mesh"
+run mesh g s out 2 1
+expect 0 1 "$(lines 1)"
+
+# Names of refused grids: a header (as printf's %b), a number of zero bytes after it, the refusal.
+while IFS='|' read -r name header zeros refusal; do
+  start "$name"
+  { printf '%b' "$header"; head -c "$zeros" /dev/zero; } >g
+  run mesh g s out 2 1
+  expect 3 0 "grid refused: $refusal\n"
+done <<'TABLE'
+an_empty_grid_is_truncated||0|truncated
+a_grid_of_one_byte_is_truncated|P|0|truncated
+a_header_without_its_last_byte_is_truncated|P5\n3 3\n65535|0|truncated
+a_header_alone_is_truncated|P5\n3 3\n65535\n|0|truncated
+a_grid_of_30_bytes_is_truncated|P5\n3 3\n65535\n|17|truncated
+a_byte_after_the_last_sample|P5\n3 3\n65535\n|19|trailing byte at 31
+a_thousand_bytes_after_the_last_sample|P5\n3 3\n65535\n|1018|trailing byte at 31
+a_byte_after_the_last_sample_of_side_2049|P5\n2049 2049\n65535\n|8396803|trailing byte at 8396821
+a_grid_of_side_2049_that_lacks_a_byte|P5\n2049 2049\n65535\n|8396801|truncated
+a_side_that_is_no_power_of_two_and_one|P5\n4 4\n65535\n|32|bad header at 3
+a_height_other_than_the_width|P5\n3 5\n65535\n|30|bad header at 5
+another_maxval|P5\n3 3\n65536\n|18|bad header at 11
+TABLE
+
+for ((place = 0; place <= 12; place++)); do
+  start "a_wrong_header_byte_at_$place"
+  header=$(printf 'P5\n3 3\n65535\n.')
+  { printf '%sx%s' "${header:0:place}" "${header:place+1:12-place}"; head -c 18 /dev/zero; } >g
+  run mesh g s out 2 1
+  expect 3 0 "grid refused: bad header at $place\n"
+done
+
+# --- Words. ---
+
+long=$(printf '%0200d' 0)
+usage() { # NAME WORDS..
+  start "$1"
+  shift
+  run "$@"
+  expect 2 0 '' 'mesh GRID SCRIPT PREFIX'
+}
+usage no_words
+usage a_command_alone mesh
+usage four_words mesh g s out
+usage four_words_after_the_command mesh g s out 2
+usage six_words_after_the_command mesh g s out 2 1 1
+usage an_unknown_command fly g s out 2 1
+usage a_command_in_capitals MESH g s out 2 1
+usage a_budget_of_1 mesh g s out 1 1
+usage a_budget_of_0 mesh g s out 0 1
+usage a_budget_that_is_no_number mesh g s out 2x 1
+usage an_empty_budget mesh g s out '' 1
+usage a_spacing_of_0 mesh g s out 2 0
+usage a_spacing_that_is_no_number mesh g s out 2 one
+usage an_empty_spacing mesh g s out 2 ''
+usage an_empty_prefix mesh g s '' 2 1
+usage a_prefix_of_201_bytes mesh g s "${long}0" 2 1
+# The two words that have one form so far.
+usage a_budget_of_3 mesh g s out 3 1
+usage a_spacing_of_2 mesh g s out 2 2
+
+start a_word_that_is_not_utf_8
+run mesh g s $'out\377' 2 1
+expect 8 0 ''
+
+start a_prefix_of_200_bytes
+prefix=$long
+run mesh g s "$prefix" 2 1
+expect 0 1 "$(lines 1)"
+
+start a_prefix_in_a_folder
+mkdir meshes
+prefix=meshes/frame-
+run mesh g s "$prefix" 2 1
+expect 0 1 "$(lines 1)"
+
+start names_with_blanks_and_letters_beyond_ascii
+mv g 'a grid.pgm'
+mv s 'größe'
+prefix='a mesh '
+run mesh 'a grid.pgm' 'größe' "$prefix" 2 1
+expect 0 1 "$(lines 1)"
+
+start a_mesh_replaces_a_longer_file
+head -c 1000 /dev/zero >out000001.obj
+run mesh g s out 2 1
+expect 0 1 "$(lines 1)"
+
+# --- Faults of the outside. ---
+
+start a_grid_that_is_not_there
+run mesh absent s out 2 1
+expect 5 0 ''
+
+start a_folder_as_grid
+mkdir folder
+run mesh folder s out 2 1
+expect 5 0 ''
+
+start a_script_that_is_not_there
+run mesh g absent out 2 1
+expect 5 0 ''
+
+start a_folder_as_script
+mkdir folder
+run mesh g folder out 2 1
+expect 5 0 ''
+
+start a_refused_grid_comes_before_a_script_that_is_not_there
+printf 'P5\n3 3' >g
+run mesh g absent out 2 1
+expect 3 0 'grid refused: truncated\n'
+
+start a_mesh_folder_that_is_not_there
+run mesh g s absent/out 2 1
+expect 6 0 ''
+
+start a_folder_under_the_name_of_mesh_2
+mkdir out000002.obj
+printf 'frame\nframe\n' >s
+run mesh g s out 2 1
+expect 6 1 "$(lines 1)"
+
+if [ -c /dev/full ]; then
+  start a_full_report
+  printf 'frame\nframe\n' >s
+  run_to /dev/full mesh g s out 2 1
+  expect 6 1 ''
+
+  start a_full_report_at_a_refused_grid
+  : >g
+  run_to /dev/full mesh g s out 2 1
+  expect 6 0 ''
+
+  start a_full_report_at_a_refused_line
+  echo fly >s
+  run_to /dev/full mesh g s out 2 1
+  expect 6 0 ''
+
+  start a_full_device_under_mesh_2
+  ln -s /dev/full out000002.obj
+  printf 'frame\nframe\n' >s
+  run mesh g s out 2 1
+  expect 6 1 "$(lines 1)"
+else
+  skip a_full_report 'there is no device /dev/full'
+fi
+
+cd -- "$top" || exit 1

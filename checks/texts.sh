@@ -1,0 +1,65 @@
+# shellcheck shell=bash disable=SC2154,SC2016
+# The repository's texts: what a script can see of its rules (CONTRIBUTING.md). Sourced by checks/run.
+
+cd -- "$top" || exit 1
+
+# none NAME LINES: ok where LINES is empty, else FAILED with the first of them.
+none() {
+  if [ -z "$2" ]; then ok "$1"; else wrong "$1" "$(head -n 5 <<<"$2" | tr '\n' ' ')"; fi
+}
+
+crates=$(sed -n 's/#.*//; s/^\([a-z0-9_]*\).*:.*/\1/p' crates.txt | sort)
+
+none no_handle_is_allowed "$(diff <(echo 'Handles allowed: none.') HANDLES)"
+
+for name in $crates; do
+  why=()
+  if [ ! -f "crates/$name/README.md" ]; then
+    why+=("no README.md")
+  elif [ "$(wc -l <"crates/$name/README.md")" -gt 120 ]; then
+    why+=("README.md has more than 120 lines")
+  fi
+  grep -q "^| \`$name\` |" docs/CRATES.md || why+=("no row in docs/CRATES.md")
+  if [ "$(cat "crates/$name"/src/*.rt 2>/dev/null | wc -l)" -gt 60 ]; then
+    ls "crates/$name"/must-fail/*.edit >/dev/null 2>&1 || why+=("no edit that must fail")
+  fi
+  decide "crate_$name" ${why[0]+"${why[@]}"}
+done
+
+listed=$(sed -n 's/^| \[`\([a-z0-9_]*\)`\](crates\/.*/\1/p' README.md | sort)
+none README_lists_the_crates_of_crates_txt "$(comm -3 <(echo "$crates") <(echo "$listed"))"
+listed=$(sed -n 's/^| `\([a-z0-9_]*\)` |.*/\1/p' docs/CRATES.md | sort)
+none docs_CRATES_lists_the_crates_of_crates_txt "$(comm -3 <(echo "$crates") <(echo "$listed"))"
+
+none each_page_of_docs_says_whom_it_is_for \
+  "$(for page in docs/*.md; do head -n 1 "$page" | grep -q '^# .*, for ' || echo "$page"; done)"
+
+# The stored run of the program is that of the example, where both are there.
+if [ -f crates/roam_cli/stdout ]; then
+  none stored_run_is_the_example "$(diff crates/roam_cli/stdout examples/two-base-triangles/expected/report)"
+fi
+
+# Relative links of the pages at the top, in docs/ and in crates lead to files.
+none links_lead_to_files "$(
+  for page in *.md docs/*.md bench/*.md examples/*/*.md crates/*/*.md; do
+    [ -f "$page" ] || continue
+    grep -o '](\([^)#]*\)[^)]*)' "$page" | sed 's/^](//; s/[#)].*//' | grep -v -e '^$' -e '^https*:' |
+      while IFS= read -r link; do
+        [ -e "$(dirname -- "$page")/$link" ] || echo "$page: $link"
+      done
+  done
+)"
+
+if git rev-parse --git-dir >/dev/null 2>&1; then
+  none rt_files_stand_only_in_src "$(git ls-files '*.rt' | grep -vE '^crates/[a-z0-9_]+/src/')"
+  none antt_files_stand_only_in_specs_and_proofs "$(git ls-files '*.antt' | grep -vE '^crates/[a-z0-9_]+/(specs|proofs)/')"
+  none nothing_that_was_built_is_tracked "$(git ls-files 'crates/*/out/*')"
+  none no_path_of_one_machine "$(git grep -nE '/op[t]/|/wor[k]/|/far[m]/|/roo[t]/|/hom[e]/' -- .)"
+  none no_citation_by_number "$(
+    git grep -nE '\b(D[0-9]{1,2}|R[0-9]{1,2}|T[1-5]|W[0-9]{1,2}|H[1-4])\b|[Dd]ocument 0[0-9]|[Rr]equest [0-9]+|\b[Rr]ow [0-9]+\b|papers?/0[0-9]' \
+      -- '*.rt' '*.antt' '*.md' '*.edit' '*.txt' .ci roam
+  )"
+  none no_hole_in_a_proof "$(git grep -nE '= \?$|↦ \?|\( *\? *\)' -- '*.antt')"
+else
+  skip tracked_files 'git is not there, or this is no checkout'
+fi
