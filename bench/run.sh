@@ -1,0 +1,91 @@
+#!/usr/bin/env bash
+# Times the built program over generated input, and prints a table for results.md. Nothing here is a test:
+# no figure fails the run, and no claim rests on one. It takes about a minute and 100 MB of the folder for
+# temporary files.
+#
+# usage: bench/run.sh [PROGRAM]     RUNS=N: the least of N runs is printed (5, if not given)
+set -u
+export LC_ALL=C
+
+here=$(readlink -f -- "${BASH_SOURCE[0]}")
+top=${here%/*/*}
+program=$(readlink -f -- "${1:-$top/crates/roam_cli/out/roam_cli}")
+[ -x "$program" ] || { echo "bench/run.sh: there is no program $program; run 'rt ci' or ./roam first" >&2; exit 1; }
+runs=${RUNS:-5}
+frames=10000
+room=$(mktemp -d) || exit 1
+trap 'rm -rf -- "$room"' EXIT
+TIMEFORMAT=%R
+
+# seconds COMMAND..: the wall time of one run, by bash.
+seconds() { { time "$@" >"$room/said" 2>&1; } 2>&1; }
+
+# least COMMAND..: the least of the runs, with $room/made emptied before each.
+least() {
+  local k
+  for ((k = 0; k < runs; k++)); do
+    rm -rf -- "$room/made" && mkdir -- "$room/made"
+    (cd -- "$room/made" && seconds "$@")
+  done | sort -n | head -n 1
+}
+
+# peak COMMAND..: the most memory that was resident, in MB, by GNU time, else by the kernel's count, which
+# is read again and again while the program runs.
+peak() {
+  local kib=0 it
+  rm -rf -- "$room/made" && mkdir -- "$room/made" && cd -- "$room/made" || exit 1
+  if [ -x /usr/bin/time ] && /usr/bin/time -f %M true 2>/dev/null; then
+    /usr/bin/time -o "$room/peak" -f %M "$@" >"$room/said"
+    kib=$(tail -n 1 "$room/peak")
+  else
+    "$@" >"$room/said" &
+    while it=$(sed -n 's/^VmHWM:[[:space:]]*\([0-9]*\).*/\1/p' "/proc/$!/status" 2>/dev/null) && [ -n "$it" ]; do
+      kib=$it
+    done
+    wait $!
+  fi
+  awk -v kib="$kib" 'BEGIN { printf "%.1f", kib / 1024 }'
+}
+
+# a_frame SECONDS: microseconds a frame.
+a_frame() { awk -v s="$1" -v n="$frames" 'BEGIN { printf "%.1f", 1000000 * s / n }'; }
+ratio() { awk -v a="$1" -v b="$2" 'BEGIN { printf "%.2f", a / b }'; }
+
+# The files of the frames by other means: a plain loop of the shell, and one cp.
+by_loop() {
+  local k text name
+  text=$(cat "$room/mesh")
+  for ((k = 1; k <= frames; k++)); do
+    printf -v name 'out%06d.obj' "$k"
+    printf '%s\n' "$text" >"$name"
+  done
+}
+by_cp() { cp -- "$room"/source/*.obj .; }
+
+{ printf 'P5\n2049 2049\n65535\n'; head -c "$((2 * 2049 * 2049))" /dev/zero; } >"$room/large.pgm"
+{ printf 'P5\n3 3\n65535\n'; head -c 18 /dev/zero; } >"$room/small.pgm"
+echo frame >"$room/one"
+yes frame | head -n "$frames" >"$room/many"
+printf 'v 0 0 0\nv 2 0 0\nv 0 2 0\nv 2 2 0\nf 1 2 3\nf 4 3 2\n' >"$room/mesh"
+
+large=$(least "$program" mesh "$room/large.pgm" "$room/one" out 2 1)
+memory=$(peak "$program" mesh "$room/large.pgm" "$room/one" out 2 1)
+read_alone=$(least cat "$room/large.pgm")
+many=$(least "$program" mesh "$room/small.pgm" "$room/many" out 2 1)
+made=$(find "$room/made" -name '*.obj' | wc -l)
+[ "$made" -eq "$frames" ] || { echo "bench/run.sh: the program made $made meshes of $frames" >&2; exit 1; }
+mv -- "$room/made" "$room/source"
+loop=$(least by_loop)
+copy=$(least by_cp)
+
+echo "$(date -u +%Y-%m-%d), $(uname -sm), $(nproc) processors, $(sed -n 's/^model name[[:space:]]*: //p' /proc/cpuinfo 2>/dev/null | head -n 1), files in ${TMPDIR:-/tmp}, least of $runs runs"
+echo
+cat <<TABLE
+| case | count | measured | beside it | target |
+|---|---|---|---|---|
+| grid of side 2049, one frame: time | 8,396,821 bytes, 4,198,401 samples | $large s | cat of the grid $read_alone s | at most 0.2 s |
+| grid of side 2049, one frame: peak memory | 8,396,802 bytes of heights | $memory MB | | at most 40 MB |
+| $frames frames on a 3x3 grid: time | $frames files of 48 bytes | $many s, $(a_frame "$many") us a frame | | |
+| the same files by a loop of the shell | $frames files of 48 bytes | $loop s, $(a_frame "$loop") us a file | program / loop $(ratio "$many" "$loop") | at most 1 |
+| the same files by one cp | $frames files of 48 bytes | $copy s, $(a_frame "$copy") us a file | program / cp $(ratio "$many" "$copy") | at most 1 |
+TABLE
