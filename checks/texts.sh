@@ -31,6 +31,13 @@ none README_lists_the_crates_of_crates_txt "$(comm -3 <(echo "$crates") <(echo "
 listed=$(sed -n 's/^| `\([a-z0-9_]*\)` |.*/\1/p' docs/CRATES.md | sort)
 none docs_CRATES_lists_the_crates_of_crates_txt "$(comm -3 <(echo "$crates") <(echo "$listed"))"
 
+# Both as lines 'NAME LIBRARY ..', in the order of the alphabet.
+stands_on() { while read -r name below; do echo "$name $(tr ' ' '\n' <<<"$below" | sort | tr '\n' ' ')"; done | sed 's/  */ /g; s/ $//' | sort; }
+none docs_CRATES_says_what_each_crate_stands_on "$(
+  diff <(sed -n 's/#.*//; s/^\([a-z0-9_]*\)[^:]*:/\1 /p' crates.txt | stands_on) \
+    <(awk -F'|' '/^\| `/ { gsub(/[`, ]+/, " ", $4); gsub(/[` ]/, "", $2); print $2, $4 }' docs/CRATES.md | stands_on)
+)"
+
 none each_page_of_docs_says_whom_it_is_for \
   "$(for page in docs/*.md; do head -n 1 "$page" | grep -q '^# .*, for ' || echo "$page"; done)"
 
@@ -57,7 +64,7 @@ if git rev-parse --git-dir >/dev/null 2>&1; then
   none no_path_of_one_machine "$(git grep -nE '/op[t]/|/wor[k]/|/far[m]/|/roo[t]/|/hom[e]/' -- .)"
   none no_citation_by_number "$(
     git grep -nE '\b(D[0-9]{1,2}|R[0-9]{1,2}|T[1-5]|W[0-9]{1,2}|H[1-4])\b|[Dd]ocument 0[0-9]|[Rr]equest [0-9]+|\b[Rr]ow [0-9]+\b|papers?/0[0-9]' \
-      -- '*.rt' '*.antt' '*.md' '*.edit' '*.txt' .ci roam
+      -- '*.rt' '*.antt' '*.md' '*.edit' '*.txt' '*.sh' .ci roam checks
   )"
   none no_hole_in_a_proof "$(git grep -nE '= \?$|↦ \?|\( *\? *\)' -- '*.antt')"
 else
