@@ -7,8 +7,10 @@
 
 #![tactic(auto)]
 
+mod laws;
 mod mark;
 mod point;
 
+pub use laws::{base_mesh, roots};
 pub use mark::Mark;
 pub use point::{Corners, Point};
