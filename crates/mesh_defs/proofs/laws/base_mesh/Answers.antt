@@ -5,7 +5,7 @@ use Rattle.mesh_defs.proofs.TextLemmas.{base_vertices, base_text}
 use Rattle.mesh_defs.proofs.laws.base_mesh.Goals as goal
 
 pub returns-clause-conforming : goal.returns-clause-conforming
-returns-clause-conforming c = base_conforming c.args.n c.requires.low
+returns-clause-conforming c = base_conforming c.args.n
 
 pub returns-clause-only : goal.returns-clause-only
 returns-clause-only c = only_base c.args.n c.requires.low
