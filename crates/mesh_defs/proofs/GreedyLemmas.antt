@@ -1,6 +1,6 @@
 -- The two base triangles are the greedy mesh of budget 2: a closed set that is not empty holds 2 and 3, and
 -- so it has more than two leaves.
-use Rattle.std.proofs.Common.{◌≡◌, ℕ, zero, suc, ◌+◌, ◌-◌, ◌*◌, ◌/◌, ◌%◌, ◌^◌, ◌<◌, ◌≤◌, ◌≢◌, ◌⊎◌, inl, inr, List, [], ◌∷◌, ◌++◌, length, max, Bool, true, false, IsTrue, ◌||◌, eqb, refl, sym, ap, subst, arith, ⊎_elim, take, length-append, Contains, get_or, eq-eqb, add-one}
+use Rattle.std.proofs.Common.{◌≡◌, ℕ, zero, suc, ◌+◌, ◌-◌, ◌*◌, ◌/◌, ◌%◌, ◌^◌, ◌<◌, ◌≤◌, ◌≢◌, ◌⊎◌, inl, inr, List, [], ◌∷◌, ◌++◌, length, max, Bool, true, false, IsTrue, ◌||◌, eqb, refl, sym, ap, ap₂, subst, arith, ⊎_elim, take, length-append, Contains, get_or, eq-eqb, add-one}
 use Rattle.std.proofs.lemmas.Bool.{cases_lt, or_left, or_right, or_cases, false≢true, cases_Bool, eqb-true}
 use Rattle.std.proofs.lemmas.List.Elements.{Contains-get_or}
 use Rattle.std.specs.List.{list_any}
@@ -49,16 +49,114 @@ holds_both n has closed a is = ⊎_elim
 
 -- how many leaves there are
 
+length-split : (b : Bool) (left right : List ℕ) (a : ℕ) → 1 ≤ length left →
+    1 ≤ length (elim b as (λ _. List ℕ) [ true ↦ left ++ right | false ↦ a ∷ [] ])
+length-split true left right a h = omega (arith, length-append left right)
+length-split false left right a h = omega arith
+
 leaves-some : (levels : ℕ) (has : ℕ → Bool) (a : ℕ) → 1 ≤ length (leaves_under levels has a)
 leaves-some zero has a = omega arith
-leaves-some (suc levels) has a = leaves-some-at (has a) levels has a
-  where
-  leaves-some-at : (b : Bool) (levels : ℕ) (has : ℕ → Bool) (a : ℕ) → 1 ≤ length (elim b as (λ _. List ℕ) [
-      | true ↦ leaves_under levels has (2 * a) ++ leaves_under levels has (2 * a + 1)
-      | false ↦ a ∷ []
-    ])
-  leaves-some-at true levels has a = ?
-  leaves-some-at false levels has a = omega arith
+leaves-some (suc levels) has a =
+    length-split (has a) (leaves_under levels has (2 * a)) (leaves_under levels has (2 * a + 1)) a
+        (leaves-some levels has (2 * a))
+
+length-split-two : (b : Bool) (left right : List ℕ) (a : ℕ) → b ≡ true → 1 ≤ length left → 1 ≤ length right →
+    2 ≤ length (elim b as (λ _. List ℕ) [ true ↦ left ++ right | false ↦ a ∷ [] ])
+length-split-two true left right a e h k = omega (arith, length-append left right)
+length-split-two false left right a e h k = absurd (false≢true e)
+
+leaves-two : (levels : ℕ) (has : ℕ → Bool) (a : ℕ) → 0 < levels → IsTrue (has a) →
+    2 ≤ length (leaves_under levels has a)
+leaves-two zero has a h is = absurd (omega arith)
+leaves-two (suc levels) has a h is =
+    length-split-two (has a) (leaves_under levels has (2 * a)) (leaves_under levels has (2 * a + 1)) a is
+        (leaves-some levels has (2 * a)) (leaves-some levels has (2 * a + 1))
+
+-- a closed set that is not empty has more than two leaves
+leaves-many : (n : ℕ) (has : ℕ → Bool) (a : ℕ) → 1 ≤ n → IsClosed n has → IsTrue (has a) →
+    2 < length (leaves_of n has)
+unfolding leaves_of
+leaves-many n has a low closed is =
+    let both : IsTrue (has 2) × IsTrue (has 3) = holds_both n has closed a is in
+    let lower : 2 ≤ length (leaves_under (2 * n) has 2) = leaves-two (2 * n) has 2 (omega arith) both.0 in
+    let upper : 2 ≤ length (leaves_under (2 * n) has 3) = leaves-two (2 * n) has 3 (omega arith) both.1 in
+    omega (arith, length-append (leaves_under (2 * n) has 2) (leaves_under (2 * n) has 3))
+
+-- the empty set
+
+abbrev empty : ℕ → Bool
+empty a = false
+
+leaves-one : (levels a : ℕ) → leaves_under levels empty a ≡ a ∷ []
+leaves-one zero a = refl
+leaves-one (suc levels) a = refl
+
+leaves-empty : (n : ℕ) → leaves_of n empty ≡ 2 ∷ (3 ∷ [])
+unfolding leaves_of
+leaves-empty n = ap₂ (λ (xs ys : List ℕ). xs ++ ys) (leaves-one (2 * n) 2) (leaves-one (2 * n) 3)
+
+IsClosed-empty : (n : ℕ) → IsClosed n empty
+IsClosed-empty n = record {
+    splittable = λ a h. absurd (false≢true h);
+    parent = λ a h. absurd (false≢true h);
+    mate = λ a b h. absurd (false≢true h);
+}
+
+IsFrontClosure-empty : (n : ℕ) (ranking : List ℕ) → IsFrontClosure n ranking 0 empty
+IsFrontClosure-empty n ranking = record {
+    closed = IsClosed-empty n;
+    holds = λ a h. h;
+    least = λ other closed holds a h. absurd (false≢true h);
+}
+
+-- a front that is not empty has a first triangle
+among-first : (k : ℕ) (ranking : List ℕ) → 0 < k → k ≤ length ranking →
+    (a : ℕ) × IsTrue (among (take k ranking) a)
+among-first zero ranking h fits = absurd (omega arith)
+among-first (suc k) [] h fits = absurd (omega arith)
+among-first (suc k) (a ∷ ranking) h fits =
+    (a, or_left (eqb a a) (list_any (λ t. eqb t a) (take k ranking)) (eq-eqb a a refl))
+
+IsRankClosure-empty : (n : ℕ) (ranking : List ℕ) → 1 ≤ n → IsRankClosure n 2 ranking 0 empty
+IsRankClosure-empty n ranking low = record {
+    front = omega arith;
+    closure = IsFrontClosure-empty n ranking;
+    fits = omega (arith, ap length (leaves-empty n));
+    longest = λ k other more fits front.
+        let first = among-first k ranking more fits in
+        leaves-many n other first.0 low front.closed (front.holds first.0 first.1);
+}
+
+IsGreedyEnd-empty : (n : ℕ) (priority : ℕ → ℕ) → 1 ≤ n → IsGreedyEnd n 2 priority empty
+IsGreedyEnd-empty n priority low = record {
+    reached = (zero, λ a. refl);
+    stops = λ next step.
+        let f : ℕ = step.split.0 in
+        let closure : IsLeastClosed n (with_triangle empty f) next = step.split.2 in
+        leaves-many n next f low closure.closed (closure.holds f (eq-eqb f f refl));
+}
+
+-- the promise
+
+worst-least : (priority : ℕ → ℕ) (others : List ℕ) →
+    (others ≡ 2 ∷ (3 ∷ [])) ⊎ (others ≡ 3 ∷ (2 ∷ [])) → worst_of priority (2 ∷ (3 ∷ [])) ≤ worst_of priority others
+worst-least priority others (inl e) =
+    subst (λ l. worst_of priority (2 ∷ (3 ∷ [])) ≤ worst_of priority l) (sym e) (omega arith)
+worst-least priority others (inr e) =
+    subst (λ l. worst_of priority (2 ∷ (3 ∷ [])) ≤ worst_of priority l) (sym e) (omega arith)
 
 pub base_best : (n : ℕ) → 1 ≤ n → (priority : ℕ → ℕ) → IsBestMesh n 2 priority (2 ∷ (3 ∷ []))
-base_best n low priority = ?
+base_best n low priority = record {
+    conforming = base_conforming n;
+    within = omega arith;
+    optimal = λ others conforming short. worst-least priority others (only_base n low others conforming short);
+    greedy = record {
+        ranking = ranking_of n priority;
+        chosen = 0;
+        has = empty;
+        ranked = IsRanking-of n priority;
+        closure = IsRankClosure-empty n (ranking_of n priority) low;
+        refined = IsGreedyEnd-empty n priority low;
+        leaves = sym (leaves-empty n);
+    };
+}
