@@ -1,31 +1,32 @@
 -- The two base triangles are the greedy mesh of budget 2: a closed set that is not empty holds 2 and 3, and
 -- so it has more than two leaves.
-use Rattle.std.proofs.Common.{◌≡◌, ℕ, zero, suc, ◌+◌, ◌-◌, ◌*◌, ◌/◌, ◌%◌, ◌^◌, ◌<◌, ◌≤◌, ◌≢◌, ◌⊎◌, inl, inr, List, [], ◌∷◌, ◌++◌, length, max, Bool, true, false, IsTrue, ◌||◌, eqb, refl, sym, ap, ap₂, subst, arith, ⊎_elim, take, length-append, Contains, get_or, eq-eqb, add-one}
-use Rattle.std.proofs.lemmas.Bool.{cases_lt, or_left, or_right, or_cases, false≢true, cases_Bool, eqb-true}
-use Rattle.std.proofs.lemmas.List.Elements.{Contains-get_or}
+use Rattle.std.proofs.Common.{◌≡◌, ℕ, zero, suc, ◌+◌, ◌*◌, ◌/◌, ◌<◌, ◌≤◌, ◌⊎◌, inl, inr, List, [], ◌∷◌, ◌++◌, length, Bool, true, false, IsTrue, eqb, refl, sym, ap, ap₂, subst, arith, ⊎_elim, take, length-append, eq-eqb}
+use Rattle.std.proofs.lemmas.Bool.{cases_lt, or_left, false≢true}
 use Rattle.std.specs.List.{list_any}
-use Rattle.mesh_defs.specs.Triangle.{IsAddress, IsSplittable, level_of, corners_of, IsMate}
-use Rattle.mesh_defs.specs.ClosedSet.{IsClosed, IsSubset, IsLeastClosed, leaves_under, leaves_of, among}
+use Rattle.mesh_defs.specs.Triangle.{level_of, corners_of, IsMate}
+use Rattle.mesh_defs.specs.ClosedSet.{IsClosed, IsLeastClosed, leaves_under, leaves_of, among}
 use Rattle.mesh_defs.specs.Priority.{worst_of}
-use Rattle.mesh_defs.specs.Ranking.{IsRanking, IsFrontClosure, IsRankClosure}
-use Rattle.mesh_defs.specs.Greedy.{IsFirstLeaf, with_triangle, IsGreedyStep, IsReachedIn, IsGreedyEnd}
-use Rattle.mesh_defs.specs.Tiling.{IsConforming}
-use Rattle.mesh_defs.specs.BestMesh.{IsGreedyMesh, IsBestMesh}
+use Rattle.mesh_defs.specs.Ranking.{IsFrontClosure, IsRankClosure}
+use Rattle.mesh_defs.specs.Greedy.{with_triangle, IsGreedyEnd}
+use Rattle.mesh_defs.specs.BestMesh.{IsBestMesh}
 use Rattle.mesh_defs.proofs.TilingLemmas.{base_address, base_conforming, only_base}
 use Rattle.mesh_defs.proofs.RankingLemmas.{ranking_of, IsRanking-of}
 
 -- the two base triangles are mates
 
+-- the mate of 2 is 3
 IsMate-2 : (n : ℕ) → IsMate n 2 3
 unfolding corners_of level_of
 IsMate-2 n = record { address = base_address n 1 0 (omega arith); other = λ e. omega arith; level = refl; base = inr (refl, refl) }
 
+-- the mate of 3 is 2
 IsMate-3 : (n : ℕ) → IsMate n 3 2
 unfolding corners_of level_of
 IsMate-3 n = record { address = base_address n 0 0 (omega arith); other = λ e. omega arith; level = refl; base = inr (refl, refl) }
 
 -- a closed set with a member holds both base triangles
 
+-- with each member a closed set holds the base triangle above it
 holds_base : (n : ℕ) (has : ℕ → Bool) → IsClosed n has → (steps a : ℕ) → a ≤ steps → IsTrue (has a) →
     IsTrue (has 2) ⊎ IsTrue (has 3)
 holds_base n has closed zero a h is =
@@ -33,13 +34,14 @@ holds_base n has closed zero a h is =
 holds_base n has closed (suc steps) a h is =
     let low : 2 ≤ a = (closed.splittable a is).low in
     ⊎_elim
-        (λ below. inl (subst (λ b. IsTrue (has b)) (let e : a ≡ 2 = omega arith in e) is))
-        (λ above. ⊎_elim
-            (λ below. inr (subst (λ b. IsTrue (has b)) (let e : a ≡ 3 = omega arith in e) is))
-            (λ far. holds_base n has closed steps (a / 2) (omega arith) (closed.parent a is far))
-            (cases_lt a 4))
-        (cases_lt a 3)
+    (λ below. inl (subst (λ b. IsTrue (has b)) (let e : a ≡ 2 = omega arith in e) is))
+    (λ above. ⊎_elim
+    (λ below. inr (subst (λ b. IsTrue (has b)) (let e : a ≡ 3 = omega arith in e) is))
+    (λ far. holds_base n has closed steps (a / 2) (omega arith) (closed.parent a is far))
+    (cases_lt a 4))
+    (cases_lt a 3)
 
+-- and with that its mate
 holds_both : (n : ℕ) (has : ℕ → Bool) → IsClosed n has → (a : ℕ) → IsTrue (has a) →
     IsTrue (has 2) × IsTrue (has 3)
 holds_both n has closed a is = ⊎_elim
@@ -49,28 +51,32 @@ holds_both n has closed a is = ⊎_elim
 
 -- how many leaves there are
 
+-- one leaf at least, whether a triangle is split or not
 length-split : (b : Bool) (left right : List ℕ) (a : ℕ) → 1 ≤ length left →
     1 ≤ length (elim b as (λ _. List ℕ) [ true ↦ left ++ right | false ↦ a ∷ [] ])
 length-split true left right a h = omega (arith, length-append left right)
 length-split false left right a h = omega arith
 
+-- below each triangle there is a leaf
 leaves-some : (levels : ℕ) (has : ℕ → Bool) (a : ℕ) → 1 ≤ length (leaves_under levels has a)
 leaves-some zero has a = omega arith
 leaves-some (suc levels) has a =
     length-split (has a) (leaves_under levels has (2 * a)) (leaves_under levels has (2 * a + 1)) a
-        (leaves-some levels has (2 * a))
+    (leaves-some levels has (2 * a))
 
+-- two leaves at least where it is split
 length-split-two : (b : Bool) (left right : List ℕ) (a : ℕ) → b ≡ true → 1 ≤ length left → 1 ≤ length right →
     2 ≤ length (elim b as (λ _. List ℕ) [ true ↦ left ++ right | false ↦ a ∷ [] ])
 length-split-two true left right a e h k = omega (arith, length-append left right)
 length-split-two false left right a e h k = absurd (false≢true e)
 
+-- below each member there are two leaves
 leaves-two : (levels : ℕ) (has : ℕ → Bool) (a : ℕ) → 0 < levels → IsTrue (has a) →
     2 ≤ length (leaves_under levels has a)
 leaves-two zero has a h is = absurd (omega arith)
 leaves-two (suc levels) has a h is =
     length-split-two (has a) (leaves_under levels has (2 * a)) (leaves_under levels has (2 * a + 1)) a is
-        (leaves-some levels has (2 * a)) (leaves-some levels has (2 * a + 1))
+    (leaves-some levels has (2 * a)) (leaves-some levels has (2 * a + 1))
 
 -- a closed set that is not empty has more than two leaves
 leaves-many : (n : ℕ) (has : ℕ → Bool) (a : ℕ) → 1 ≤ n → IsClosed n has → IsTrue (has a) →
@@ -87,26 +93,30 @@ leaves-many n has a low closed is =
 abbrev empty : ℕ → Bool
 empty a = false
 
+-- a triangle that is no member is its own leaf
 leaves-one : (levels a : ℕ) → leaves_under levels empty a ≡ a ∷ []
 leaves-one zero a = refl
 leaves-one (suc levels) a = refl
 
+-- the leaves of the empty set are 2 and 3
 leaves-empty : (n : ℕ) → leaves_of n empty ≡ 2 ∷ (3 ∷ [])
 unfolding leaves_of
 leaves-empty n = ap₂ (λ (xs ys : List ℕ). xs ++ ys) (leaves-one (2 * n) 2) (leaves-one (2 * n) 3)
 
+-- the empty set is closed
 IsClosed-empty : (n : ℕ) → IsClosed n empty
 IsClosed-empty n = record {
-    splittable = λ a h. absurd (false≢true h);
-    parent = λ a h. absurd (false≢true h);
-    mate = λ a b h. absurd (false≢true h);
+  splittable = λ a h. absurd (false≢true h);
+  parent = λ a h. absurd (false≢true h);
+  mate = λ a b h. absurd (false≢true h);
 }
 
+-- it is the closure of the empty front
 IsFrontClosure-empty : (n : ℕ) (ranking : List ℕ) → IsFrontClosure n ranking 0 empty
 IsFrontClosure-empty n ranking = record {
-    closed = IsClosed-empty n;
-    holds = λ a h. h;
-    least = λ other closed holds a h. absurd (false≢true h);
+  closed = IsClosed-empty n;
+  holds = λ a h. h;
+  least = λ other closed holds a h. absurd (false≢true h);
 }
 
 -- a front that is not empty has a first triangle
@@ -117,27 +127,30 @@ among-first (suc k) [] h fits = absurd (omega arith)
 among-first (suc k) (a ∷ ranking) h fits =
     (a, or_left (eqb a a) (list_any (λ t. eqb t a) (take k ranking)) (eq-eqb a a refl))
 
+-- it is the rank closure for a budget of 2
 IsRankClosure-empty : (n : ℕ) (ranking : List ℕ) → 1 ≤ n → IsRankClosure n 2 ranking 0 empty
 IsRankClosure-empty n ranking low = record {
-    front = omega arith;
-    closure = IsFrontClosure-empty n ranking;
-    fits = omega (arith, ap length (leaves-empty n));
-    longest = λ k other more fits front.
-        let first = among-first k ranking more fits in
-        leaves-many n other first.0 low front.closed (front.holds first.0 first.1);
+  front = omega arith;
+  closure = IsFrontClosure-empty n ranking;
+  fits = omega (arith, ap length (leaves-empty n));
+  longest = λ k other more fits front.
+      let first = among-first k ranking more fits in
+      leaves-many n other first.0 low front.closed (front.holds first.0 first.1);
 }
 
+-- greedy refinement with a budget of 2 ends where it begins
 IsGreedyEnd-empty : (n : ℕ) (priority : ℕ → ℕ) → 1 ≤ n → IsGreedyEnd n 2 priority empty
 IsGreedyEnd-empty n priority low = record {
-    reached = (zero, λ a. refl);
-    stops = λ next step.
-        let f : ℕ = step.split.0 in
-        let closure : IsLeastClosed n (with_triangle empty f) next = step.split.2 in
-        leaves-many n next f low closure.closed (closure.holds f (eq-eqb f f refl));
+  reached = (zero, λ a. refl);
+  stops = λ next step.
+      let f : ℕ = step.split.0 in
+      let closure : IsLeastClosed n (with_triangle empty f) next = step.split.2 in
+      leaves-many n next f low closure.closed (closure.holds f (eq-eqb f f refl));
 }
 
 -- the promise
 
+-- in either order the worst is the same
 worst-least : (priority : ℕ → ℕ) (others : List ℕ) →
     (others ≡ 2 ∷ (3 ∷ [])) ⊎ (others ≡ 3 ∷ (2 ∷ [])) → worst_of priority (2 ∷ (3 ∷ [])) ≤ worst_of priority others
 worst-least priority others (inl e) =
@@ -145,18 +158,19 @@ worst-least priority others (inl e) =
 worst-least priority others (inr e) =
     subst (λ l. worst_of priority (2 ∷ (3 ∷ [])) ≤ worst_of priority l) (sym e) (omega arith)
 
+-- the two base triangles are the best mesh of budget 2
 pub base_best : (n : ℕ) → 1 ≤ n → (priority : ℕ → ℕ) → IsBestMesh n 2 priority (2 ∷ (3 ∷ []))
 base_best n low priority = record {
-    conforming = base_conforming n;
-    within = omega arith;
-    optimal = λ others conforming short. worst-least priority others (only_base n low others conforming short);
-    greedy = record {
-        ranking = ranking_of n priority;
-        chosen = 0;
-        has = empty;
-        ranked = IsRanking-of n priority;
-        closure = IsRankClosure-empty n (ranking_of n priority) low;
-        refined = IsGreedyEnd-empty n priority low;
-        leaves = sym (leaves-empty n);
-    };
+  conforming = base_conforming n;
+  within = omega arith;
+  optimal = λ others conforming short. worst-least priority others (only_base n low others conforming short);
+  greedy = record {
+    ranking = ranking_of n priority;
+    chosen = 0;
+    has = empty;
+    ranked = IsRanking-of n priority;
+    closure = IsRankClosure-empty n (ranking_of n priority) low;
+    refined = IsGreedyEnd-empty n priority low;
+    leaves = sym (leaves-empty n);
+  };
 }

@@ -16,32 +16,23 @@ pub fn base_mesh(n: u32)
     requires low { 1 ≤ n }
     requires high { n ≤ 11 }
     ensures conforming { IsConforming n (2 ∷ (3 ∷ [])) }
-    ensures only {
-        (others : List ℕ) → IsConforming n others → length others ≤ 2 →
-        (others ≡ 2 ∷ (3 ∷ [])) ⊎ (others ≡ 3 ∷ (2 ∷ []))
-    }
+    ensures only { (others : List ℕ) → IsConforming n others → length others ≤ 2 →
+        (others ≡ 2 ∷ (3 ∷ [])) ⊎ (others ≡ 3 ∷ (2 ∷ [])) }
     ensures best { (priority : ℕ → ℕ) → IsBestMesh n 2 priority (2 ∷ (3 ∷ [])) }
-    ensures vertices {
-        vertices_of n (2 ∷ (3 ∷ []))
-            ≡ point 0 0 ∷ (point (2 ^ n) 0 ∷ (point 0 (2 ^ n) ∷ (point (2 ^ n) (2 ^ n) ∷ [])))
-    }
-    ensures text {
-        (heights : List ℕ) (view : View) → view.planes ≡ [] →
+    ensures vertices { vertices_of n (2 ∷ (3 ∷ []))
+        ≡ point 0 0 ∷ (point (2 ^ n) 0 ∷ (point 0 (2 ^ n) ∷ (point (2 ^ n) (2 ^ n) ∷ []))) }
+    ensures text { (heights : List ℕ) (view : View) → view.planes ≡ [] →
         mesh_text n heights view (2 ∷ (3 ∷ []))
-            ≡ numbers_line 118 0 0 (height_of n heights (point 0 0))
-            ++ numbers_line 118 (view.spacing * 2 ^ n) 0 (height_of n heights (point (2 ^ n) 0))
-            ++ numbers_line 118 0 (view.spacing * 2 ^ n) (height_of n heights (point 0 (2 ^ n)))
-            ++ numbers_line 118 (view.spacing * 2 ^ n) (view.spacing * 2 ^ n)
-                (height_of n heights (point (2 ^ n) (2 ^ n)))
-            ++ numbers_line 102 1 2 3
-            ++ numbers_line 102 4 3 2
-    }
-{
-    let _ = n;
-}
+        ≡ numbers_line 118 0 0 (height_of n heights (point 0 0))
+        ++ numbers_line 118 (view.spacing * 2 ^ n) 0 (height_of n heights (point (2 ^ n) 0))
+        ++ numbers_line 118 0 (view.spacing * 2 ^ n) (height_of n heights (point 0 (2 ^ n)))
+        ++ numbers_line 118 (view.spacing * 2 ^ n) (view.spacing * 2 ^ n)
+        (height_of n heights (point (2 ^ n) (2 ^ n)))
+        ++ numbers_line 102 1 2 3
+        ++ numbers_line 102 4 3 2 }
+{}
 
 /// The square root by digits is the square root, rounded down.
 pub fn roots()
     ensures { (s : ℕ) → IsRoot s (root_of s) }
-{
-}
+{}
