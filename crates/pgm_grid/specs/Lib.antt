@@ -1,0 +1,6 @@
+pub mod FaultNumber
+pub mod GridView
+pub mod PgmText
+pub mod Progress
+pub mod Laws
+pub mod Stage

@@ -1,0 +1,94 @@
+//! The reader of file texts.
+
+ghost use Rattle.std.specs.Prelude.{◌≡◌, ◌≢◌, ◌⊎◌, ◌+◌, ◌^◌, ◌≤◌, [], ◌++◌, List, ℕ, length, OnOk, IfErr};
+ghost use Rattle.std.specs.Result.{IsErrOf};
+ghost use Rattle.pgm_grid.specs.Progress.{resume, grid_of, taken, IsSettled, EndsHeader};
+
+use crate::fault::PgmFault;
+use crate::grid::Grid;
+use crate::header::{Head, LONGEST_HEADER};
+use crate::stage::{Stage, grid_from, stage_after};
+use std::alloc::Global;
+use std::marker::Model;
+use std::mem;
+
+/// A reader of the bytes of a PGM file, in pieces of any length.
+///
+/// After a refusal it answers the same refusal from every later call.
+/// Cost (not proved): a step a byte; memory for the heights is taken once, where the header ends.
+/// Source: Netpbm manual, "pgm"; the raw form with the eleven headers of this project alone.
+#[derive(Drop)]
+pub struct PgmReader {
+    /// Where the room for the heights comes from.
+    alloc: Global,
+    /// What the bytes so far have come to.
+    stage: Stage,
+}
+
+impl Model for PgmReader {
+    ghost use Rattle.pgm_grid.specs.Progress.{Progress};
+
+    ghost Value = { Progress };
+
+    ghost use Rattle.pgm_grid.specs.Stage.{progress_of, IsStage};
+
+    ghost view = { λ r. progress_of r.stage };
+
+    ghost invariant = { λ r. IsStage r.stage };
+}
+
+impl PgmReader {
+    /// A reader that has taken no byte. The room for the heights will come from `alloc`.
+    pub fn new(alloc: Global) -> PgmReader
+        ensures value { (more : List ℕ) → resume result more ≡ grid_of more }
+        ensures count { taken result ≡ 0 }
+    {
+        let head = Head {
+            bytes: [0; LONGEST_HEADER],
+            len: 0,
+        };
+        PgmReader {
+            alloc,
+            stage: Stage::Header(head),
+        }
+    }
+
+    /// Takes further bytes of the file.
+    ///
+    /// A refusal comes with the piece that brings the byte that is refused, and neither before nor after.
+    pub fn feed(&mut self, piece: &[u8]) -> Result<(), PgmFault>
+        // What the file means is what it meant before.
+        ensures ok { OnOk result ((more : List ℕ) → resume self.old (piece.now ++ more) ≡ resume self.new more) }
+        // No byte so far is refused.
+        ensures open { OnOk result ((fault : PgmFault) → ¬ IsSettled self.new fault) }
+        ensures count { OnOk result (taken self.new ≡ taken self.old + length piece.now) }
+        // No file of 2^28 bytes is read to its end without a refusal.
+        ensures limit { OnOk result (taken self.new ≤ 2 ^ 28) }
+        // The refusal is that of the file, whatever follows.
+        ensures refusal { IfErr result (λ fault. fault ≢ PgmFault.NoMemory →
+            (more : List ℕ) → resume self.old (piece.now ++ more) ≡ Err fault) }
+        // The room is wanted once: where the header ends.
+        ensures no_memory { IsErrOf result PgmFault.NoMemory →
+            IsSettled self.old PgmFault.NoMemory ⊎ EndsHeader self.old piece.now }
+        ensures err { IfErr result (λ fault. IsSettled self.new fault) }
+        ensures sticks { (fault : PgmFault) → IsSettled self.old fault → result ≡ Err fault }
+    {
+        let stage = mem::replace(&mut self.stage, Stage::Stopped(PgmFault::Truncated));
+        self.stage = stage_after(self.alloc, stage, piece);
+        match &self.stage {
+            Stage::Stopped(fault) => Err(*fault),
+            _ => Ok(()),
+        }
+    }
+
+    /// Ends the bytes of the file.
+    pub fn finish(self) -> Result<Grid, PgmFault>
+        ensures { result ≡ resume self [] }
+    {
+        match self.stage {
+            Stage::Header(_) => Err(PgmFault::Truncated),
+            Stage::Samples(raster) => grid_from(raster),
+            Stage::Stopped(fault) => Err(fault),
+        }
+    }
+}
