@@ -17,7 +17,7 @@ pub data Progress : Type 0 where
   HasRefused : (fault : PgmFault) → Progress
 
 -- the greatest level up to k whose header begins with these bytes
-abbrev pub beginning_up_to : ℕ → List ℕ → Option ℕ
+unfoldable pub beginning_up_to : ℕ → List ℕ → Option ℕ
 beginning_up_to zero head = None
 beginning_up_to (suc k) head = cond (starts_with nat_eq (header_text (suc k)) head) (Some (suc k)) (beginning_up_to k head)
 

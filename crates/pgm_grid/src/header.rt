@@ -1,8 +1,9 @@
 //! The eleven headers, and the bytes of a header so far.
 
-ghost use Rattle.std.specs.Prelude.{◌≡◌, ◌+◌, ◌<◌, ◌≤◌, length, IfSome};
+ghost use Rattle.std.specs.Prelude.{◌≡◌, ◌+◌, ◌<◌, ◌≤◌, [], ◌∷◌, ◌++◌, length, IfSome};
 ghost use Rattle.pgm_grid.specs.PgmText.{IsLevel, header_text};
 ghost use Rattle.pgm_grid.specs.Progress.{beginning};
+ghost use Rattle.pgm_grid.specs.Stage.{head_of, IsHead};
 
 /// The bytes of the longest header, that of side 2049.
 pub(crate) const LONGEST_HEADER: usize = 19;
@@ -16,7 +17,41 @@ pub(crate) struct Head {
     pub(crate) len: usize,
 }
 
+impl Head {
+    /// No byte of a header.
+    #[tactic(auto, using(crate::proofs::HeaderLemmas::nothing_goes_on))]
+    pub(crate) fn new() -> Head
+        ensures { IsHead result × (head_of result ≡ []) }
+    {
+        Head {
+            bytes: [0; LONGEST_HEADER],
+            len: 0,
+        }
+    }
+
+    /// The bytes so far.
+    pub(crate) fn as_slice(&self) -> &[u8]
+        requires { self.now.len ≤ 19 }
+        ensures value { result.now ≡ head_of self.now }
+        ensures count { length (head_of self.now) ≡ self.now.len }
+    {
+        &self.bytes[..self.len]
+    }
+
+    /// Adds a byte.
+    pub(crate) fn push(&mut self, byte: u8)
+        requires { self.old.len < 19 }
+        ensures value { head_of self.new ≡ head_of self.old ++ byte ∷ [] }
+        ensures count { self.new.len ≡ self.old.len + 1 }
+        ensures before { length (head_of self.old) ≡ self.old.len }
+    {
+        self.bytes[self.len] = byte;
+        self.len += 1;
+    }
+}
+
 /// The header of the grid with this level.
+#[tactic(auto, using(crate::proofs::HeaderLemmas::header_short))]
 pub(crate) fn header_for(n: u32) -> &'static [u8]
     requires { IsLevel n }
     ensures value { result.now ≡ header_text n }

@@ -1,9 +1,10 @@
 //! The samples of a raster so far.
 
-ghost use Rattle.std.specs.Prelude.{◌≡◌, ◌+◌, ◌*◌, ◌/◌, ◌≤◌, ◌++◌, length, take, vec_len};
+ghost use Rattle.std.specs.Prelude.{◌≡◌, ◌+◌, ◌*◌, ◌/◌, ◌≤◌, ◌++◌, length, take, vec_len, All};
 ghost use Rattle.std.specs.Option.{option_to_list};
 ghost use Rattle.std.specs.Vec.{vec_capacity};
 ghost use Rattle.pgm_grid.specs.PgmText.{IsLevel, points_of, raster_of};
+ghost use Rattle.pgm_grid.specs.Stage.{bytes_of, IsRaster};
 
 /// The samples of a raster so far.
 #[derive(Drop)]
@@ -16,6 +17,21 @@ pub(crate) struct Raster {
     pub(crate) half: Option<u8>,
 }
 
+impl Raster {
+    /// How many bytes of samples were taken.
+    #[tactic(auto, using(crate::proofs::RasterLemmas::bytes_lemmas))]
+    pub(crate) fn len(&self) -> usize
+        requires { IsRaster self.now }
+        ensures count { result ≡ length (bytes_of self.now) }
+        ensures held { result ≡ 2 * vec_len self.now.heights + length (option_to_list self.now.half) }
+    {
+        match self.half {
+            Some(_) => 2 * self.heights.len() + 1,
+            None => 2 * self.heights.len(),
+        }
+    }
+}
+
 /// The number of points of a grid with this level.
 pub(crate) fn points_for(n: u32) -> usize
     requires { IsLevel n }
@@ -26,6 +42,13 @@ pub(crate) fn points_for(n: u32) -> usize
     side * side
 }
 
+/// The sample of two bytes, the most significant first.
+fn sample_of(high: u8, low: u8) -> u16
+    ensures { result ≡ 256 * high + low }
+{
+    256 * u16::from(high) + u16::from(low)
+}
+
 /// Adds the samples of whole pairs of bytes. A last byte without its second is left out.
 pub(crate) fn push_pairs(heights: &mut Vec<u16>, pairs: &[u8])
     requires { 2 * vec_len heights.old + length pairs.now ≤ 2 * vec_capacity heights.old + 1 }
@@ -34,14 +57,20 @@ pub(crate) fn push_pairs(heights: &mut Vec<u16>, pairs: &[u8])
     ensures capacity { vec_capacity heights.old ≤ vec_capacity heights.new }
 {
     for i in 0..pairs.len() / 2 {
-        let sample = u16::from_be_bytes([pairs[2 * i], pairs[2 * i + 1]]);
+        let sample = sample_of(pairs[2 * i], pairs[2 * i + 1]);
         heights.push(sample).unwrap();
     }
 }
 
+/// States that no height is above 65535. It does nothing.
+pub(crate) fn heights_fit(heights: &[u16])
+    ensures { All (λ h. h ≤ 65535) heights.now }
+{
+}
+
 /// Adds the samples of further bytes, and answers the first byte of the sample that is not whole.
 pub(crate) fn push_after(heights: &mut Vec<u16>, half: Option<u8>, piece: &[u8]) -> Option<u8>
-    requires { length (raster_of heights.old.items ++ option_to_list half ++ piece.now) ≤ 2 * vec_capacity heights.old }
+    requires { 2 * vec_len heights.old + length (option_to_list half) + length piece.now ≤ 2 * vec_capacity heights.old }
     ensures bytes { raster_of heights.new.items ++ option_to_list result ≡ raster_of heights.old.items ++ option_to_list half ++ piece.now }
     ensures capacity { vec_capacity heights.old ≤ vec_capacity heights.new }
 {

@@ -6,7 +6,7 @@ ghost use Rattle.pgm_grid.specs.Progress.{resume, grid_of, taken, IsSettled, End
 
 use crate::fault::PgmFault;
 use crate::grid::Grid;
-use crate::header::{Head, LONGEST_HEADER};
+use crate::header::Head;
 use crate::stage::{Stage, grid_from, stage_after};
 use std::alloc::Global;
 use std::marker::Model;
@@ -43,13 +43,9 @@ impl PgmReader {
         ensures value { (more : List ℕ) → resume result more ≡ grid_of more }
         ensures count { taken result ≡ 0 }
     {
-        let head = Head {
-            bytes: [0; LONGEST_HEADER],
-            len: 0,
-        };
         PgmReader {
             alloc,
-            stage: Stage::Header(head),
+            stage: Stage::Header(Head::new()),
         }
     }
 

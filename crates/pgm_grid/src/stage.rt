@@ -8,7 +8,7 @@ ghost use Rattle.pgm_grid.specs.Stage.{progress_of, head_of, bytes_of, IsStage, 
 use crate::fault::PgmFault;
 use crate::grid::Grid;
 use crate::header::{Head, header_for, level_of_beginning};
-use crate::raster::{Raster, points_for, push_after};
+use crate::raster::{Raster, heights_fit, points_for, push_after};
 use std::alloc::Global;
 
 /// What the bytes so far have come to.
@@ -36,6 +36,7 @@ pub(crate) fn stage_after(alloc: Global, stage: Stage, piece: &[u8]) -> Stage
 }
 
 /// What further bytes make of a part of a header.
+#[tactic(auto, using(crate::proofs::ProgressLemmas::header_steps))]
 fn header_after(alloc: Global, mut head: Head, piece: &[u8]) -> Stage
     requires { IsHead head }
     ensures valid { IsStage result }
@@ -43,9 +44,8 @@ fn header_after(alloc: Global, mut head: Head, piece: &[u8]) -> Stage
 {
     for i in 0..piece.len() {
         let place = head.len;
-        head.bytes[place] = piece[i];
-        head.len = place + 1;
-        match level_of_beginning(&head.bytes[..place + 1]) {
+        head.push(piece[i]);
+        match level_of_beginning(head.as_slice()) {
             None => return Stage::Stopped(PgmFault::BadHeader { at: place as u64 }),
             Some(n) => {
                 if place + 1 == header_for(n).len() {
@@ -77,27 +77,28 @@ fn raster_begun(alloc: Global, n: u32, samples: &[u8]) -> Stage
 }
 
 /// What further bytes make of some samples.
+#[tactic(auto, using(crate::proofs::ProgressLemmas::raster_steps))]
 fn samples_after(raster: Raster, piece: &[u8]) -> Stage
     requires { IsRaster raster }
     ensures valid { IsStage result }
     ensures step { progress_of result ≡ raster_step raster.n (bytes_of raster ++ piece.now) }
 {
+    let all = 2 * points_for(raster.n);
+    if piece.len() > all - raster.len() {
+        let at = header_for(raster.n).len() + all;
+        return Stage::Stopped(PgmFault::Trailing { at: at as u64 });
+    }
     let Raster {
         n,
         mut heights,
         half,
     } = raster;
-    let all = 2 * points_for(n);
-    let held = 2 * heights.len() + usize::from(half.is_some());
-    if piece.len() > all - held {
-        let at = header_for(n).len() + all;
-        return Stage::Stopped(PgmFault::Trailing { at: at as u64 });
-    }
     let half = push_after(&mut heights, half, piece);
     Stage::Samples(Raster { n, heights, half })
 }
 
 /// The grid of these samples, if they are whole.
+#[tactic(auto, using(crate::proofs::ProgressLemmas::whole_grids))]
 pub(crate) fn grid_from(raster: Raster) -> Result<Grid, PgmFault>
     requires { IsRaster raster }
     ensures { result ≡ answer_of (InRaster raster.n (bytes_of raster)) }
@@ -105,6 +106,7 @@ pub(crate) fn grid_from(raster: Raster) -> Result<Grid, PgmFault>
     if raster.heights.len() < points_for(raster.n) {
         return Err(PgmFault::Truncated);
     }
+    heights_fit(raster.heights.as_slice());
     Ok(Grid {
         n: raster.n,
         maxval: u16::MAX,
