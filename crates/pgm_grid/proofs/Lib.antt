@@ -1,3 +1,4 @@
 pub mod HeaderLemmas
 pub mod RasterLemmas
 pub mod ProgressLemmas
+pub mod ReaderLemmas

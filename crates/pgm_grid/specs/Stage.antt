@@ -1,5 +1,5 @@
 -- The fields of a reader: what they have come to, and what holds of them.
-use Rattle.std.specs.Prelude.{◌≡◌, ℕ, ◌+◌, ◌*◌, ◌<◌, ◌≤◌, List, ◌++◌, length, take, Option, Some, ⊤, ◌⊎◌}
+use Rattle.std.specs.Prelude.{◌≡◌, ℕ, ◌+◌, ◌*◌, ◌<◌, ◌≤◌, List, ◌++◌, length, take, Option, Some, Result, Ok, Err, ⊤, ◌⊎◌}
 use Rattle.std.specs.Option.{option_to_list}
 use Rattle.std.specs.Vec.{vec_capacity}
 use Rattle.pgm_grid.specs.declared.header.Head.{Head}
@@ -7,6 +7,7 @@ use Rattle.pgm_grid.specs.declared.raster.Raster.{Raster}
 use Rattle.pgm_grid.specs.declared.stage.Stage.{Stage}
 use Rattle.pgm_grid.specs.declared.stage.Stage.TheVariants as stage
 use Rattle.pgm_grid.specs.PgmText.{IsLevel, points_of, header_text, raster_of}
+use Rattle.pgm_grid.specs.declared.fault.PgmFault.{PgmFault}
 use Rattle.pgm_grid.specs.declared.fault.PgmFault.TheVariants.{NoMemory}
 use Rattle.pgm_grid.specs.Progress.{Progress, InHeader, InRaster, HasRefused, beginning, advance, EndsHeader}
 
@@ -48,3 +49,9 @@ IsStage (stage.Stopped fault) = ⊤
 -- further bytes were taken, or there was no room where they ended the header
 abbrev pub StepsTo : Progress → List ℕ → Progress → Type 0
 StepsTo old piece new = (new ≡ advance old piece) ⊎ ((new ≡ HasRefused NoMemory) × EndsHeader old piece)
+
+-- the answer of the call that came to this
+abbrev pub outcome_of : Progress → Result (Unit {0}) PgmFault
+outcome_of (InHeader head) = Ok tt
+outcome_of (InRaster n bytes) = Ok tt
+outcome_of (HasRefused fault) = Err fault

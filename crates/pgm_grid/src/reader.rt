@@ -7,7 +7,7 @@ ghost use Rattle.pgm_grid.specs.Progress.{resume, grid_of, taken, IsSettled, End
 use crate::fault::PgmFault;
 use crate::grid::Grid;
 use crate::header::Head;
-use crate::stage::{Stage, grid_from, stage_after};
+use crate::stage::{Stage, last_answer, outcome, stage_after};
 use std::alloc::Global;
 use std::marker::Model;
 use std::mem;
@@ -71,20 +71,13 @@ impl PgmReader {
     {
         let stage = mem::replace(&mut self.stage, Stage::Stopped(PgmFault::Truncated));
         self.stage = stage_after(self.alloc, stage, piece);
-        match &self.stage {
-            Stage::Stopped(fault) => Err(*fault),
-            _ => Ok(()),
-        }
+        outcome(&self.stage)
     }
 
     /// Ends the bytes of the file.
     pub fn finish(self) -> Result<Grid, PgmFault>
         ensures { result ≡ resume self [] }
     {
-        match self.stage {
-            Stage::Header(_) => Err(PgmFault::Truncated),
-            Stage::Samples(raster) => grid_from(raster),
-            Stage::Stopped(fault) => Err(fault),
-        }
+        last_answer(self.stage)
     }
 }

@@ -3,7 +3,7 @@
 ghost use Rattle.std.specs.Prelude.{◌≡◌, ◌⊎◌, ◌++◌};
 ghost use Rattle.pgm_grid.specs.PgmText.{IsLevel};
 ghost use Rattle.pgm_grid.specs.Progress.{InHeader, InRaster, HasRefused, answer_of, raster_step};
-ghost use Rattle.pgm_grid.specs.Stage.{progress_of, head_of, bytes_of, IsStage, IsHead, IsRaster, StepsTo};
+ghost use Rattle.pgm_grid.specs.Stage.{progress_of, head_of, bytes_of, IsStage, IsHead, IsRaster, StepsTo, outcome_of};
 
 use crate::fault::PgmFault;
 use crate::grid::Grid;
@@ -20,6 +20,16 @@ pub(crate) enum Stage {
     Samples(Raster),
     /// They are refused.
     Stopped(PgmFault),
+}
+
+/// The answer of the call that came to this stage.
+pub(crate) fn outcome(stage: &Stage) -> Result<(), PgmFault>
+    ensures { result ≡ outcome_of (progress_of stage.now) }
+{
+    match stage {
+        Stage::Header(_) | Stage::Samples(_) => Ok(()),
+        Stage::Stopped(fault) => Err(*fault),
+    }
 }
 
 /// What further bytes make of a stage.
@@ -99,7 +109,7 @@ fn samples_after(raster: Raster, piece: &[u8]) -> Stage
 
 /// The grid of these samples, if they are whole.
 #[tactic(auto, using(crate::proofs::ProgressLemmas::whole_grids))]
-pub(crate) fn grid_from(raster: Raster) -> Result<Grid, PgmFault>
+fn grid_from(raster: Raster) -> Result<Grid, PgmFault>
     requires { IsRaster raster }
     ensures { result ≡ answer_of (InRaster raster.n (bytes_of raster)) }
 {
@@ -112,4 +122,16 @@ pub(crate) fn grid_from(raster: Raster) -> Result<Grid, PgmFault>
         maxval: u16::MAX,
         heights: raster.heights,
     })
+}
+
+/// The answer if no byte comes any more.
+pub(crate) fn last_answer(stage: Stage) -> Result<Grid, PgmFault>
+    requires { IsStage stage }
+    ensures { result ≡ answer_of (progress_of stage) }
+{
+    match stage {
+        Stage::Header(_) => Err(PgmFault::Truncated),
+        Stage::Samples(raster) => grid_from(raster),
+        Stage::Stopped(fault) => Err(fault),
+    }
 }
