@@ -12,7 +12,7 @@ use Rattle.std.proofs.lemmas.List.{drop_more, take_more, length_push, nil_from_l
 use Rattle.pgm_grid.proofs.RasterLemmas.{length-bytes, samples-raster, length-raster}
 
 -- a front of full length is the text
-whole_front : (front text : List ℕ) → IsPrefix front text → length front ≡ length text → front ≡ text
+pub whole_front : (front text : List ℕ) → IsPrefix front text → length front ≡ length text → front ≡ text
 whole_front front text w e =
     let none : length w.0 ≡ 0 = omega (arith, ap length w.1, length-append front w.0) in
     sym (w.1 ∙ ap (λ (t : List ℕ). front ++ t) (nil_from_length w.0 none) ∙ append-nil front)
