@@ -1,5 +1,5 @@
 -- Facts about what a reader will answer, for the clauses of its calls.
-use Rattle.std.proofs.Common.{◌≡◌, ◌≢◌, ℕ, zero, suc, ◌+◌, ◌*◌, ◌^◌, ◌<◌, ◌≤◌, ◌⊎◌, Bool, true, false, cond, nat_eq, nat_le, List, [], ◌∷◌, ◌++◌, length, replicate, Option, Some, None, Result, Ok, Err, OnOk, IfErr, IsErrOf, refl, sym, ap, ◌∙◌, inl, inr, subst, arith, length-append, append_assoc, append-nil, eq-eqb, ne_eqb}
+use Rattle.std.proofs.Common.{◌≡◌, ◌≢◌, ℕ, zero, suc, ◌+◌, ◌*◌, ◌^◌, ◌<◌, ◌≤◌, ◌⊎◌, Bool, true, false, cond, nat_eq, nat_le, List, [], ◌∷◌, ◌++◌, length, replicate, take, Option, Some, None, Result, Ok, Err, OnOk, IfErr, IsErrOf, refl, sym, ap, ◌∙◌, inl, inr, subst, arith, length-append, append_assoc, append-nil, eq-eqb, ne_eqb}
 use Rattle.std.proofs.lemmas.Bool.{cases_lt, cases_eq}
 use Rattle.std.proofs.lemmas.List.{length-replicate, length_push}
 use Rattle.mesh_defs.specs.HeightField.{HeightField}
@@ -7,7 +7,7 @@ use Rattle.pgm_grid.specs.declared.fault.PgmFault.{PgmFault}
 use Rattle.pgm_grid.specs.declared.fault.PgmFault.TheVariants.{BadHeader, Truncated, Trailing, NoMemory}
 use Rattle.pgm_grid.specs.declared.stage.Stage.{Stage}
 use Rattle.pgm_grid.specs.declared.stage.Stage.TheVariants as stage
-use Rattle.pgm_grid.specs.PgmText.{IsLevel, points_of, header_text, text_length}
+use Rattle.pgm_grid.specs.PgmText.{IsLevel, points_of, header_text, raster_of, text_length}
 use Rattle.pgm_grid.specs.Progress.{Progress, InHeader, InRaster, HasRefused, beginning, raster_step, after_byte, header_step, advance, answer_of, samples_of, resume, grid_of, taken, IsSettled, EndsHeader}
 use Rattle.pgm_grid.specs.Stage.{progress_of, IsStage, StepsTo, GoesOn, outcome_of}
 use Rattle.pgm_grid.proofs.HeaderLemmas.{no_x_begins, nothing_goes_on, below_header, header_short, points_small}
@@ -174,9 +174,13 @@ full-advance (HasRefused fault) piece full =
 
 -- The clauses of `feed`: old takes the piece and comes to new.
 
+err_not_ok : (f : PgmFault) (g : HeightField) → ◌≡◌ {A = Result HeightField PgmFault} (Err f) (Ok g) → ⊥
+err_not_ok f g e = cc
+
 never_ends : (fault : PgmFault) (piece : List ℕ) → EndsHeader (HasRefused fault) piece → ⊥
-unfolding EndsHeader
-never_ends fault piece h = h
+never_ends fault piece h =
+    let heights : List ℕ = replicate (points_of h.n) 0 in
+    err_not_ok fault _ (sym (resume-refused fault (take h.count piece ++ raster_of heights)) ∙ h.room heights (length-replicate {A = ℕ} (points_of h.n) 0))
 
 refused_same : (f g : PgmFault) → HasRefused f ≡ HasRefused g → f ≡ g
 refused_same f g e = cc

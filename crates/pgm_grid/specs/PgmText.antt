@@ -2,7 +2,7 @@
 -- (`P5`) of the Netpbm manual, "pgm", in the one layout that this project writes: eleven headers.
 --
 -- Words: IsLevel, points_of, header_text, two_bytes, raster_of, IsFileText, IsPrefix, BeginsHeader,
--- CutsHeader, HasHeader, IsBadHeaderAt, IsCutShort, IsTrailingAt.
+-- CutsHeader, IsBadHeaderAt, text_length, IsCutShort, IsTrailingAt.
 use Rattle.std.specs.Prelude.{◌≡◌, ℕ, ◌+◌, ◌*◌, ◌/◌, ◌%◌, ◌<◌, ◌≤◌, List, [], ◌∷◌, ◌++◌, length, take, ◌⊎◌, codes}
 use Rattle.std.specs.List.{flat_map}
 use Rattle.std.specs.Fmt.{decimal}
@@ -45,10 +45,6 @@ BeginsHeader bytes = (n : ℕ) × IsLevel n × IsPrefix bytes (header_text n)
 -- the bytes are a front of one of the eleven headers, and not the whole of it
 abbrev pub CutsHeader : List ℕ → Type 0
 CutsHeader bytes = (n : ℕ) × IsLevel n × IsPrefix bytes (header_text n) × (length bytes < length (header_text n))
-
--- the bytes begin with one of the eleven headers
-abbrev pub HasHeader : List ℕ → Type 0
-HasHeader bytes = (n : ℕ) × IsLevel n × IsPrefix (header_text n) bytes
 
 -- the byte at this place is the first that continues no header
 pub record IsBadHeaderAt (bytes : List ℕ) (place : ℕ) : Type 0 where

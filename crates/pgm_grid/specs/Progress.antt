@@ -2,12 +2,12 @@
 -- answers. The laws of `Laws` say in the format's own words what these answers are.
 --
 -- Words: Progress, beginning, advance, answer_of, resume, grid_of, taken, IsSettled, EndsHeader.
-use Rattle.std.specs.Prelude.{◌≡◌, ℕ, zero, suc, ◌+◌, ◌*◌, Bool, true, false, cond, List, [], ◌∷◌, ◌++◌, length, Option, Some, None, Result, Ok, Err, nat_eq, nat_le}
+use Rattle.std.specs.Prelude.{◌≡◌, ℕ, zero, suc, ◌+◌, ◌*◌, ◌<◌, ◌≤◌, Bool, true, false, cond, List, [], ◌∷◌, ◌++◌, length, take, Option, Some, None, Result, Ok, Err, nat_eq, nat_le}
 use Rattle.std.specs.List.{starts_with}
 use Rattle.mesh_defs.specs.HeightField.{HeightField}
 use Rattle.pgm_grid.specs.declared.fault.PgmFault.{PgmFault}
 use Rattle.pgm_grid.specs.declared.fault.PgmFault.TheVariants.{BadHeader, Truncated, Trailing}
-use Rattle.pgm_grid.specs.PgmText.{header_text, points_of, text_length, HasHeader}
+use Rattle.pgm_grid.specs.PgmText.{IsLevel, header_text, points_of, raster_of, text_length}
 
 -- what a reader has come to: the bytes of a header so far, the level of the grid and the bytes of its
 -- raster so far, or a refusal
@@ -75,8 +75,12 @@ taken (HasRefused fault) = 0
 unfoldable pub IsSettled : Progress → PgmFault → Type 0
 IsSettled reader fault = (more : List ℕ) → resume reader more ≡ Err fault
 
--- the header had not ended before the piece, and a whole accepted one has been read with it
-unfoldable pub EndsHeader : Progress → List ℕ → Type 0
-EndsHeader (InHeader head) piece = HasHeader (head ++ piece)
-EndsHeader (InRaster n bytes) piece = ⊥
-EndsHeader (HasRefused fault) piece = ⊥
+-- so many bytes of the piece, and not fewer than one, end a header of a grid with this n: behind them
+-- each raster of such a grid is read
+pub record EndsHeader (reader : Progress) (piece : List ℕ) : Type 0 where
+  pub n : ℕ
+  pub count : ℕ
+  pub level : IsLevel n
+  pub some : 0 < count
+  pub within : count ≤ length piece
+  pub room : (heights : List ℕ) → length heights ≡ points_of n → resume reader (take count piece ++ raster_of heights) ≡ Ok (record { n = n; maxval = 65535; heights = heights })

@@ -46,7 +46,6 @@ pub(crate) fn stage_after(alloc: Global, stage: Stage, piece: &[u8]) -> Stage
 }
 
 /// What further bytes make of a part of a header.
-#[tactic(auto, using(crate::proofs::ProgressLemmas::header_steps))]
 fn header_after(alloc: Global, mut head: Head, piece: &[u8]) -> Stage
     requires { IsHead head }
     ensures valid { IsStage result }

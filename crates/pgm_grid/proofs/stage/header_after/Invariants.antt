@@ -1,11 +1,8 @@
-use Rattle.std.proofs.Common.{◌≡◌, ◌++◌, take, drop}
-use Rattle.pgm_grid.specs.Progress.{header_step}
+use Rattle.std.proofs.Common.{◌≡◌, take}
+use Rattle.pgm_grid.specs.Progress.{header_step, InHeader}
 use Rattle.pgm_grid.specs.Stage.{head_of, IsHead}
 use Rattle.pgm_grid.proofs.stage.header_after.Given as goal
 
--- i bytes were taken into the header, and the rest does what the whole piece does
+-- i bytes were taken into the header
 abbrev pub invariant-loop-i : goal.invariant-loop-i
-invariant-loop-i l =
-    IsHead l.head
-    × (head_of l.head ≡ head_of l.initial.head ++ take l.i l.piece)
-    × (header_step (head_of l.head) (drop l.i l.piece) ≡ header_step (head_of l.initial.head) l.piece)
+invariant-loop-i l = IsHead l.head × (header_step (head_of l.initial.head) (take l.i l.piece) ≡ InHeader (head_of l.head))
