@@ -1,5 +1,5 @@
 -- Facts about the eleven headers, and about the level whose header begins with some bytes.
-use Rattle.std.proofs.Common.{◌≡◌, ℕ, zero, suc, ◌+◌, ◌-◌, ◌*◌, ◌^◌, ◌%◌, ◌<◌, ◌≤◌, ◌⊎◌, Bool, true, false, cond, not, ◌||◌, eqb, leb, List, [], ◌∷◌, ◌++◌, length, take, drop, Option, Some, None, nat_eq, refl, sym, ap, ◌∙◌, inl, inr, subst, arith, leb-true, eqb-true, length-append, append_assoc, append-nil, take-append-drop, sub-one}
+use Rattle.std.proofs.Common.{◌≡◌, ℕ, zero, suc, ◌-◌, ◌*◌, ◌^◌, ◌%◌, ◌<◌, ◌≤◌, ◌⊎◌, Bool, true, false, cond, not, ◌||◌, eqb, leb, List, [], ◌∷◌, ◌++◌, length, drop, Option, Some, None, nat_eq, refl, sym, ap, ◌∙◌, inl, inr, subst, arith, leb-true, eqb-true, length-append, sub-one}
 use Rattle.std.specs.Fmt.{digits}
 use Rattle.std.specs.List.{starts_with, list_all}
 use Rattle.std.proofs.lemmas.Bool.{false≢true, agree_below, agree_below_at, both_ways, cases_eq, or_cases, not-true, and_parts}
@@ -77,8 +77,9 @@ header_alone m n at_m at_n front =
     let row : agree_below (apart_at m) (λ _. true) 12 ≡ true = agree_below_at (λ i. agree_below (apart_at i) (λ _. true) 12) (λ _. true) 12 m apart_test (omega (arith, at_m.high)) in
     let cell : apart_at m n ≡ true = agree_below_at (apart_at m) (λ _. true) 12 n row (omega (arith, at_n.high)) in
     elim (or_cases (eqb m n) (not (starts_with nat_eq (header_text n) (header_text m))) cell) as (λ _. m ≡ n) [
-        inl same ↦ eqb-true m n same
-      | inr other ↦ absurd (both_ways (starts_with nat_eq (header_text n) (header_text m)) (not-true _ other) (starts_from _ _ front)) ]
+      | inl same ↦ eqb-true m n same
+      | inr other ↦ absurd (both_ways (starts_with nat_eq (header_text n) (header_text m)) (not-true _ other) (starts_from _ _ front))
+    ]
 
 -- The level whose header begins with some bytes.
 
@@ -91,19 +92,22 @@ unfolding beginning_up_to
 up_to_some zero head n e = absurd (cc)
 up_to_some (suc k) head n e =
     elim (pick (starts_with nat_eq (header_text (suc k)) head) (Some (suc k)) (beginning_up_to k head) (Some n) e) as (λ _. (1 ≤ n) × (n ≤ suc k) × IsPrefix head (header_text n)) [
-        inl w ↦ let same : suc k ≡ n = cc in
-            (omega arith, omega arith, subst (λ (j : ℕ). IsPrefix head (header_text j)) same (starts_true _ _ w.0))
-      | inr w ↦ let rest = up_to_some k head n w.1 in (rest.0, omega (arith, rest.1), rest.2) ]
+      | inl w ↦ let same : suc k ≡ n = cc in
+          (omega arith, omega arith, subst (λ (j : ℕ). IsPrefix head (header_text j)) same (starts_true _ _ w.0))
+      | inr w ↦ let rest = up_to_some k head n w.1 in (rest.0, omega (arith, rest.1), rest.2)
+    ]
 
 up_to_none : (k : ℕ) (head : List ℕ) → beginning_up_to k head ≡ None → (n : ℕ) → 1 ≤ n → n ≤ k → IsPrefix head (header_text n) → ⊥
 unfolding beginning_up_to
 up_to_none zero head e n low high front = absurd (omega arith)
 up_to_none (suc k) head e n low high front =
     elim (pick (starts_with nat_eq (header_text (suc k)) head) (Some (suc k)) (beginning_up_to k head) None e) as (λ _. ⊥) [
-        inl w ↦ let clash : Some (suc k) ≡ None = w.1 in cc
+      | inl w ↦ let clash : Some (suc k) ≡ None = w.1 in cc
       | inr w ↦ elim (cases_eq n (suc k)) as (λ _. ⊥) [
-            inl same ↦ both_ways _ w.0 (starts_from _ _ (subst (λ (j : ℕ). IsPrefix head (header_text j)) same front))
-          | inr other ↦ up_to_none k head w.1 n low (omega arith) front ] ]
+        | inl same ↦ both_ways _ w.0 (starts_from _ _ (subst (λ (j : ℕ). IsPrefix head (header_text j)) same front))
+        | inr other ↦ up_to_none k head w.1 n low (omega arith) front
+      ]
+    ]
 
 -- the search from above: a hit, and a miss
 pub up_to_hit : (k : ℕ) (head : List ℕ) → 0 < k → starts_with nat_eq (header_text k) head ≡ true → beginning_up_to k head ≡ Some k

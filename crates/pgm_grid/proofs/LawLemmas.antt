@@ -1,5 +1,5 @@
 -- What the whole bytes of a file mean: the laws of `Laws`.
-use Rattle.std.proofs.Common.{◌≡◌, ◌↔◌, ℕ, zero, suc, ◌+◌, ◌-◌, ◌*◌, ◌<◌, ◌≤◌, ◌⊎◌, List, [], ◌∷◌, ◌++◌, length, take, drop, Option, Some, None, Result, Ok, Err, IfErr, All, refl, sym, ap, ◌∙◌, inl, inr, subst, arith, length-append, append_assoc, append-nil, take-append-drop, take-take, length-take-le}
+use Rattle.std.proofs.Common.{◌≡◌, ℕ, ◌+◌, ◌*◌, ◌<◌, ◌≤◌, ◌⊎◌, List, [], ◌∷◌, ◌++◌, length, take, drop, Option, Some, None, Result, Ok, Err, IfErr, All, refl, sym, ap, ◌∙◌, inl, inr, subst, arith, length-append, append_assoc, append-nil, take-append-drop, take-take}
 use Rattle.std.proofs.lemmas.Bool.{cases_lt, cases_eq, cases_order}
 use Rattle.std.proofs.lemmas.List.{take_at, drop_at, take-append-le, length_push, append_cancel_left}
 use Rattle.std.proofs.lemmas.List.Elements.{All-drop, All-same}
@@ -7,7 +7,7 @@ use Rattle.mesh_defs.specs.HeightField.{HeightField, IsHeightField}
 use Rattle.pgm_grid.specs.declared.fault.PgmFault.{PgmFault}
 use Rattle.pgm_grid.specs.declared.fault.PgmFault.TheVariants.{BadHeader, Truncated, Trailing}
 use Rattle.pgm_grid.specs.PgmText.{IsLevel, points_of, header_text, raster_of, text_length, IsFileText, IsPrefix, BeginsHeader, CutsHeader, IsBadHeaderAt, IsCutShort, IsTrailingAt}
-use Rattle.pgm_grid.specs.Progress.{Progress, InHeader, InRaster, HasRefused, beginning, raster_step, header_step, answer_of, samples_of, grid_of}
+use Rattle.pgm_grid.specs.Progress.{Progress, InHeader, HasRefused, beginning, raster_step, header_step, answer_of, samples_of, grid_of}
 use Rattle.pgm_grid.specs.Stage.{GoesOn}
 use Rattle.pgm_grid.specs.Laws.{TextsAreRead, GridsHaveTexts, BadHeadersAreRefused, CutTextsAreRefused, TrailingBytesAreRefused, OthersAreAbsent, IsRefusal}
 use Rattle.pgm_grid.proofs.HeaderLemmas.{beginning_some, beginning_none, header_alone, goes_on_cuts, nothing_goes_on}
@@ -37,7 +37,7 @@ header_take n bytes rest k e le =
 header_in_take : (n : ℕ) (bytes rest : List ℕ) (k : ℕ) → bytes ≡ header_text n ++ rest → length (header_text n) ≤ k → IsPrefix (header_text n) (take k bytes)
 header_in_take n bytes rest k e le =
     subst (λ (t : List ℕ). IsPrefix t (take k bytes)) (ap (take (length (header_text n))) e ∙ take_at (header_text n) rest (length (header_text n)) refl)
-      (prefix_takes (length (header_text n)) k bytes le)
+    (prefix_takes (length (header_text n)) k bytes le)
 
 -- what has a whole header cuts none
 apart : (n : ℕ) (bytes : List ℕ) → IsLevel n → IsPrefix (header_text n) bytes → CutsHeader bytes → ⊥
@@ -51,13 +51,14 @@ apart n bytes level front cuts =
 one_header : (m n : ℕ) (bytes : List ℕ) → IsLevel m → IsLevel n → IsPrefix (header_text m) bytes → IsPrefix (header_text n) bytes → m ≡ n
 one_header m n bytes at_m at_n front_m front_n =
     elim (cases_lt (length (header_text n)) (length (header_text m))) as (λ _. m ≡ n) [
-        inl less ↦ sym (header_alone n m at_n at_m (shorter n m front_n front_m (omega arith)))
-      | inr more ↦ header_alone m n at_m at_n (shorter m n front_m front_n more) ]
+      | inl less ↦ sym (header_alone n m at_n at_m (shorter n m front_n front_m (omega arith)))
+      | inr more ↦ header_alone m n at_m at_n (shorter m n front_m front_n more)
+    ]
   where
     shorter : (i j : ℕ) → IsPrefix (header_text i) bytes → IsPrefix (header_text j) bytes → length (header_text i) ≤ length (header_text j) → IsPrefix (header_text i) (header_text j)
     shorter i j front_i front_j le =
         subst (λ (t : List ℕ). IsPrefix (header_text i) t) (ap (take (length (header_text j))) front_j.1 ∙ take_at (header_text j) front_j.0 (length (header_text j)) refl)
-          (header_in_take i bytes front_i.0 (length (header_text j)) front_i.1 le)
+        (header_in_take i bytes front_i.0 (length (header_text j)) front_i.1 le)
 
 -- How bytes are read: they cut a header, they have a bad byte, or they have a whole header.
 
@@ -65,21 +66,23 @@ abbrev Reading : List ℕ → Progress → Type 0
 Reading bytes p =
     (CutsHeader bytes × (p ≡ InHeader bytes))
     ⊎ (((place : ℕ) × IsBadHeaderAt bytes place × (p ≡ HasRefused (BadHeader place)))
-      ⊎ ((n : ℕ) × (rest : List ℕ) × IsLevel n × (bytes ≡ header_text n ++ rest) × (p ≡ raster_step n rest)))
+    ⊎ ((n : ℕ) × (rest : List ℕ) × IsLevel n × (bytes ≡ header_text n ++ rest) × (p ≡ raster_step n rest)))
 
 reading_bad : (head : List ℕ) (byte : ℕ) (more : List ℕ) → GoesOn head → beginning (head ++ byte ∷ []) ≡ None → Reading (head ++ byte ∷ more) (header_step head (byte ∷ more))
 reading_bad head byte more on none =
     let before : take (length head) (head ++ byte ∷ more) ≡ head = take_at head (byte ∷ more) (length head) refl in
     let text : head ++ byte ∷ more ≡ (head ++ byte ∷ []) ++ more = sym (append_assoc head (byte ∷ []) more) in
     let upto : take (length head + 1) (head ++ byte ∷ more) ≡ head ++ byte ∷ [] =
-        ap (take (length head + 1)) text ∙ take_at (head ++ byte ∷ []) more (length head + 1) (length_push head byte) in
-    inr (inl (length head,
+    ap (take (length head + 1)) text ∙ take_at (head ++ byte ∷ []) more (length head + 1) (length_push head byte) in
+    inr (inl (
+      length head,
       record {
         within = omega (arith, length-append head (byte ∷ more));
         good = subst CutsHeader (sym before) (goes_on_cuts head on);
-        bad = λ w. beginning_none (head ++ byte ∷ []) none (subst BeginsHeader upto w)
+        bad = λ w. beginning_none (head ++ byte ∷ []) none (subst BeginsHeader upto w);
       },
-      header_step-bad head byte more none))
+      header_step-bad head byte more none,
+    ))
 
 reading_whole : (head : List ℕ) (byte : ℕ) (more : List ℕ) (n : ℕ) → beginning (head ++ byte ∷ []) ≡ Some n → length head + 1 ≡ length (header_text n) → Reading (head ++ byte ∷ more) (header_step head (byte ∷ more))
 reading_whole head byte more n found ends =
@@ -93,11 +96,12 @@ reading_found : (head : List ℕ) (byte : ℕ) (more : List ℕ) → GoesOn head
 reading_found head byte more on None e again = reading_bad head byte more on e
 reading_found head byte more on (Some n) e again =
     elim (cases_eq (length head + 1) (length (header_text n))) as (λ _. Reading (head ++ byte ∷ more) (header_step head (byte ∷ more))) [
-        inl ends ↦ reading_whole head byte more n e ends
+      | inl ends ↦ reading_whole head byte more n e ends
       | inr goes ↦
           let next : GoesOn (head ++ byte ∷ []) = steps-goes_on (head ++ byte ∷ []) n e (λ size. goes (sym (length_push head byte) ∙ size)) in
           subst (λ (t : List ℕ). Reading t (header_step head (byte ∷ more))) (append_assoc head (byte ∷ []) more)
-            (subst (Reading ((head ++ byte ∷ []) ++ more)) (sym (header_step-on head byte more n e goes)) (again next)) ]
+          (subst (Reading ((head ++ byte ∷ []) ++ more)) (sym (header_step-on head byte more n e goes)) (again next))
+    ]
 
 reading-header : (head more : List ℕ) → GoesOn head → Reading (head ++ more) (header_step head more)
 reading-header head [] on =
@@ -119,8 +123,9 @@ cut_means bytes cuts (inr (inr w)) = absurd (apart w.0 bytes w.2 (w.1, w.3) cuts
 no_bad : (n : ℕ) (bytes rest : List ℕ) (place : ℕ) → IsLevel n → bytes ≡ header_text n ++ rest → IsBadHeaderAt bytes place → ⊥
 no_bad n bytes rest place level e wrong =
     elim (cases_lt place (length (header_text n))) as (λ _. ⊥) [
-        inl inside ↦ wrong.bad (n, level, header_take n bytes rest (place + 1) e (omega arith))
-      | inr beyond ↦ apart n (take place bytes) level (header_in_take n bytes rest place e beyond) wrong.good ]
+      | inl inside ↦ wrong.bad (n, level, header_take n bytes rest (place + 1) e (omega arith))
+      | inr beyond ↦ apart n (take place bytes) level (header_in_take n bytes rest place e beyond) wrong.good
+    ]
 
 whole_means : (n : ℕ) (bytes rest : List ℕ) → IsLevel n → bytes ≡ header_text n ++ rest → Reading bytes (header_step [] bytes) → header_step [] bytes ≡ raster_step n rest
 whole_means n bytes rest level e (inl w) = absurd (apart n bytes level (rest, e) w.0)
@@ -140,9 +145,10 @@ bad_means bytes place wrong (inl w) =
     absurd (wrong.bad (begins_front (take (place + 1) bytes) bytes (prefix_take (place + 1) bytes) (w.0.0, w.0.1, w.0.2)))
 bad_means bytes place wrong (inr (inl w)) =
     elim (cases_order place w.0) as (λ _. header_step [] bytes ≡ HasRefused (BadHeader place)) [
-        inl same ↦ w.2 ∙ ap (λ (k : ℕ). HasRefused (BadHeader k)) (sym same)
+      | inl same ↦ w.2 ∙ ap (λ (k : ℕ). HasRefused (BadHeader k)) (sym same)
       | inr (inl less) ↦ absurd (later bytes place w.0 less wrong w.1)
-      | inr (inr more) ↦ absurd (later bytes w.0 place more w.1 wrong) ]
+      | inr (inr more) ↦ absurd (later bytes w.0 place more w.1 wrong)
+    ]
 bad_means bytes place wrong (inr (inr w)) = absurd (no_bad w.0 bytes w.1 place w.2 w.3 wrong)
 
 -- The answers.
@@ -205,9 +211,10 @@ RasterReading n rest r =
 raster_reading : (n : ℕ) (rest : List ℕ) (r : Answer) → r ≡ answer_of (raster_step n rest) → RasterReading n rest r
 raster_reading n rest r e =
     elim (cases_order (length rest) (2 * points_of n)) as (λ _. RasterReading n rest r) [
-        inl same ↦ inr (inl (same, e ∙ full_answer n rest same))
+      | inl same ↦ inr (inl (same, e ∙ full_answer n rest same))
       | inr (inl less) ↦ inl (less, e ∙ short_answer n rest less)
-      | inr (inr more) ↦ inr (inr (more, e ∙ long_answer n rest more)) ]
+      | inr (inr more) ↦ inr (inr (more, e ∙ long_answer n rest more))
+    ]
 
 -- A text is read as its grid, and a grid has a text.
 
@@ -229,16 +236,17 @@ HasText bytes g = IsHeightField g × IsFileText g bytes
 field_has_text : (n : ℕ) (bytes rest : List ℕ) → IsLevel n → bytes ≡ header_text n ++ rest → length rest ≡ 2 * points_of n → All IsByte bytes → HasText bytes (field n rest)
 field_has_text n bytes rest level e size bound =
     let after : rest ≡ drop (length (header_text n)) bytes = sym (ap (drop (length (header_text n))) e ∙ drop_at (header_text n) rest (length (header_text n)) refl) in
-    let rest_bound : All IsByte rest = All-same IsByte rest (drop (length (header_text n)) bytes) after (All-drop IsByte (length (header_text n)) bytes bound) in
-    (record {
-       n_low = level.low;
-       n_high = level.high;
-       maxval_low = omega arith;
-       maxval_high = omega arith;
-       count = length-samples rest (points_of n) size;
-       bounded = samples-bounded rest rest_bound
-     },
-     record { maxval = refl; text = e ∙ ap (λ (t : List ℕ). header_text n ++ t) (sym (raster-samples rest (points_of n) size rest_bound)) })
+    let rest_bound : All IsByte rest = All-same IsByte rest (drop (length (header_text n)) bytes) after (All-drop IsByte (length (header_text n)) bytes bound) in (
+      record {
+        n_low = level.low;
+        n_high = level.high;
+        maxval_low = omega arith;
+        maxval_high = omega arith;
+        count = length-samples rest (points_of n) size;
+        bounded = samples-bounded rest rest_bound;
+      },
+      record { maxval = refl; text = e ∙ ap (λ (t : List ℕ). header_text n ++ t) (sym (raster-samples rest (points_of n) size rest_bound)) },
+    )
 
 whole_has_text : (g : HeightField) (bytes : List ℕ) (n : ℕ) (rest : List ℕ) → IsLevel n → bytes ≡ header_text n ++ rest → All IsByte bytes
     → grid_of bytes ≡ Ok g → RasterReading n rest (grid_of bytes) → HasText bytes g
@@ -271,9 +279,10 @@ bad_at bytes place is (inr (inr w)) =
     absurd (whole_not_bad bytes place w.0 w.1 is (raster_reading w.0 w.1 (grid_of bytes) (answer_at bytes (raster_step w.0 w.1) w.4)))
 
 pub bad_headers : BadHeadersAreRefused
-bad_headers bytes place =
-    ((λ is. bad_at bytes place is (reading bytes)),
-     (λ wrong. answer_at bytes (HasRefused (BadHeader place)) (bad_means bytes place wrong (reading bytes))))
+bad_headers bytes place = (
+  (λ is. bad_at bytes place is (reading bytes)),
+  (λ wrong. answer_at bytes (HasRefused (BadHeader place)) (bad_means bytes place wrong (reading bytes))),
+)
 
 -- A text that is cut.
 

@@ -1,13 +1,13 @@
 -- Facts about what a reader has come to.
 use Rattle.std.proofs.Common.{◌≡◌, ℕ, zero, suc, ◌+◌, ◌*◌, ◌<◌, ◌≤◌, ◌⊎◌, Bool, true, false, cond, nat_eq, nat_le, eqb, leb, List, [], ◌∷◌, ◌++◌, length, take, drop, get_or, take-append-drop, Option, Some, None, Result, Ok, Err, refl, sym, ap, ap₂, ◌∙◌, inl, inr, subst, arith, length-append, append_assoc, append-nil, le-leb, leb-false, eq-eqb, ne_eqb}
-use Rattle.std.proofs.lemmas.Bool.{cases_lt, cases_eq, lt-leb}
+use Rattle.std.proofs.lemmas.Bool.{cases_lt, lt-leb}
 use Rattle.mesh_defs.specs.HeightField.{HeightField}
 use Rattle.pgm_grid.specs.declared.fault.PgmFault.{PgmFault}
 use Rattle.pgm_grid.specs.declared.fault.PgmFault.TheVariants.{BadHeader, Truncated, Trailing, NoMemory}
 use Rattle.pgm_grid.specs.PgmText.{IsLevel, points_of, header_text, text_length, raster_of, IsPrefix}
 use Rattle.pgm_grid.specs.Progress.{Progress, InHeader, InRaster, HasRefused, beginning, raster_step, after_byte, header_step, advance, answer_of, samples_of, resume, EndsHeader}
 use Rattle.pgm_grid.specs.Stage.{StepsTo, GoesOn}
-use Rattle.pgm_grid.proofs.HeaderLemmas.{beginning_some, front_length, header_short}
+use Rattle.pgm_grid.proofs.HeaderLemmas.{beginning_some, front_length}
 use Rattle.std.proofs.lemmas.List.{drop_more, take_more, length_push, nil_from_length}
 use Rattle.pgm_grid.proofs.RasterLemmas.{length-bytes, samples-raster, length-raster}
 
@@ -41,7 +41,6 @@ header_step-end head byte more n e ends = rw (e, eq-eqb (length head + 1) (lengt
 pub header_step-on : (head : List ℕ) (byte : ℕ) (more : List ℕ) (n : ℕ) → beginning (head ++ byte ∷ []) ≡ Some n → (length head + 1 ≡ length (header_text n) → ⊥) → header_step head (byte ∷ more) ≡ header_step (head ++ byte ∷ []) more
 header_step-on head byte more n e on = rw (e, ne_eqb (length head + 1) (length (header_text n)) on) refl
 
-
 -- The answer at the end.
 
 -- the grid of these heights, as it is read
@@ -61,9 +60,10 @@ pub ruleset whole_grids = (answer-whole, answer-short, length-append, length-byt
 advance-raster : (n : ℕ) (bytes more : List ℕ) → advance (raster_step n bytes) more ≡ raster_step n (bytes ++ more)
 advance-raster n bytes more =
     elim (cases_lt (2 * points_of n) (length bytes)) as (λ _. advance (raster_step n bytes) more ≡ raster_step n (bytes ++ more)) [
-        inl beyond ↦ ap (λ (p : Progress). advance p more) (raster_step-out n bytes beyond)
+      | inl beyond ↦ ap (λ (p : Progress). advance p more) (raster_step-out n bytes beyond)
           ∙ sym (raster_step-out n (bytes ++ more) (omega (arith, length-append bytes more)))
-      | inr within ↦ ap (λ (p : Progress). advance p more) (raster_step-in n bytes within) ]
+      | inr within ↦ ap (λ (p : Progress). advance p more) (raster_step-in n bytes within)
+    ]
 
 advance-after : (found : Option ℕ) (head a b : List ℕ) (within within' : Progress) → advance within b ≡ within' → advance (after_byte found head a within) b ≡ after_byte found head (a ++ b) within'
 advance-after None head a b within within' e = refl
@@ -130,14 +130,14 @@ ends_header start piece i n inside level ended =
       n = n;
       count = i + 1;
       level = level;
-      some = omega arith;
+      positive = omega arith;
       within = omega arith;
       room = λ heights size.
-        let fits : length (raster_of heights) ≡ 2 * points_of n = length-raster heights ∙ ap (λ (k : ℕ). 2 * k) size in
-        ap answer_of
+          let fits : length (raster_of heights) ≡ 2 * points_of n = length-raster heights ∙ ap (λ (k : ℕ). 2 * k) size in
+          ap answer_of
           (sym (advance-header start (take (i + 1) piece) (raster_of heights)) ∙ ap (λ (p : Progress). advance p (raster_of heights)) ended
-            ∙ raster_step-in n (raster_of heights) (omega arith))
-        ∙ answer-whole n (raster_of heights) fits ∙ ap (grid_at n) (samples-raster heights)
+          ∙ raster_step-in n (raster_of heights) (omega arith))
+          ∙ answer-whole n (raster_of heights) fits ∙ ap (grid_at n) (samples-raster heights);
     }
 
 -- the byte ends a header
@@ -148,9 +148,10 @@ steps-end start head next piece samples i n new inside level so_far pushed found
     let byte : ℕ = get_or piece i 0 in
     let known : beginning (head ++ byte ∷ []) ≡ Some n = ap beginning (sym pushed) ∙ found in
     let whole : header_step start piece ≡ raster_step n (drop (i + 1) piece) =
-        whole_piece start head piece i inside so_far ∙ header_step-end head byte (drop (i + 1) piece) n known ends in
+    whole_piece start head piece i inside so_far ∙ header_step-end head byte (drop (i + 1) piece) n known ends in
     let ended : header_step start (take (i + 1) piece) ≡ InRaster n [] =
-        one_more start head piece i inside so_far ∙ header_step-end head byte [] n known ends ∙ raster_step-in n [] (omega arith) in
+    one_more start head piece i inside so_far ∙ header_step-end head byte [] n known ends ∙ raster_step-in n [] (omega arith) in
     elim step as (λ _. StepsTo (InHeader start) piece new) [
-        inl taken ↦ inl (taken ∙ ap (raster_step n) rest ∙ sym whole)
-      | inr full ↦ inr (full, ends_header start piece i n inside level ended) ]
+      | inl taken ↦ inl (taken ∙ ap (raster_step n) rest ∙ sym whole)
+      | inr full ↦ inr (full, ends_header start piece i n inside level ended)
+    ]

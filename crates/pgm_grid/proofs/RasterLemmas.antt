@@ -1,8 +1,6 @@
 -- Facts about samples and the bytes of a raster.
-use Rattle.std.proofs.Common.{◌≡◌, ℕ, zero, suc, ◌+◌, ◌*◌, ◌/◌, ◌%◌, ◌<◌, ◌≤◌, List, [], ◌∷◌, ◌++◌, length, take, get_or, option_to_list, vec_len, refl, sym, ap, ap₂, ◌∙◌, subst, arith, All, length-append, append_assoc, append-nil}
-use Rattle.std.proofs.lemmas.List.{take_more}
+use Rattle.std.proofs.Common.{◌≡◌, ℕ, zero, suc, ◌+◌, ◌*◌, ◌/◌, ◌%◌, ◌<◌, ◌≤◌, List, [], ◌∷◌, ◌++◌, length, option_to_list, refl, ap, ap₂, arith, All, length-append}
 use Rattle.std.proofs.lemmas.List.Elements.{All-nil, All-cons, All-head, All-tail}
-use Rattle.std.proofs.lemmas.List.Concat.{flat_map-append}
 use Rattle.pgm_grid.specs.PgmText.{two_bytes, raster_of}
 use Rattle.pgm_grid.specs.Progress.{samples_of}
 use Rattle.pgm_grid.specs.Stage.{bytes_of}
@@ -53,8 +51,8 @@ raster-samples (high ∷ low ∷ bytes) zero e bound = absurd (omega arith)
 raster-samples (high ∷ low ∷ bytes) (suc k) e bound =
     let rest : All IsByte (low ∷ bytes) = All-tail IsByte high (low ∷ bytes) bound in
     ap₂ (λ (x : List ℕ) (xs : List ℕ). x ++ xs)
-      (two_bytes_back high low (All-head IsByte high (low ∷ bytes) bound) (All-head IsByte low bytes rest))
-      (raster-samples bytes k (omega arith) (All-tail IsByte low bytes rest))
+    (two_bytes_back high low (All-head IsByte high (low ∷ bytes) bound) (All-head IsByte low bytes rest))
+    (raster-samples bytes k (omega arith) (All-tail IsByte low bytes rest))
 
 -- a sample is at most 65535
 pub samples-bounded : (bytes : List ℕ) → All (λ b. b < 256) bytes → All (λ h. h ≤ 65535) (samples_of bytes)

@@ -1,5 +1,5 @@
 -- Facts about what a reader will answer, for the clauses of its calls.
-use Rattle.std.proofs.Common.{◌≡◌, ◌≢◌, ℕ, zero, suc, ◌+◌, ◌*◌, ◌^◌, ◌<◌, ◌≤◌, ◌⊎◌, Bool, true, false, cond, nat_eq, nat_le, List, [], ◌∷◌, ◌++◌, length, replicate, take, Option, Some, None, Result, Ok, Err, OnOk, IfErr, IsErrOf, refl, sym, ap, ◌∙◌, inl, inr, subst, arith, length-append, append_assoc, append-nil, eq-eqb, ne_eqb}
+use Rattle.std.proofs.Common.{◌≡◌, ◌≢◌, ℕ, ◌+◌, ◌*◌, ◌^◌, ◌≤◌, ◌⊎◌, Bool, true, false, cond, nat_eq, List, [], ◌∷◌, ◌++◌, length, replicate, take, Option, Some, None, Result, Ok, Err, OnOk, IfErr, IsErrOf, refl, sym, ap, ◌∙◌, inl, inr, subst, arith, length-append, append-nil, eq-eqb, ne_eqb}
 use Rattle.std.proofs.lemmas.Bool.{cases_lt, cases_eq}
 use Rattle.std.proofs.lemmas.List.{length-replicate, length_push}
 use Rattle.mesh_defs.specs.HeightField.{HeightField}
@@ -8,9 +8,9 @@ use Rattle.pgm_grid.specs.declared.fault.PgmFault.TheVariants.{BadHeader, Trunca
 use Rattle.pgm_grid.specs.declared.stage.Stage.{Stage}
 use Rattle.pgm_grid.specs.declared.stage.Stage.TheVariants as stage
 use Rattle.pgm_grid.specs.PgmText.{IsLevel, points_of, header_text, raster_of, text_length}
-use Rattle.pgm_grid.specs.Progress.{Progress, InHeader, InRaster, HasRefused, beginning, raster_step, after_byte, header_step, advance, answer_of, samples_of, resume, grid_of, taken, IsSettled, EndsHeader}
+use Rattle.pgm_grid.specs.Progress.{Progress, InHeader, InRaster, HasRefused, beginning, raster_step, after_byte, header_step, advance, answer_of, resume, grid_of, taken, IsSettled, EndsHeader}
 use Rattle.pgm_grid.specs.Stage.{progress_of, IsStage, StepsTo, GoesOn, outcome_of}
-use Rattle.pgm_grid.proofs.HeaderLemmas.{no_x_begins, nothing_goes_on, below_header, header_short, points_small}
+use Rattle.pgm_grid.proofs.HeaderLemmas.{no_x_begins, below_header, header_short, points_small}
 use Rattle.pgm_grid.proofs.ProgressLemmas.{advance-append, raster_step-in, raster_step-out, header_step-bad, answer-whole, answer-short}
 
 -- What a reader has come to, without the fields.
@@ -95,9 +95,10 @@ open_lem (InRaster n bytes) sound taking fault h =
     let first : Trailing (text_length n) ≡ fault = err_same (resume (InRaster n bytes) (replicate (2 * points_of n + 1) 0)) _ _ (resume-many n bytes) (settled-at _ fault h _) in
     let last : answer_of (InRaster n bytes) ≡ Err fault = sym (resume-nothing (InRaster n bytes) sound) ∙ settled-at (InRaster n bytes) fault h [] in
     elim (cases_lt (length bytes) (2 * points_of n)) as (λ _. ⊥) [
-        inl short ↦ let second : Truncated ≡ fault = err_same (answer_of (InRaster n bytes)) _ _ (answer-short n bytes short) last in
+      | inl short ↦ let second : Truncated ≡ fault = err_same (answer_of (InRaster n bytes)) _ _ (answer-short n bytes short) last in
           let clash : Truncated ≡ Trailing (text_length n) = second ∙ sym first in cc
-      | inr long ↦ ok_not_err _ fault (sym (answer-whole n bytes (omega (arith, sound.1))) ∙ last) ]
+      | inr long ↦ ok_not_err _ fault (sym (answer-whole n bytes (omega (arith, sound.1))) ∙ last)
+    ]
 open_lem (HasRefused f) sound taking fault h = taking
 
 -- Counting.
@@ -106,27 +107,29 @@ taken-raster : (n : ℕ) (bytes : List ℕ) → IsTaking (raster_step n bytes) �
 unfolding taken
 taken-raster n bytes taking =
     elim (cases_lt (2 * points_of n) (length bytes)) as (λ _. taken (raster_step n bytes) ≡ length (header_text n) + length bytes) [
-        inl beyond ↦ absurd (subst IsTaking (raster_step-out n bytes beyond) taking)
-      | inr within ↦ ap taken (raster_step-in n bytes within) ]
+      | inl beyond ↦ absurd (subst IsTaking (raster_step-out n bytes beyond) taking)
+      | inr within ↦ ap taken (raster_step-in n bytes within)
+    ]
 
 taken-after : (found : Option ℕ) (head more : List ℕ) (within : Progress) → IsTaking (after_byte found head more within)
     → (IsTaking within → taken within ≡ length head + 1 + length more) → taken (after_byte found head more within) ≡ length head + 1 + length more
 taken-after None head more within taking count = absurd taking
 taken-after (Some n) head more within taking count =
     elim (cases_eq (length head + 1) (length (header_text n))) as (λ _. taken (after_byte (Some n) head more within) ≡ length head + 1 + length more) [
-        inl same ↦
+      | inl same ↦
           let ended : after_byte (Some n) head more within ≡ raster_step n more = rw (eq-eqb (length head + 1) (length (header_text n)) same) refl in
           ap taken ended ∙ taken-raster n more (subst IsTaking ended taking) ∙ ap (λ (k : ℕ). k + length more) (sym same)
       | inr other ↦
           let on : after_byte (Some n) head more within ≡ within = rw (ne_eqb (length head + 1) (length (header_text n)) other) refl in
-          ap taken on ∙ count (subst IsTaking on taking) ]
+          ap taken on ∙ count (subst IsTaking on taking)
+    ]
 
 taken-header : (head more : List ℕ) → IsTaking (header_step head more) → taken (header_step head more) ≡ length head + length more
 unfolding taken
 taken-header head [] taking = omega arith
 taken-header head (byte ∷ more) taking =
     let rest = taken-after (beginning (head ++ byte ∷ [])) head more (header_step (head ++ byte ∷ []) more) taking
-      (λ t. taken-header (head ++ byte ∷ []) more t ∙ ap (λ (k : ℕ). k + length more) (length_push head byte)) in
+    (λ t. taken-header (head ++ byte ∷ []) more t ∙ ap (λ (k : ℕ). k + length more) (length_push head byte)) in
     rest ∙ omega arith
 
 -- the bytes of a piece are counted
@@ -151,8 +154,9 @@ IsFull reader = reader ≡ HasRefused NoMemory
 full-raster : (n : ℕ) (bytes : List ℕ) → IsFull (raster_step n bytes) → ⊥
 full-raster n bytes full =
     elim (cases_lt (2 * points_of n) (length bytes)) as (λ _. ⊥) [
-        inl beyond ↦ let clash : HasRefused (Trailing (text_length n)) ≡ HasRefused NoMemory = sym (raster_step-out n bytes beyond) ∙ full in cc
-      | inr within ↦ let clash : InRaster n bytes ≡ HasRefused NoMemory = sym (raster_step-in n bytes within) ∙ full in cc ]
+      | inl beyond ↦ let clash : HasRefused (Trailing (text_length n)) ≡ HasRefused NoMemory = sym (raster_step-out n bytes beyond) ∙ full in cc
+      | inr within ↦ let clash : InRaster n bytes ≡ HasRefused NoMemory = sym (raster_step-in n bytes within) ∙ full in cc
+    ]
 
 full-after : (found : Option ℕ) (head more : List ℕ) (within : Progress) → (IsFull within → ⊥) → IsFull (after_byte found head more within) → ⊥
 full-after None head more within other full = cc
@@ -228,16 +232,18 @@ fed-refusal old (InHeader head) piece step = tt
 fed-refusal old (InRaster n bytes) piece step = tt
 fed-refusal old (HasRefused fault) piece step = λ other more.
     elim step as (λ _. resume old (piece ++ more) ≡ Err fault) [
-        inl e ↦ means old (HasRefused fault) piece e more ∙ resume-refused fault more
-      | inr w ↦ let same : fault ≡ NoMemory = refused_same fault NoMemory w.0 in absurd (other same) ]
+      | inl e ↦ means old (HasRefused fault) piece e more ∙ resume-refused fault more
+      | inr w ↦ let same : fault ≡ NoMemory = refused_same fault NoMemory w.0 in absurd (other same)
+    ]
 
 pub fed-no_memory : (old new : Progress) (piece : List ℕ) → StepsTo old piece new → IsErrOf (outcome_of new) NoMemory → IsSettled old NoMemory ⊎ EndsHeader old piece
 fed-no_memory old (InHeader head) piece step h = absurd (ok_unit h)
 fed-no_memory old (InRaster n bytes) piece step h = absurd (ok_unit h)
 fed-no_memory old (HasRefused fault) piece step h =
     elim step as (λ _. IsSettled old NoMemory ⊎ EndsHeader old piece) [
-        inl e ↦ inl (full-advance old piece (sym e ∙ ap HasRefused (err_unit fault NoMemory h)))
-      | inr w ↦ inr w.1 ]
+      | inl e ↦ inl (full-advance old piece (sym e ∙ ap HasRefused (err_unit fault NoMemory h)))
+      | inr w ↦ inr w.1
+    ]
 
 pub fed-err : (new : Progress) → IfErr (outcome_of new) (λ fault. IsSettled new fault)
 fed-err (InHeader head) = tt
@@ -250,5 +256,6 @@ fed-sticks (InRaster n bytes) new piece sound step fault h = absurd (open_lem (I
 fed-sticks (HasRefused f) new piece sound step fault h =
     let same : f ≡ fault = err_same (resume (HasRefused f) []) f fault (resume-refused f []) (settled-at (HasRefused f) fault h []) in
     elim step as (λ _. outcome_of new ≡ Err fault) [
-        inl e ↦ ap outcome_of e ∙ ap Err same
-      | inr w ↦ absurd (never_ends f piece w.1) ]
+      | inl e ↦ ap outcome_of e ∙ ap Err same
+      | inr w ↦ absurd (never_ends f piece w.1)
+    ]

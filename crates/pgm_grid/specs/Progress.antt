@@ -2,7 +2,7 @@
 -- answers. The laws of `Laws` say in the format's own words what these answers are.
 --
 -- Words: Progress, beginning, advance, answer_of, resume, grid_of, taken, IsSettled, EndsHeader.
-use Rattle.std.specs.Prelude.{◌≡◌, ℕ, zero, suc, ◌+◌, ◌*◌, ◌<◌, ◌≤◌, Bool, true, false, cond, List, [], ◌∷◌, ◌++◌, length, take, Option, Some, None, Result, Ok, Err, nat_eq, nat_le}
+use Rattle.std.specs.Prelude.{◌≡◌, ℕ, zero, suc, ◌+◌, ◌*◌, ◌<◌, ◌≤◌, cond, List, [], ◌∷◌, ◌++◌, length, take, Option, Some, None, Result, Ok, Err, nat_eq, nat_le}
 use Rattle.std.specs.List.{starts_with}
 use Rattle.mesh_defs.specs.HeightField.{HeightField}
 use Rattle.pgm_grid.specs.declared.fault.PgmFault.{PgmFault}
@@ -81,6 +81,6 @@ pub record EndsHeader (reader : Progress) (piece : List ℕ) : Type 0 where
   pub n : ℕ
   pub count : ℕ
   pub level : IsLevel n
-  pub some : 0 < count
+  pub positive : 0 < count
   pub within : count ≤ length piece
   pub room : (heights : List ℕ) → length heights ≡ points_of n → resume reader (take count piece ++ raster_of heights) ≡ Ok (record { n = n; maxval = 65535; heights = heights })

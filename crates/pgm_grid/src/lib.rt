@@ -20,3 +20,6 @@ pub use fault::PgmFault;
 pub use grid::Grid;
 pub use laws::grids_and_texts;
 pub use reader::PgmReader;
+
+#[cfg(test)]
+mod tests;

@@ -65,8 +65,7 @@ pub(crate) fn push_pairs(heights: &mut Vec<u16>, pairs: &[u8])
 /// States that no height is above 65535. It does nothing.
 pub(crate) fn heights_fit(heights: &[u16])
     ensures { All (λ h. h ≤ 65535) heights.now }
-{
-}
+{}
 
 /// Adds the samples of further bytes, and answers the first byte of the sample that is not whole.
 pub(crate) fn push_after(heights: &mut Vec<u16>, half: Option<u8>, piece: &[u8]) -> Option<u8>

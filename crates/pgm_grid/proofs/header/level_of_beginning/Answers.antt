@@ -1,4 +1,4 @@
-use Rattle.std.proofs.Common.{◌≡◌, ◌-◌, ◌∙◌, Bool, true, false, sym, refl, ap, nat_eq, arith}
+use Rattle.std.proofs.Common.{◌≡◌, ◌-◌, ◌∙◌, true, false, sym, refl, ap, nat_eq, arith}
 use Rattle.std.specs.List.{starts_with}
 use Rattle.pgm_grid.specs.PgmText.{header_text}
 use Rattle.pgm_grid.specs.Progress.{beginning, beginning_up_to}

@@ -1,4 +1,3 @@
-use Rattle.std.proofs.Common.{◌≡◌}
 use Rattle.pgm_grid.proofs.HeaderLemmas.{points_small, shifted_side}
 use Rattle.pgm_grid.proofs.raster.points_for.Goals as goal
 

@@ -1,4 +1,4 @@
-use Rattle.std.proofs.Common.{◌≡◌, ◌∙◌, ◌≤◌, length, arith, subst, sym, All}
+use Rattle.std.proofs.Common.{◌≤◌, arith, subst, All}
 use Rattle.pgm_grid.proofs.RasterLemmas.{length-bytes}
 use Rattle.pgm_grid.proofs.stage.grid_from.Goals as goal
 
@@ -10,5 +10,5 @@ invariant_of-result c =
       maxval_low = omega arith;
       maxval_high = omega arith;
       count = omega (arith, length-bytes c.args.raster);
-      bounded = subst (All (λ h. h ≤ 65535)) c.as_slice.ensures.value c.heights_fit.ensures
+      bounded = subst (All (λ h. h ≤ 65535)) c.as_slice.ensures.value c.heights_fit.ensures;
     }

@@ -1,4 +1,4 @@
-use Rattle.std.proofs.Common.{◌≡◌, ◌∙◌, ap, sym, subst}
+use Rattle.std.proofs.Common.{◌∙◌, ap, subst}
 use Rattle.pgm_grid.specs.Progress.{Progress}
 use Rattle.pgm_grid.specs.Stage.{progress_of, StepsTo}
 use Rattle.pgm_grid.proofs.ReaderLemmas.{IsSound, fed-ok, fed-open, fed-count, fed-limit, fed-refusal, fed-no_memory, fed-err, fed-sticks, sound-stage}

@@ -1,4 +1,4 @@
-use Rattle.std.proofs.Common.{◌≡◌, ◌∙◌, [], ap, sym}
+use Rattle.std.proofs.Common.{◌∙◌, [], ap, sym}
 use Rattle.pgm_grid.specs.Progress.{Progress, resume}
 use Rattle.pgm_grid.specs.Stage.{progress_of}
 use Rattle.pgm_grid.proofs.ReaderLemmas.{resume-nothing, sound-stage}

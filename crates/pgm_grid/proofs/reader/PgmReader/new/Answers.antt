@@ -1,4 +1,4 @@
-use Rattle.std.proofs.Common.{◌≡◌, ◌∙◌, List, ℕ, ap}
+use Rattle.std.proofs.Common.{◌∙◌, List, ℕ, ap}
 use Rattle.pgm_grid.specs.Progress.{InHeader, resume, taken}
 use Rattle.pgm_grid.proofs.ReaderLemmas.{resume-start, taken-start}
 use Rattle.pgm_grid.proofs.reader.PgmReader.new.Goals as goal
