@@ -52,7 +52,8 @@ fn sample_of(high: u8, low: u8) -> u16
 /// Adds the samples of whole pairs of bytes. A last byte without its second is left out.
 pub(crate) fn push_pairs(heights: &mut Vec<u16>, pairs: &[u8])
     requires { 2 * vec_len heights.old + length pairs.now ≤ 2 * vec_capacity heights.old + 1 }
-    ensures items { raster_of heights.new.items ≡ raster_of heights.old.items ++ take (2 * (length pairs.now / 2)) pairs.now }
+    ensures items { raster_of heights.new.items
+        ≡ raster_of heights.old.items ++ take (2 * (length pairs.now / 2)) pairs.now }
     ensures len { vec_len heights.new ≡ vec_len heights.old + length pairs.now / 2 }
     ensures capacity { vec_capacity heights.old ≤ vec_capacity heights.new }
 {
@@ -69,8 +70,10 @@ pub(crate) fn heights_fit(heights: &[u16])
 
 /// Adds the samples of further bytes, and answers the first byte of the sample that is not whole.
 pub(crate) fn push_after(heights: &mut Vec<u16>, half: Option<u8>, piece: &[u8]) -> Option<u8>
-    requires { 2 * vec_len heights.old + length (option_to_list half) + length piece.now ≤ 2 * vec_capacity heights.old }
-    ensures bytes { raster_of heights.new.items ++ option_to_list result ≡ raster_of heights.old.items ++ option_to_list half ++ piece.now }
+    requires { 2 * vec_len heights.old + length (option_to_list half) + length piece.now
+        ≤ 2 * vec_capacity heights.old }
+    ensures bytes { raster_of heights.new.items ++ option_to_list result
+        ≡ raster_of heights.old.items ++ option_to_list half ++ piece.now }
     ensures capacity { vec_capacity heights.old ≤ vec_capacity heights.new }
 {
     let Some(high) = half else {

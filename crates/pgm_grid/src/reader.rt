@@ -53,14 +53,14 @@ impl PgmReader {
     ///
     /// A refusal comes with the piece that brings the byte that is refused, and neither before nor after.
     pub fn feed(&mut self, piece: &[u8]) -> Result<(), PgmFault>
-        // What the file means is what it meant before.
+        // What the bytes mean together is not changed by where they are cut.
         ensures ok { OnOk result ((more : List ℕ) → resume self.old (piece.now ++ more) ≡ resume self.new more) }
         // No byte so far is refused.
-        ensures open { OnOk result ((fault : PgmFault) → ¬ IsSettled self.new fault) }
+        ensures unsettled { OnOk result ((fault : PgmFault) → ¬ IsSettled self.new fault) }
         ensures count { OnOk result (taken self.new ≡ taken self.old + length piece.now) }
-        // No file of 2^28 bytes is read to its end without a refusal.
+        // No more bytes are taken, so a loop that feeds what is still to come ends.
         ensures limit { OnOk result (taken self.new ≤ 2 ^ 28) }
-        // The refusal is that of the file, whatever follows.
+        // The refusal is that of the file, whatever still comes.
         ensures refusal { IfErr result (λ fault. fault ≢ PgmFault.NoMemory →
             (more : List ℕ) → resume self.old (piece.now ++ more) ≡ Err fault) }
         // The room is wanted once: where the header ends.

@@ -70,7 +70,8 @@ fn header_after(alloc: Global, mut head: Head, piece: &[u8]) -> Stage
 fn raster_begun(alloc: Global, n: u32, samples: &[u8]) -> Stage
     requires { IsLevel n }
     ensures valid { IsStage result }
-    ensures step { (progress_of result ≡ raster_step n samples.now) ⊎ (progress_of result ≡ HasRefused PgmFault.NoMemory) }
+    ensures step { (progress_of result ≡ raster_step n samples.now)
+        ⊎ (progress_of result ≡ HasRefused PgmFault.NoMemory) }
 {
     match Vec::with_capacity(alloc, points_for(n)) {
         Ok(heights) => samples_after(

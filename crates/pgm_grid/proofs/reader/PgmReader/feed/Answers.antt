@@ -11,8 +11,8 @@ stepped c = subst (λ (p : Progress). StepsTo p c.args.piece.now (progress_of c.
 pub returns-clause-ok : goal.returns-clause-ok
 returns-clause-ok c = rw c.outcome.ensures (fed-ok _ _ _ (stepped c))
 
-pub returns-clause-open : goal.returns-clause-open
-returns-clause-open c = rw c.outcome.ensures (fed-open _ (sound-stage _ c.stage_after.ensures.valid))
+pub returns-clause-unsettled : goal.returns-clause-unsettled
+returns-clause-unsettled c = rw c.outcome.ensures (fed-open _ (sound-stage _ c.stage_after.ensures.valid))
 
 pub returns-clause-count : goal.returns-clause-count
 returns-clause-count c = rw c.outcome.ensures (fed-count _ _ _ (stepped c))
