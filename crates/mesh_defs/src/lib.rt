@@ -10,6 +10,8 @@
 mod laws;
 mod mark;
 mod point;
+#[cfg(test)]
+mod worked_numbers;
 
 pub use laws::{base_mesh, roots};
 pub use mark::Mark;
