@@ -5,3 +5,4 @@ pub mod RankingLemmas
 pub mod GreedyLemmas
 pub mod TextLemmas
 pub mod RootLemmas
+mod ClosedLists

@@ -7,7 +7,7 @@
 ghost use Rattle.std.specs.Prelude.{◌≡◌, ℕ, ◌+◌, ◌-◌, ◌*◌, ◌^◌, ◌≤◌, List, [], ◌∷◌, pos, negsuc, ℤ};
 ghost use Rattle.mesh_defs.specs.HeightField.{height_at};
 ghost use Rattle.mesh_defs.specs.Triangle.{level_of, corners_of, midpoint, IsMate, HasBorderBase};
-ghost use Rattle.mesh_defs.specs.ClosedSet.{leaves_of, among};
+ghost use Rattle.mesh_defs.specs.ClosedSet.{IsClosed, IsLeastClosed, leaves_of, among};
 ghost use Rattle.mesh_defs.specs.Thickness.{thickness_of};
 ghost use Rattle.mesh_defs.specs.BoundingBox.{CameraAt, box_of, distance_of, low_of, high_of, point, root_of};
 ghost use Rattle.mesh_defs.specs.View.{View, ViewPlane};
@@ -420,6 +420,31 @@ fn marks_group_the_faces()
         mesh_text 1 FLAT view (2 ∷ 3 ∷ []) ≡ OUTSIDE_TEXT }
 {}
 
+fn a_border_base_has_no_mate()
+    ensures lower { (b : ℕ) → IsMate 2 4 b → ⊥ }
+    ensures left { (b : ℕ) → IsMate 2 5 b → ⊥ }
+    ensures half_of_the_lower { (b : ℕ) → IsMate 2 17 b → ⊥ }
+    ensures within { (b : ℕ) → IsMate 2 8 b → b ≡ 11 }
+{}
+
+fn these_lists_are_closed()
+    ensures none { IsClosed 2 (among []) }
+    ensures six { IsClosed 2 (among FORCED_BY_8) }
+    ensures seven { IsClosed 2 (among SPLIT) }
+    ensures others { IsClosed 2 (among OTHER_SPLIT) }
+{}
+
+fn a_list_without_a_mate_or_a_parent_is_not_closed()
+    ensures mate { IsClosed 2 (among (2 ∷ [])) → ⊥ }
+    ensures parent { IsClosed 2 (among (2 ∷ 3 ∷ 8 ∷ 11 ∷ [])) → ⊥ }
+    ensures finest { IsClosed 1 (among (2 ∷ 3 ∷ 4 ∷ 8 ∷ [])) → ⊥ }
+{}
+
+fn force_adds_no_more_than_parents_and_mates()
+    ensures by_8 { IsLeastClosed 2 (among (8 ∷ [])) (among FORCED_BY_8) }
+    ensures by_four { IsLeastClosed 2 (among (2 ∷ 4 ∷ 8 ∷ 17 ∷ [])) (among SPLIT) }
+{}
+
 #[test]
 fn the_worked_numbers_hold() {
     a_child_is_one_level_below_its_parent();
@@ -444,4 +469,8 @@ fn the_worked_numbers_hold() {
     vertices_go_by_row_and_then_by_column();
     mesh_texts_have_these_bytes();
     marks_group_the_faces();
+    a_border_base_has_no_mate();
+    these_lists_are_closed();
+    a_list_without_a_mate_or_a_parent_is_not_closed();
+    force_adds_no_more_than_parents_and_mates();
 }
