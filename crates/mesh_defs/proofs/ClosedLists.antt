@@ -11,7 +11,7 @@ use Rattle.mesh_defs.specs.MeshText.{is_same_point}
 
 -- Tests
 
-both : (p q : Bool) → p ≡ true → q ≡ true → (p && q) ≡ true
+pub both : (p q : Bool) → p ≡ true → q ≡ true → (p && q) ≡ true
 both p q h k = rw (h, k) refl
 
 and-left : (p q : Bool) → (p && q) ≡ true → p ≡ true
@@ -22,7 +22,7 @@ and-right : (p q : Bool) → (p && q) ≡ true → q ≡ true
 and-right true q h = h
 and-right false q h = absurd (cc)
 
-implied : (p q : Bool) → (not p || q) ≡ true → p ≡ true → q ≡ true
+pub implied : (p q : Bool) → (not p || q) ≡ true → p ≡ true → q ≡ true
 implied true q h k = h
 implied false q h k = absurd (cc)
 
@@ -31,7 +31,7 @@ abbrev pub all_below : (ℕ → Bool) → ℕ → Bool
 all_below p zero = true
 all_below p (suc k) = p k && all_below p k
 
-all_below-at : (p : ℕ → Bool) (k b : ℕ) → all_below p k ≡ true → b < k → p b ≡ true
+pub all_below-at : (p : ℕ → Bool) (k b : ℕ) → all_below p k ≡ true → b < k → p b ≡ true
 all_below-at p zero b h lt = absurd (omega arith)
 all_below-at p (suc k) b h lt = elim (eqb_tells b k) [
   | inl e ↦ subst (λ (i : ℕ). p i ≡ true) (sym (e.1)) (and-left (p k) (all_below p k) h)

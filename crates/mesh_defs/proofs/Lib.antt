@@ -6,3 +6,5 @@ pub mod GreedyLemmas
 pub mod TextLemmas
 pub mod RootLemmas
 mod ClosedLists
+mod RankingExamples
+mod CornerExample

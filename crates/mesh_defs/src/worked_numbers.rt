@@ -12,6 +12,7 @@ ghost use Rattle.mesh_defs.specs.Thickness.{thickness_of};
 ghost use Rattle.mesh_defs.specs.BoundingBox.{CameraAt, box_of, distance_of, low_of, high_of, point, root_of};
 ghost use Rattle.mesh_defs.specs.View.{View, ViewPlane};
 ghost use Rattle.mesh_defs.specs.Priority.{priority_of, worst_of};
+ghost use Rattle.mesh_defs.specs.Ranking.{IsRanking, IsRankClosure, IsBlockedBy};
 ghost use Rattle.mesh_defs.specs.MeshText.{mesh_text, vertices_of, triangle_mark};
 
 use crate::mark::Mark;
@@ -49,7 +50,10 @@ const TWO_CORNERS: [u16; 25] = [
 /// The triangles that are split so that (1, 0) is a vertex.
 const SPLIT: [u32; 7] = [2, 3, 4, 5, 8, 11, 17];
 
-/// Their leaves: 2, 4, 8 and 17 are split from 2 down; 5 and 11 too; of 3 only its children are leaves.
+/// The splittable triangles of positive priority in rank order, seen from (0, 0, 0).
+const RANKING: [u32; 4] = [2, 4, 8, 17];
+
+/// The leaves of the split triangles, depth first.
 const LEAVES: [u32; 9] = [16, 34, 35, 9, 10, 22, 23, 6, 7];
 
 /// The split triangles without 17, and their leaves.
@@ -445,8 +449,22 @@ fn force_adds_no_more_than_parents_and_mates()
     ensures by_four { IsLeastClosed 2 (among (2 ∷ 4 ∷ 8 ∷ 17 ∷ [])) (among SPLIT) }
 {}
 
+fn equal_priorities_rank_by_address()
+    ensures ranking { let camera : CameraAt = record { x = pos 0; y = pos 0; z = pos 0 } in
+        let view : View = record { camera = camera; spacing = 1; planes = [] } in
+        IsRanking 2 (priority_of 2 CORNER view) RANKING }
+{}
+
+fn the_budget_decides_the_chosen()
+    ensures nine { IsRankClosure 2 9 RANKING 4 (among SPLIT) }
+    ensures eight { IsRankClosure 2 8 RANKING 3 (among FORCED_BY_8) }
+    ensures seven { IsRankClosure 2 7 RANKING 2 (among (2 ∷ 3 ∷ 4 ∷ [])) }
+    ensures eight_blocked { IsBlockedBy 2 RANKING 3 17 9 }
+    ensures seven_blocked { IsBlockedBy 2 RANKING 2 8 8 }
+{}
+
 #[test]
-fn the_worked_numbers_hold() {
+fn triangles_are_as_worked_by_hand() {
     a_child_is_one_level_below_its_parent();
     the_first_sample_is_the_upper_left_point();
     base_triangles_and_their_children_have_these_corners();
@@ -454,6 +472,12 @@ fn the_worked_numbers_hold() {
     deeper_triangles_have_these_corners();
     mates_share_their_base();
     bases_on_the_border();
+    a_border_base_has_no_mate();
+    force_adds_no_more_than_parents_and_mates();
+}
+
+#[test]
+fn priorities_are_as_worked_by_hand() {
     thickness_adds_the_deviations_down_to_the_finest();
     thickness_of_five_points_a_side();
     heights_of_the_border_count();
@@ -465,12 +489,16 @@ fn the_worked_numbers_hold() {
     worst_is_the_greatest_priority();
     marks_are_decided_by_the_corners_of_the_box();
     what_is_outside_has_priority_zero();
+}
+
+#[test]
+fn meshes_are_as_worked_by_hand() {
     leaves_are_listed_depth_first();
     vertices_go_by_row_and_then_by_column();
     mesh_texts_have_these_bytes();
     marks_group_the_faces();
-    a_border_base_has_no_mate();
     these_lists_are_closed();
     a_list_without_a_mate_or_a_parent_is_not_closed();
-    force_adds_no_more_than_parents_and_mates();
+    equal_priorities_rank_by_address();
+    the_budget_decides_the_chosen();
 }
