@@ -473,7 +473,6 @@ fn triangles_are_as_worked_by_hand() {
     mates_share_their_base();
     bases_on_the_border();
     a_border_base_has_no_mate();
-    force_adds_no_more_than_parents_and_mates();
 }
 
 #[test]
@@ -499,6 +498,7 @@ fn meshes_are_as_worked_by_hand() {
     marks_group_the_faces();
     these_lists_are_closed();
     a_list_without_a_mate_or_a_parent_is_not_closed();
+    force_adds_no_more_than_parents_and_mates();
     equal_priorities_rank_by_address();
     the_budget_decides_the_chosen();
 }
