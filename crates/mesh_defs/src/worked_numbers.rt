@@ -4,44 +4,41 @@
 
 #![tactic(auto, unfolding(crate::specs::Triangle::level_of, crate::specs::Triangle::corners_of, crate::specs::ClosedSet::leaves_of, crate::specs::Thickness::thickness_of, crate::specs::BoundingBox::points_of, crate::specs::BoundingBox::low_of, crate::specs::BoundingBox::high_of, crate::specs::BoundingBox::box_of, crate::specs::BoundingBox::root_of, crate::specs::BoundingBox::distance_of, crate::specs::View::mark_of, crate::specs::Priority::priority_of, crate::specs::MeshText::vertices_of, crate::specs::MeshText::mesh_text,))]
 
-ghost use Rattle.std.specs.Prelude.{◌≡◌, ℕ, ◌+◌, ◌-◌, ◌*◌, ◌^◌, ◌≤◌, List, [], ◌∷◌, pos, negsuc, ℤ};
+ghost use Rattle.std.specs.Prelude.{◌≡◌, ℕ, ◌-◌, ◌^◌, List, [], ◌∷◌, pos, negsuc};
 ghost use Rattle.mesh_defs.specs.HeightField.{height_at};
-ghost use Rattle.mesh_defs.specs.Triangle.{level_of, corners_of, midpoint, IsMate, HasBorderBase};
+ghost use Rattle.mesh_defs.specs.Triangle.{level_of, corners_of, IsMate, HasBorderBase};
 ghost use Rattle.mesh_defs.specs.ClosedSet.{IsClosed, IsLeastClosed, leaves_of, among};
 ghost use Rattle.mesh_defs.specs.Thickness.{thickness_of};
 ghost use Rattle.mesh_defs.specs.BoundingBox.{CameraAt, box_of, distance_of, low_of, high_of, point, root_of};
 ghost use Rattle.mesh_defs.specs.View.{View, ViewPlane};
 ghost use Rattle.mesh_defs.specs.Priority.{priority_of, worst_of};
 ghost use Rattle.mesh_defs.specs.Ranking.{IsRanking, IsRankClosure, IsBlockedBy};
+ghost use Rattle.mesh_defs.specs.Greedy.{IsGreedyEnd};
 ghost use Rattle.mesh_defs.specs.MeshText.{mesh_text, vertices_of, triangle_mark};
 
 use crate::mark::Mark;
 
 /// Three points a side in file order, the first the upper left one: all of height 0.
 const FLAT: [u16; 9] = [0, 0, 0, 0, 0, 0, 0, 0, 0];
-
 /// Height 10 in the middle, at (1, 1).
 const MIDDLE: [u16; 9] = [0, 0, 0, 0, 10, 0, 0, 0, 0];
-
 /// Height 10 in the middle of the lower side, at (1, 0).
 const LOWER_SIDE: [u16; 9] = [0, 0, 0, 0, 0, 0, 0, 10, 0];
-
 /// Height 1 in the lower left corner, at (0, 0).
 const LOWER_LEFT: [u16; 9] = [0, 0, 0, 0, 0, 0, 1, 0, 0];
-
 /// Height 5 in the upper left corner, at (0, 2).
 const UPPER_LEFT: [u16; 9] = [5, 0, 0, 0, 0, 0, 0, 0, 0];
+/// Heights that rise from sample to sample: the lower side has 9, 10 and 11.
+const RISING: [u16; 9] = [3, 4, 5, 6, 7, 8, 9, 10, 11];
 
 /// Five points a side: height 10 at (1, 0), near the lower left corner.
 const CORNER: [u16; 25] = [
     0, 0, 0, 0, 0, 0, 0, 0, 0, 0, 0, 0, 0, 0, 0, 0, 0, 0, 0, 0, 0, 10, 0, 0, 0,
 ];
-
 /// Height 10 at (1, 0) and in the middle, at (2, 2).
 const CORNER_AND_MIDDLE: [u16; 25] = [
     0, 0, 0, 0, 0, 0, 0, 0, 0, 0, 0, 0, 10, 0, 0, 0, 0, 0, 0, 0, 0, 10, 0, 0, 0,
 ];
-
 /// Height 10 at (1, 0) and at (3, 4).
 const TWO_CORNERS: [u16; 25] = [
     0, 0, 0, 10, 0, 0, 0, 0, 0, 0, 0, 0, 0, 0, 0, 0, 0, 0, 0, 0, 0, 10, 0, 0, 0,
@@ -49,10 +46,8 @@ const TWO_CORNERS: [u16; 25] = [
 
 /// The triangles that are split so that (1, 0) is a vertex.
 const SPLIT: [u32; 7] = [2, 3, 4, 5, 8, 11, 17];
-
 /// The splittable triangles of positive priority in rank order, seen from (0, 0, 0).
 const RANKING: [u32; 4] = [2, 4, 8, 17];
-
 /// The leaves of the split triangles, depth first.
 const LEAVES: [u32; 9] = [16, 34, 35, 9, 10, 22, 23, 6, 7];
 
@@ -65,9 +60,6 @@ const EIGHT_LEAVES: [u32; 8] = [16, 17, 9, 10, 22, 23, 6, 7];
 const OTHER_SPLIT: [u32; 7] = [2, 3, 6, 7, 12, 15, 25];
 
 const OTHER_LEAVES: [u32; 9] = [4, 5, 24, 50, 51, 13, 14, 30, 31];
-
-/// Heights that rise from sample to sample: the lower side has 9, 10 and 11.
-const RISING: [u16; 9] = [3, 4, 5, 6, 7, 8, 9, 10, 11];
 
 const FLAT_TEXT: [u8; 48] = *b"v 0 0 0\nv 2 0 0\nv 0 2 0\nv 2 2 0\nf 1 2 3\nf 4 3 2\n";
 
@@ -463,6 +455,12 @@ fn the_budget_decides_the_chosen()
     ensures seven_blocked { IsBlockedBy 2 RANKING 2 8 8 }
 {}
 
+fn greedy_refinement_stops_before_the_jump()
+    ensures seven { let camera : CameraAt = record { x = pos 0; y = pos 0; z = pos 0 } in
+        let view : View = record { camera = camera; spacing = 1; planes = [] } in
+        IsGreedyEnd 2 7 (priority_of 2 CORNER view) (among (2 ∷ 3 ∷ 4 ∷ [])) }
+{}
+
 #[test]
 fn triangles_are_as_worked_by_hand() {
     a_child_is_one_level_below_its_parent();
@@ -501,4 +499,5 @@ fn meshes_are_as_worked_by_hand() {
     force_adds_no_more_than_parents_and_mates();
     equal_priorities_rank_by_address();
     the_budget_decides_the_chosen();
+    greedy_refinement_stops_before_the_jump();
 }
