@@ -9,4 +9,4 @@ use Rattle.mesh_defs.proofs.worked_numbers.marks_group_the_faces.Goals as goal
 
 pub returns : goal.returns
 unfolding mesh_text vertices_of level_of corners_of points_of low_of high_of box_of mark_of digits
-returns c = record { three_groups = refl; one_group = refl; outside = refl }
+returns c = record { three_groups = refl; one_group = refl }
