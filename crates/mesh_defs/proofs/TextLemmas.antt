@@ -9,7 +9,7 @@ use Rattle.mesh_defs.specs.declared.mark.Mark.{Mark}
 use Rattle.mesh_defs.specs.Triangle.{level_of, corners_of}
 use Rattle.mesh_defs.specs.BoundingBox.{point, points_of}
 use Rattle.mesh_defs.specs.Thickness.{height_of}
-use Rattle.mesh_defs.specs.View.{View, ViewPlane}
+use Rattle.mesh_defs.specs.View.{ViewPlane}
 use Rattle.mesh_defs.specs.MeshText.{has_corner, vertices_of, vertex_number, vertex_line, face_line, face_lines, mesh_text, numbers_line, group_line, triangle_mark}
 
 -- a list whose pieces are empty but for the first and the last
@@ -260,35 +260,35 @@ group_line-bare : (planes : List ViewPlane) (before : Option Mark) (mark : Mark)
 group_line-bare planes before mark none = ap (λ l. group_line l before mark) none
 
 -- so the faces are two face lines
-face_lines-bare : (n : ℕ) (heights : List ℕ) (view : View) → view.planes ≡ [] → (vertices : List Point) →
-    face_lines n heights view vertices None (2 ∷ (3 ∷ []))
+face_lines-bare : (n : ℕ) (heights : List ℕ) (spacing : ℕ) (vertices : List Point) →
+    face_lines n heights spacing [] vertices None (2 ∷ (3 ∷ []))
     ≡ face_line vertices (corners_of n 2) ++ (face_line vertices (corners_of n 3) ++ [])
-face_lines-bare n heights view none vertices =
+face_lines-bare n heights spacing vertices =
     ap₂ (λ (before between : List ℕ). before ++ face_line vertices (corners_of n 2)
     ++ (between ++ face_line vertices (corners_of n 3) ++ []))
-    (group_line-bare view.planes None (triangle_mark n heights view 2) none)
-    (group_line-bare view.planes (Some (triangle_mark n heights view 2)) (triangle_mark n heights view 3) none)
+    (group_line-bare [] None (triangle_mark n heights spacing [] 2) refl)
+    (group_line-bare [] (Some (triangle_mark n heights spacing [] 2)) (triangle_mark n heights spacing [] 3) refl)
 
 -- the text of the two base triangles
-pub base_text : (n : ℕ) (heights : List ℕ) (view : View) → view.planes ≡ [] →
-    mesh_text n heights view (2 ∷ (3 ∷ []))
+pub base_text : (n : ℕ) (heights : List ℕ) (spacing : ℕ) →
+    mesh_text n heights spacing [] (2 ∷ (3 ∷ []))
     ≡ numbers_line 118 0 0 (height_of n heights (point 0 0))
-    ++ numbers_line 118 (view.spacing * 2 ^ n) 0 (height_of n heights (point (2 ^ n) 0))
-    ++ numbers_line 118 0 (view.spacing * 2 ^ n) (height_of n heights (point 0 (2 ^ n)))
-    ++ numbers_line 118 (view.spacing * 2 ^ n) (view.spacing * 2 ^ n) (height_of n heights (point (2 ^ n) (2 ^ n)))
+    ++ numbers_line 118 (spacing * 2 ^ n) 0 (height_of n heights (point (2 ^ n) 0))
+    ++ numbers_line 118 0 (spacing * 2 ^ n) (height_of n heights (point 0 (2 ^ n)))
+    ++ numbers_line 118 (spacing * 2 ^ n) (spacing * 2 ^ n) (height_of n heights (point (2 ^ n) (2 ^ n)))
     ++ numbers_line 102 1 2 3
     ++ numbers_line 102 4 3 2
 unfolding mesh_text
-base_text n heights view none =
-    ap (λ vertices. flat_map (vertex_line n heights view.spacing) vertices
-    ++ face_lines n heights view vertices None (2 ∷ (3 ∷ [])))
+base_text n heights spacing =
+    ap (λ vertices. flat_map (vertex_line n heights spacing) vertices
+    ++ face_lines n heights spacing [] vertices None (2 ∷ (3 ∷ [])))
     (base_vertices n)
-    ∙ ap₂ (λ (xs ys : List ℕ). xs ++ ys) (vertex_lines n heights view.spacing)
-    (face_lines-bare n heights view none (square_corners n)
+    ∙ ap₂ (λ (xs ys : List ℕ). xs ++ ys) (vertex_lines n heights spacing)
+    (face_lines-bare n heights spacing (square_corners n)
     ∙ ap₂ (λ (e f : List ℕ). e ++ (f ++ [])) (face_line-2 n) (face_line-3 n))
     ∙ regroup (numbers_line 118 0 0 (height_of n heights (point 0 0)))
-    (numbers_line 118 (view.spacing * 2 ^ n) 0 (height_of n heights (point (2 ^ n) 0)))
-    (numbers_line 118 0 (view.spacing * 2 ^ n) (height_of n heights (point 0 (2 ^ n))))
-    (numbers_line 118 (view.spacing * 2 ^ n) (view.spacing * 2 ^ n)
+    (numbers_line 118 (spacing * 2 ^ n) 0 (height_of n heights (point (2 ^ n) 0)))
+    (numbers_line 118 0 (spacing * 2 ^ n) (height_of n heights (point 0 (2 ^ n))))
+    (numbers_line 118 (spacing * 2 ^ n) (spacing * 2 ^ n)
     (height_of n heights (point (2 ^ n) (2 ^ n))))
     (numbers_line 102 1 2 3) (numbers_line 102 4 3 2)

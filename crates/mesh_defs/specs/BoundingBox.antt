@@ -1,6 +1,7 @@
 -- The box around the part of the surface that a triangle stands for, and the camera's distance to it.
 -- Lengths are in world units: a grid step is as many of them as the spacing, a unit of height is one.
--- Source: the nested bounds of Duchaineau et al., "ROAMing Terrain", IEEE Visualization 1997, section 6;
+-- Source: the nested bounds of Duchaineau et al., "ROAMing Terrain", IEEE Visualization 1997,
+-- the part on nested bounds;
 -- that every grid point of the closed triangle counts is this project's own choice.
 use Rattle.std.specs.Prelude.{ℕ, zero, suc, ◌+◌, ◌*◌, ◌/◌, ◌<◌, ◌≤◌, min, max, Bool, ◌&&◌, nat_le, if◌then◌else◌, List, [], ◌∷◌, map, filter, flat_map, ℤ, pos, ◌-ℤ◌, int_lt, unsigned_abs}
 use Rattle.std.specs.List.{range_with_len}
@@ -113,10 +114,11 @@ root_by (suc steps) s = elim s as (λ _. ℕ) [
       if nat_le ((r + 1) * (r + 1)) (suc k) then r + 1 else r
 ]
 
--- the square root, rounded down; that it is IsRoot is a law
+-- the square root, rounded down; by the law roots() it is IsRoot of every number
 unfoldable pub root_of : ℕ → ℕ
 root_of s = root_by s s
 
--- The Euclidean distance of the camera to the box, rounded down, in world units.
+-- The Euclidean distance of the camera to the box: the whole number d with d * d at most the sum of the
+-- squares and (d + 1) * (d + 1) above it, in world units.
 unfoldable pub distance_of : BoundingBox → CameraAt → ℕ
 distance_of box camera = root_of (squared_distance box camera)

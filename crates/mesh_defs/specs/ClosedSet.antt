@@ -1,5 +1,5 @@
 -- Closed sets of split triangles, and the mesh that each of them is.
--- Source: Duchaineau et al., "ROAMing Terrain", IEEE Visualization 1997, sections 3 and 4 (forced splits);
+-- Source: Duchaineau et al., "ROAMing Terrain", IEEE Visualization 1997, the part on forced splits;
 -- the paper speaks of a triangulation, this project of the set of triangles that were split.
 use Rattle.std.specs.Prelude.{ℕ, zero, suc, ◌+◌, ◌*◌, ◌/◌, ◌≤◌, Bool, true, false, IsTrue, nat_eq, List, [], ◌∷◌, ◌++◌}
 use Rattle.std.specs.List.{list_any}
@@ -30,7 +30,8 @@ leaves_under (suc levels) has a = elim (has a) as (λ _. List ℕ) [
   | false ↦ a ∷ []
 ]
 
--- The leaves of a set: the children of members, and 2 and 3, that are not members; 2 before 3.
+-- The leaves of a closed set: the children of members, and 2 and 3, that are not members; depth first,
+-- 2 before 3.
 unfoldable pub leaves_of : ℕ → (ℕ → Bool) → List ℕ
 leaves_of n has = leaves_under (2 * n) has 2 ++ leaves_under (2 * n) has 3
 

@@ -1,6 +1,6 @@
 -- Greedy refinement: from the two base triangles, split again and again the first leaf in rank, with what
 -- it forces, and stop before the first step that exceeds the budget.
--- Source: Duchaineau et al., "ROAMing Terrain", IEEE Visualization 1997, section 4.
+-- Source: Duchaineau et al., "ROAMing Terrain", IEEE Visualization 1997, the part on the greedy algorithm.
 use Rattle.std.specs.Prelude.{◌≡◌, ◌≢◌, ℕ, zero, suc, ◌<◌, ◌≤◌, Bool, false, ◌||◌, nat_eq, length, Contains}
 use Rattle.mesh_defs.specs.ClosedSet.{IsLeastClosed, leaves_of}
 use Rattle.mesh_defs.specs.Ranking.{RanksBefore}
@@ -26,7 +26,8 @@ IsReachedIn (suc steps) n priority budget has =
     (before : ℕ → Bool) × IsReachedIn steps n priority budget before × IsGreedyStep n priority before has
     × (length (leaves_of n has) ≤ budget)
 
--- Greedy refinement ends at this set: it is reached, and each next step exceeds the budget.
+-- For a budget of at least 2, greedy refinement ends at this set: it is reached, and each next step
+-- exceeds the budget.
 pub record IsGreedyEnd (n budget : ℕ) (priority : ℕ → ℕ) (has : ℕ → Bool) : Type 0 where
   pub reached : (steps : ℕ) × IsReachedIn steps n priority budget has
   pub stops : (next : ℕ → Bool) → IsGreedyStep n priority has next → budget < length (leaves_of n next)

@@ -12,11 +12,11 @@ pub record HeightField : Type 0 where
 abbrev pub side_of : ℕ → ℕ
 side_of n = 2 ^ n + 1
 
--- the place of point (x, y) in file order: row 2 ^ n - y from the top, column x
+-- the place of point (x, y) in file order: column x of the row that is 2 ^ n - y from the top
 abbrev pub place_of : ℕ → ℕ → ℕ → ℕ
 place_of n x y = (2 ^ n - y) * side_of n + x
 
--- the height of point (x, y)
+-- the height of the point (x, y) of the grid
 abbrev pub height_at : ℕ → List ℕ → ℕ → ℕ → ℕ
 height_at n heights x y = slice_index heights (place_of n x y)
 

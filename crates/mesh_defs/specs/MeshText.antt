@@ -9,7 +9,7 @@ use Rattle.mesh_defs.specs.declared.mark.Mark.TheVariants.{Inside, Cut, Outside}
 use Rattle.mesh_defs.specs.Triangle.{corners_of}
 use Rattle.mesh_defs.specs.Thickness.{height_of}
 use Rattle.mesh_defs.specs.BoundingBox.{points_of, box_of}
-use Rattle.mesh_defs.specs.View.{View, ViewPlane, mark_of}
+use Rattle.mesh_defs.specs.View.{ViewPlane, mark_of}
 
 -- two points are the same
 abbrev pub is_same_point : Point → Point → Bool
@@ -63,20 +63,20 @@ group_line [] before mark = []
 group_line (_ ∷ _) before mark =
     if is_mark_before before mark then [] else codes "g " ++ mark_name mark ++ codes "\n"
 
--- the mark of a triangle in this view
-abbrev pub triangle_mark : ℕ → List ℕ → View → ℕ → Mark
-triangle_mark n heights view a = mark_of view.planes (box_of n heights view.spacing a)
+-- the mark of a triangle under the planes
+abbrev pub triangle_mark : ℕ → List ℕ → ℕ → List ViewPlane → ℕ → Mark
+triangle_mark n heights spacing planes a = mark_of planes (box_of n heights spacing a)
 
 -- for each triangle its group line, where it has one, and its face line
-abbrev pub face_lines : ℕ → List ℕ → View → List Point → Option Mark → List ℕ → List ℕ
-face_lines n heights view vertices before [] = []
-face_lines n heights view vertices before (a ∷ triangles) =
-    group_line view.planes before (triangle_mark n heights view a)
+abbrev pub face_lines : ℕ → List ℕ → ℕ → List ViewPlane → List Point → Option Mark → List ℕ → List ℕ
+face_lines n heights spacing planes vertices before [] = []
+face_lines n heights spacing planes vertices before (a ∷ triangles) =
+    group_line planes before (triangle_mark n heights spacing planes a)
     ++ face_line vertices (corners_of n a)
-    ++ face_lines n heights view vertices (Some (triangle_mark n heights view a)) triangles
+    ++ face_lines n heights spacing planes vertices (Some (triangle_mark n heights spacing planes a)) triangles
 
 -- The text of a mesh: its vertex lines, and then its faces in the list's order.
-unfoldable pub mesh_text : ℕ → List ℕ → View → List ℕ → List ℕ
-mesh_text n heights view triangles =
-    flat_map (vertex_line n heights view.spacing) (vertices_of n triangles)
-    ++ face_lines n heights view (vertices_of n triangles) None triangles
+unfoldable pub mesh_text : ℕ → List ℕ → ℕ → List ViewPlane → List ℕ → List ℕ
+mesh_text n heights spacing planes triangles =
+    flat_map (vertex_line n heights spacing) (vertices_of n triangles)
+    ++ face_lines n heights spacing planes (vertices_of n triangles) None triangles

@@ -1,7 +1,7 @@
 -- Lists of triangles that cover the square once and without cracks.
 -- Every edge of a triangle runs along a row, a column or a diagonal through grid points, so a few sample
 -- points in each grid square decide what covers what (this project's own form of a triangulation).
--- Words: IsSample, is_left, is_inside, Tiles, IsOnLine, IsStrictlyBetween, IsConforming.
+-- Words: IsSample, is_left, is_within, is_inside, Tiles, IsOnLine, IsBetween, IsStrictlyBetween, IsConforming.
 use Rattle.std.specs.Prelude.{◌≡◌, ℕ, ◌+◌, ◌*◌, ◌%◌, ◌^◌, ◌<◌, ◌⊎◌, Bool, ◌&&◌, nat_lt, List, All, Contains, count_by}
 use Rattle.mesh_defs.specs.declared.point.Point.{Point}
 use Rattle.mesh_defs.specs.declared.point.Corners.{Corners}

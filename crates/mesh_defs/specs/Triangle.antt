@@ -1,8 +1,8 @@
 -- Triangles of the bintree, named by addresses: 2 and 3 are the halves of the square, 2a and 2a + 1
 -- the left and right child of a. Source: Duchaineau et al., "ROAMing Terrain", IEEE Visualization 1997,
--- section 3; the numbering is that of a binary heap, this project's own choice.
--- Words: level_of, IsAddress, IsSplittable, midpoint, base_triangle, child, corners_at, corners_of,
--- IsCorner, IsEdge, SameEnds, IsMate, OnBorder, HasBorderBase.
+-- the part on the triangle bintree; the numbering is that of a binary heap, this project's own choice.
+-- Words: halvings, level_of, IsAddress, IsSplittable, midpoint, base_triangle, child, corners_at, corners_of,
+-- IsCorner, IsEdge, SameEnds, IsMate, OnOneSide, HasBorderBase.
 use Rattle.std.specs.Prelude.{◌≡◌, ◌≢◌, ℕ, zero, suc, ◌+◌, ◌*◌, ◌/◌, ◌%◌, ◌^◌, ◌<◌, ◌≤◌, ◌⊎◌, true, false, nat_lt}
 use Rattle.mesh_defs.specs.declared.point.Point.{Point}
 use Rattle.mesh_defs.specs.declared.point.Corners.{Corners}
@@ -63,7 +63,8 @@ IsEdge c p q = ((p ≡ c.apex) × (q ≡ c.v0)) ⊎ (((p ≡ c.v0) × (q ≡ c.v
 abbrev pub SameEnds : Corners → Corners → Type 0
 SameEnds c d = ((c.v0 ≡ d.v0) × (c.v1 ≡ d.v1)) ⊎ ((c.v0 ≡ d.v1) × (c.v1 ≡ d.v0))
 
--- The mate of a is the other triangle of its level with the same base; the two are a diamond.
+-- The mate of an address a is the other address of its level with the same base. A splittable triangle,
+-- with its mate where it has one, is a diamond.
 pub record IsMate (n a b : ℕ) : Type 0 where
   pub address : IsAddress n b
   pub other : b ≢ a

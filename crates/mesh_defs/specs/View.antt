@@ -1,6 +1,6 @@
 -- What is seen: the camera, the spacing, and the planes of the view frustum.
 -- Source: the view frustum culling of Duchaineau et al., "ROAMing Terrain", IEEE Visualization 1997,
--- section 6; a mark is decided here by the eight corners of the box alone.
+-- the part on view frustum culling; a mark is decided here by the eight corners of the box alone.
 use Rattle.std.specs.Prelude.{ℕ, Bool, if◌then◌else◌, List, [], ◌∷◌, ℤ, pos, ◌+ℤ◌, ◌*ℤ◌, int_lt}
 use Rattle.std.specs.List.{list_any, list_all}
 use Rattle.mesh_defs.specs.declared.mark.Mark.{Mark}
@@ -45,3 +45,7 @@ unfoldable pub mark_of : List ViewPlane → BoundingBox → Mark
 mark_of planes box =
     if list_any (is_all_outside box) planes then Outside
     else (if list_any (is_some_outside box) planes then Cut else Inside)
+
+-- the view before the first line of a script: the camera at the origin, and no plane
+abbrev pub start_view : ℕ → View
+start_view spacing = record { camera = record { x = pos 0; y = pos 0; z = pos 0 }; spacing = spacing; planes = [] }

@@ -4,7 +4,6 @@ ghost use Rattle.std.specs.Prelude.{◌≡◌, ℕ, ◌*◌, ◌^◌, ◌≤◌,
 ghost use Rattle.mesh_defs.specs.Tiling.{IsConforming};
 ghost use Rattle.mesh_defs.specs.BoundingBox.{point, root_of, IsRoot};
 ghost use Rattle.mesh_defs.specs.Thickness.{height_of};
-ghost use Rattle.mesh_defs.specs.View.{View};
 ghost use Rattle.mesh_defs.specs.MeshText.{vertices_of, mesh_text, numbers_line};
 ghost use Rattle.mesh_defs.specs.BestMesh.{IsBestMesh};
 
@@ -21,12 +20,12 @@ pub fn base_mesh(n: u32)
     ensures best { (priority : ℕ → ℕ) → IsBestMesh n 2 priority (2 ∷ (3 ∷ [])) }
     ensures vertices { vertices_of n (2 ∷ (3 ∷ []))
         ≡ point 0 0 ∷ (point (2 ^ n) 0 ∷ (point 0 (2 ^ n) ∷ (point (2 ^ n) (2 ^ n) ∷ []))) }
-    ensures text { (heights : List ℕ) (view : View) → view.planes ≡ [] →
-        mesh_text n heights view (2 ∷ (3 ∷ []))
+    ensures text { (heights : List ℕ) (spacing : ℕ) →
+        mesh_text n heights spacing [] (2 ∷ (3 ∷ []))
         ≡ numbers_line 118 0 0 (height_of n heights (point 0 0))
-        ++ numbers_line 118 (view.spacing * 2 ^ n) 0 (height_of n heights (point (2 ^ n) 0))
-        ++ numbers_line 118 0 (view.spacing * 2 ^ n) (height_of n heights (point 0 (2 ^ n)))
-        ++ numbers_line 118 (view.spacing * 2 ^ n) (view.spacing * 2 ^ n)
+        ++ numbers_line 118 (spacing * 2 ^ n) 0 (height_of n heights (point (2 ^ n) 0))
+        ++ numbers_line 118 0 (spacing * 2 ^ n) (height_of n heights (point 0 (2 ^ n)))
+        ++ numbers_line 118 (spacing * 2 ^ n) (spacing * 2 ^ n)
         (height_of n heights (point (2 ^ n) (2 ^ n)))
         ++ numbers_line 102 1 2 3
         ++ numbers_line 102 4 3 2 }

@@ -2,7 +2,7 @@
 //!
 //! `specs/` has the words that contracts cite: height fields, triangles and their mates, tilings,
 //! closed sets, thickness, boxes, distance, marks, priority, ranking, greedy refinement and the
-//! text of a mesh. The code here is two plain structs and small law functions.
+//! text of a mesh. The code here is `Point`, `Corners`, `Mark` and small law functions.
 //! No algorithm of the mesher is here.
 
 #![tactic(auto)]

@@ -306,45 +306,45 @@ fn worst_is_the_greatest_priority()
 fn marks_are_decided_by_the_corners_of_the_box()
     ensures no_plane { let camera : CameraAt = record { x = pos 0; y = pos 0; z = pos 0 } in
         let view : View = record { camera = camera; spacing = 1; planes = [] } in
-        triangle_mark 1 MIDDLE view 2 ≡ Mark.Inside }
+        triangle_mark 1 MIDDLE view.spacing view.planes 2 ≡ Mark.Inside }
     ensures beyond_2 { let camera : CameraAt = record { x = pos 0; y = pos 0; z = pos 0 } in
         let planes : List ViewPlane = record { a = pos 1; b = pos 0; c = pos 0; d = negsuc 2 } ∷ [] in
         let view : View = record { camera = camera; spacing = 1; planes = planes } in
-        triangle_mark 1 MIDDLE view 2 ≡ Mark.Outside }
+        triangle_mark 1 MIDDLE view.spacing view.planes 2 ≡ Mark.Outside }
     ensures beyond_3 { let camera : CameraAt = record { x = pos 0; y = pos 0; z = pos 0 } in
         let planes : List ViewPlane = record { a = pos 1; b = pos 0; c = pos 0; d = negsuc 2 } ∷ [] in
         let view : View = record { camera = camera; spacing = 1; planes = planes } in
-        triangle_mark 1 MIDDLE view 3 ≡ Mark.Outside }
+        triangle_mark 1 MIDDLE view.spacing view.planes 3 ≡ Mark.Outside }
     ensures edge_4 { let camera : CameraAt = record { x = pos 0; y = pos 0; z = pos 0 } in
         let planes : List ViewPlane = record { a = pos 1; b = pos 0; c = pos 0; d = negsuc 1 } ∷ [] in
         let view : View = record { camera = camera; spacing = 1; planes = planes } in
-        triangle_mark 1 MIDDLE view 4 ≡ Mark.Cut }
+        triangle_mark 1 MIDDLE view.spacing view.planes 4 ≡ Mark.Cut }
     ensures edge_5 { let camera : CameraAt = record { x = pos 0; y = pos 0; z = pos 0 } in
         let planes : List ViewPlane = record { a = pos 1; b = pos 0; c = pos 0; d = negsuc 1 } ∷ [] in
         let view : View = record { camera = camera; spacing = 1; planes = planes } in
-        triangle_mark 1 MIDDLE view 5 ≡ Mark.Outside }
+        triangle_mark 1 MIDDLE view.spacing view.planes 5 ≡ Mark.Outside }
     ensures edge_6 { let camera : CameraAt = record { x = pos 0; y = pos 0; z = pos 0 } in
         let planes : List ViewPlane = record { a = pos 1; b = pos 0; c = pos 0; d = negsuc 1 } ∷ [] in
         let view : View = record { camera = camera; spacing = 1; planes = planes } in
-        triangle_mark 1 MIDDLE view 6 ≡ Mark.Cut }
+        triangle_mark 1 MIDDLE view.spacing view.planes 6 ≡ Mark.Cut }
     ensures edge_7 { let camera : CameraAt = record { x = pos 0; y = pos 0; z = pos 0 } in
         let planes : List ViewPlane = record { a = pos 1; b = pos 0; c = pos 0; d = negsuc 1 } ∷ [] in
         let view : View = record { camera = camera; spacing = 1; planes = planes } in
-        triangle_mark 1 MIDDLE view 7 ≡ Mark.Cut }
+        triangle_mark 1 MIDDLE view.spacing view.planes 7 ≡ Mark.Cut }
     ensures on_the_plane { let camera : CameraAt = record { x = pos 0; y = pos 0; z = pos 0 } in
         let planes : List ViewPlane = record { a = pos 1; b = pos 0; c = pos 0; d = pos 0 } ∷ [] in
         let view : View = record { camera = camera; spacing = 1; planes = planes } in
-        triangle_mark 1 MIDDLE view 2 ≡ Mark.Inside }
+        triangle_mark 1 MIDDLE view.spacing view.planes 2 ≡ Mark.Inside }
     ensures one_of_two { let camera : CameraAt = record { x = pos 0; y = pos 0; z = pos 0 } in
         let here : ViewPlane = record { a = pos 1; b = pos 0; c = pos 0; d = pos 0 } in
         let beyond : ViewPlane = record { a = pos 1; b = pos 0; c = pos 0; d = negsuc 2 } in
         let planes : List ViewPlane = here ∷ beyond ∷ [] in
         let view : View = record { camera = camera; spacing = 1; planes = planes } in
-        triangle_mark 1 MIDDLE view 2 ≡ Mark.Outside }
+        triangle_mark 1 MIDDLE view.spacing view.planes 2 ≡ Mark.Outside }
     ensures height_counts { let camera : CameraAt = record { x = pos 0; y = pos 0; z = pos 0 } in
         let planes : List ViewPlane = record { a = pos 0; b = pos 0; c = negsuc 0; d = pos 9 } ∷ [] in
         let view : View = record { camera = camera; spacing = 1; planes = planes } in
-        triangle_mark 1 MIDDLE view 2 ≡ Mark.Cut }
+        triangle_mark 1 MIDDLE view.spacing view.planes 2 ≡ Mark.Cut }
 {}
 
 fn what_is_outside_has_priority_zero()
@@ -385,30 +385,30 @@ fn vertices_go_by_row_and_then_by_column()
 fn mesh_texts_have_these_bytes()
     ensures flat { let camera : CameraAt = record { x = pos 0; y = pos 0; z = pos 0 } in
         let view : View = record { camera = camera; spacing = 1; planes = [] } in
-        mesh_text 1 FLAT view (2 ∷ 3 ∷ []) ≡ FLAT_TEXT }
+        mesh_text 1 FLAT view.spacing view.planes (2 ∷ 3 ∷ []) ≡ FLAT_TEXT }
     ensures middle { let camera : CameraAt = record { x = pos 0; y = pos 0; z = pos 0 } in
         let view : View = record { camera = camera; spacing = 1; planes = [] } in
-        mesh_text 1 MIDDLE view (4 ∷ 5 ∷ 6 ∷ 7 ∷ []) ≡ MIDDLE_TEXT }
+        mesh_text 1 MIDDLE view.spacing view.planes (4 ∷ 5 ∷ 6 ∷ 7 ∷ []) ≡ MIDDLE_TEXT }
     ensures spaced { let camera : CameraAt = record { x = negsuc 28; y = pos 0; z = pos 0 } in
         let view : View = record { camera = camera; spacing = 30; planes = [] } in
-        mesh_text 1 MIDDLE view (2 ∷ 3 ∷ []) ≡ SPACED_TEXT }
+        mesh_text 1 MIDDLE view.spacing view.planes (2 ∷ 3 ∷ []) ≡ SPACED_TEXT }
     ensures upper_left { let camera : CameraAt = record { x = pos 0; y = pos 0; z = pos 0 } in
         let view : View = record { camera = camera; spacing = 1; planes = [] } in
-        mesh_text 1 UPPER_LEFT view (2 ∷ 3 ∷ []) ≡ UPPER_LEFT_TEXT }
+        mesh_text 1 UPPER_LEFT view.spacing view.planes (2 ∷ 3 ∷ []) ≡ UPPER_LEFT_TEXT }
     ensures corner { let camera : CameraAt = record { x = pos 0; y = pos 0; z = pos 0 } in
         let view : View = record { camera = camera; spacing = 1; planes = [] } in
-        mesh_text 2 CORNER view LEAVES ≡ CORNER_TEXT }
+        mesh_text 2 CORNER view.spacing view.planes LEAVES ≡ CORNER_TEXT }
 {}
 
 fn marks_group_the_faces()
     ensures three_groups { let camera : CameraAt = record { x = pos 0; y = pos 0; z = pos 0 } in
         let planes : List ViewPlane = record { a = pos 1; b = pos 0; c = pos 0; d = negsuc 1 } ∷ [] in
         let view : View = record { camera = camera; spacing = 1; planes = planes } in
-        mesh_text 1 MIDDLE view (4 ∷ 5 ∷ 6 ∷ 7 ∷ []) ≡ MARKED_TEXT }
+        mesh_text 1 MIDDLE view.spacing view.planes (4 ∷ 5 ∷ 6 ∷ 7 ∷ []) ≡ MARKED_TEXT }
     ensures one_group { let camera : CameraAt = record { x = pos 0; y = pos 0; z = pos 0 } in
         let planes : List ViewPlane = record { a = pos 1; b = pos 0; c = pos 0; d = pos 0 } ∷ [] in
         let view : View = record { camera = camera; spacing = 1; planes = planes } in
-        mesh_text 1 FLAT view (2 ∷ 3 ∷ []) ≡ INSIDE_TEXT }
+        mesh_text 1 FLAT view.spacing view.planes (2 ∷ 3 ∷ []) ≡ INSIDE_TEXT }
 {}
 
 fn a_border_base_has_no_mate()
