@@ -1,0 +1,6 @@
+-- What the contracts of the outside cite: faults, shelves, sinks of meshes, sinks of bytes.
+pub mod Fault
+pub mod Told
+pub mod Shelf
+pub mod MeshSink
+pub mod Sink

@@ -1,0 +1,10 @@
+-- What a sink of bytes tells, and what a write to it does. This project's own words.
+use Rattle.std.specs.Prelude.{◌≡◌, ℕ, List, ◌++◌, Option, Some, Result, OnOk, OnErr}
+use Rattle.roam_edge.specs.Told.{IsFront}
+
+-- writing appends the piece, and failing appends a front of it
+-- `before` and `now` are the bytes of the sink
+pub record Appends {T E : Type 0} (before now : Option (List ℕ)) (piece : List ℕ) (answer : Result T E) : Type 0 where
+  pub ok : OnOk answer ((all : List ℕ) → before ≡ Some all → now ≡ Some (all ++ piece))
+  pub failed : OnErr answer ((all : List ℕ) → before ≡ Some all
+      → (front : List ℕ) × IsFront front piece × (now ≡ Some (all ++ front)))

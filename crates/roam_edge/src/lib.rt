@@ -1,0 +1,19 @@
+//! The outside of the mesher: where files are read from, where meshes and reports go to.
+//!
+//! Three traits, `Shelf`, `MeshSink` and `Sink`, say what an outside object tells to contracts:
+//! its contents where it tells them, and always its count of faults. A call fails only where that
+//! count rose, so generic code cannot invent a failure. Objects in memory tell all; the adapters
+//! over real files and writers tell no content of a file.
+//! No format is known here: the bytes have no meaning.
+
+#![tactic(auto)]
+
+mod failures;
+mod mesh_sink;
+mod shelf;
+mod sink;
+
+pub use failures::{Failed, NoMemory};
+pub use mesh_sink::MeshSink;
+pub use shelf::Shelf;
+pub use sink::Sink;

@@ -1,0 +1,44 @@
+//! Where meshes go to.
+
+ghost use Rattle.std.specs.Prelude.{◌≡◌, ◌<◌, ◌≤◌, ℕ, List, Option, Bool, true, false, is_ok, is_err, length};
+ghost use Rattle.roam_edge.specs.Fault.{HasCause};
+ghost use Rattle.roam_edge.specs.MeshSink.{Mesh, Begins, Writes, Finishes};
+
+use crate::Failed;
+
+/// A sink of meshes, each named by a prefix and a number, written one after the other.
+pub trait MeshSink {
+    // The meshes in the order in which they were begun, where the sink tells them.
+    ghost meshes: { Self → Option (List Mesh) };
+
+    // Whether a mesh was begun and not finished.
+    ghost under_way: { Self → Bool };
+
+    // How often the outside failed.
+    ghost faults: { Self → ℕ };
+
+    /// Begins a mesh: its file is named by the prefix and the number.
+    fn begin(&mut self, prefix: &str, number: u32) -> Result<(), Failed>
+        requires idle { under_way self.old ≡ false }
+        requires prefix_some { 0 < length prefix.now }
+        requires prefix_short { length prefix.now ≤ 200 }
+        requires number_low { 1 ≤ number }
+        requires number_high { number ≤ 999999 }
+        ensures mesh { Begins (meshes self.old) (meshes self.new) prefix.now number result }
+        ensures under_way { under_way self.new ≡ is_ok result }
+        ensures faults { HasCause (faults self.old) (faults self.new) result };
+
+    /// Appends a piece to the mesh that is under way.
+    fn write(&mut self, piece: &[u8]) -> Result<(), Failed>
+        requires { under_way self.old ≡ true }
+        ensures mesh { Writes (meshes self.old) (meshes self.new) piece.now result }
+        ensures under_way { under_way self.new ≡ under_way self.old }
+        ensures faults { HasCause (faults self.old) (faults self.new) result };
+
+    /// Finishes the mesh that is under way.
+    fn finish(&mut self) -> Result<(), Failed>
+        requires { under_way self.old ≡ true }
+        ensures mesh { Finishes (meshes self.old) (meshes self.new) result }
+        ensures under_way { under_way self.new ≡ is_err result }
+        ensures faults { HasCause (faults self.old) (faults self.new) result };
+}

@@ -1,0 +1,21 @@
+//! Where report lines go to.
+
+ghost use Rattle.std.specs.Prelude.{ℕ, List, Option};
+ghost use Rattle.roam_edge.specs.Fault.{HasCause};
+ghost use Rattle.roam_edge.specs.Sink.{Appends};
+
+use crate::Failed;
+
+/// A sink of bytes.
+pub trait Sink {
+    // The bytes so far, where the sink tells them.
+    ghost contents: { Self → Option (List ℕ) };
+
+    // How often the outside failed.
+    ghost faults: { Self → ℕ };
+
+    /// Appends a piece.
+    fn write(&mut self, piece: &[u8]) -> Result<(), Failed>
+        ensures bytes { Appends (contents self.old) (contents self.new) piece.now result }
+        ensures faults { HasCause (faults self.old) (faults self.new) result };
+}
