@@ -4,3 +4,5 @@ pub mod Told
 pub mod Shelf
 pub mod MeshSink
 pub mod Sink
+pub mod MemSink
+pub mod CalmShelf

@@ -8,12 +8,18 @@
 
 #![tactic(auto)]
 
+mod calm_shelf;
 mod failures;
+mod mem_sink;
 mod mesh_sink;
 mod shelf;
 mod sink;
+mod std_sink;
 
+pub use calm_shelf::CalmShelf;
 pub use failures::{Failed, NoMemory};
+pub use mem_sink::MemSink;
 pub use mesh_sink::MeshSink;
 pub use shelf::Shelf;
 pub use sink::Sink;
+pub use std_sink::StdSink;
