@@ -4,5 +4,8 @@ pub mod Told
 pub mod Shelf
 pub mod MeshSink
 pub mod Sink
-pub mod MemSink
 pub mod CalmShelf
+pub mod MemSink
+pub mod MemMeshes
+pub mod MeshRoom
+pub mod MeshName

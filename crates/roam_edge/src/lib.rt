@@ -10,7 +10,10 @@
 
 mod calm_shelf;
 mod failures;
+mod mem_meshes;
 mod mem_sink;
+mod mesh_call;
+mod mesh_room;
 mod mesh_sink;
 mod shelf;
 mod sink;
@@ -18,7 +21,9 @@ mod std_sink;
 
 pub use calm_shelf::CalmShelf;
 pub use failures::{Failed, NoMemory};
+pub use mem_meshes::MemMeshes;
 pub use mem_sink::MemSink;
+pub use mesh_call::MeshCall;
 pub use mesh_sink::MeshSink;
 pub use shelf::Shelf;
 pub use sink::Sink;
