@@ -111,13 +111,14 @@ impl MemMeshes {
         ensures { option_map (λ mesh. mesh.bytes) (slice_get (all_meshes self.now) i) ≡ Some result.now }
     {
         let i = i as usize;
-        let start = self.heading(i).start;
-        let end = if i < self.done.len() {
-            self.done[i].end
-        } else {
-            self.room.len()
-        };
-        &self.room[start..end]
+        if i < self.done.len() {
+            let placed = &self.done[i];
+            return &self.room[placed.heading.start..placed.end];
+        }
+        match &self.current {
+            Some(heading) => &self.room[heading.start..],
+            None => unreachable!(),
+        }
     }
 
     /// Whether a mesh is finished, by its place.
@@ -131,7 +132,13 @@ impl MemMeshes {
 
 impl MemMeshes {
     /// The heading of a mesh, by its place.
-    fn heading(&self, i: usize) -> &Heading {
+    fn heading(&self, i: usize) -> &Heading
+        requires { i < length (all_meshes self.now) }
+        ensures prefix { option_map (λ mesh. mesh.prefix) (slice_get (all_meshes self.now) i)
+            ≡ Some result.now.prefix.bytes }
+        ensures number { option_map (λ mesh. mesh.number) (slice_get (all_meshes self.now) i)
+            ≡ Some result.now.number }
+    {
         if i < self.done.len() {
             return &self.done[i].heading;
         }

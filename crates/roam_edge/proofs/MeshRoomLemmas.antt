@@ -1,0 +1,39 @@
+-- Lemmas on meshes that lie one after the other in a room of bytes.
+use Rattle.std.proofs.Common.{◌≡◌, ℕ, ◌-◌, ◌≤◌, List, [], ◌∷◌, ◌++◌, length, take, drop, Option, Some, None, option_map, ap, refl, arith, sym, subst, ◌∙◌, map, length-drop}
+use Rattle.std.specs.Prelude.{slice_range}
+use Rattle.std.proofs.lemmas.List.{drop-append-le, take-append-le}
+use Rattle.std.proofs.lemmas.List.Elements.{All-head, All-tail}
+use Rattle.roam_edge.specs.MeshSink.{Mesh, longer}
+use Rattle.roam_edge.specs.MeshRoom.{mesh_from, mesh_at, LieWithin, StartsWithin}
+use Rattle.roam_edge.specs.declared.mesh_room.Heading.{Heading}
+use Rattle.roam_edge.specs.declared.mesh_room.Placed.{Placed}
+
+-- a part of the room stays as it was where the room grows
+slice_range-append : (room piece : List ℕ) (start end : ℕ) → start ≤ end → end ≤ length room → slice_range (room ++ piece) start end ≡ slice_range room start end
+slice_range-append room piece start end in_order within =
+    rw (drop-append-le start room piece (omega arith), take-append-le (end - start) (drop start room) piece (omega (arith, length-drop start room)))
+
+-- finished meshes stay as they were where the room grows
+mesh_at-append : (room piece : List ℕ) (done : List Placed) → LieWithin done (length room) → map (mesh_at (room ++ piece)) done ≡ map (mesh_at room) done
+mesh_at-append room piece [] within = refl
+mesh_at-append room piece (placed ∷ done) within =
+    let lies = All-head (λ (p : Placed). (p.heading.start ≤ p.end) × (p.end ≤ length room)) placed done within in
+    let same = slice_range-append room piece placed.heading.start placed.end lies.0 lies.1 in
+    let others = mesh_at-append room piece done (All-tail (λ (p : Placed). (p.heading.start ≤ p.end) × (p.end ≤ length room)) placed done within) in
+    rw (same, others)
+
+pub mesh_at-grown : (room piece now : List ℕ) (done : List Placed) (size : ℕ) → now ≡ room ++ piece → size ≡ length room → LieWithin done size
+  → map (mesh_at now) done ≡ map (mesh_at room) done
+mesh_at-grown room piece now done size grown all within =
+    rw grown (mesh_at-append room piece done (subst (λ (n : ℕ). LieWithin done n) all within))
+
+-- the mesh under way gets the bytes by which the room grows
+mesh_from-append : (room piece : List ℕ) (current : Option Heading) → StartsWithin current (length room)
+  → option_map (mesh_from (room ++ piece)) current ≡ option_map (λ mesh. longer mesh piece) (option_map (mesh_from room) current)
+mesh_from-append room piece None within = refl
+mesh_from-append room piece (Some heading) within = rw (drop-append-le heading.start room piece (within heading refl))
+
+pub mesh_from-grown : (room piece now : List ℕ) (current : Option Heading) (size : ℕ) → now ≡ room ++ piece → size ≡ length room → StartsWithin current size
+  → option_map (mesh_from now) current ≡ option_map (λ mesh. longer mesh piece) (option_map (mesh_from room) current)
+mesh_from-grown room piece now current size grown all within =
+    rw grown (mesh_from-append room piece current (subst (λ (n : ℕ). StartsWithin current n) all within))
