@@ -1,6 +1,8 @@
 -- Lemmas on meshes that lie one after the other in a room of bytes.
-use Rattle.std.proofs.Common.{◌≡◌, ℕ, ◌-◌, ◌≤◌, List, [], ◌∷◌, ◌++◌, length, take, drop, Option, Some, None, option_map, ap, refl, arith, sym, subst, ◌∙◌, map, length-drop}
+use Rattle.std.proofs.Common.{◌≡◌, ℕ, zero, suc, ◌-◌, ◌<◌, ◌≤◌, nat_lt, inl, inr, slice_get, option_to_list, List, [], ◌∷◌, ◌++◌, length, take, drop, Option, Some, None, option_map, ap, refl, arith, sym, subst, ◌∙◌, map, length-drop}
 use Rattle.std.specs.Prelude.{slice_range}
+use Rattle.std.proofs.lemmas.Bool.{cases_lt}
+use Rattle.std.proofs.lemmas.Bool.Decides.{nat_tests}
 use Rattle.std.proofs.lemmas.List.{drop-append-le, take-append-le}
 use Rattle.std.proofs.lemmas.List.Elements.{All-head, All-tail}
 use Rattle.roam_edge.specs.MeshSink.{Mesh, longer}
@@ -37,3 +39,23 @@ pub mesh_from-grown : (room piece now : List ℕ) (current : Option Heading) (si
   → option_map (mesh_from now) current ≡ option_map (λ mesh. longer mesh piece) (option_map (mesh_from room) current)
 mesh_from-grown room piece now current size grown all within =
     rw grown (mesh_from-append room piece current (subst (λ (n : ℕ). StartsWithin current n) all within))
+
+nat_lt-suc : (i n : ℕ) → nat_lt i n ≡ nat_lt (suc i) (suc n)
+nat_lt-suc i n = elim (cases_lt i n) [ inl below ↦ grind (arith, nat_tests) | inr above ↦ grind (arith, nat_tests) ]
+
+-- a mesh is finished exactly where its place is one of the finished meshes
+finished_at : (room : List ℕ) (done : List Placed) (current : Option Heading) (i : ℕ)
+  → i < length (map (mesh_at room) done ++ option_to_list (option_map (mesh_from room) current))
+  → option_map (λ mesh. mesh.finished) (slice_get (map (mesh_at room) done ++ option_to_list (option_map (mesh_from room) current)) i)
+    ≡ Some (nat_lt i (length done))
+finished_at room [] None i within = absurd (omega arith)
+finished_at room [] (Some heading) zero within = refl
+finished_at room [] (Some heading) (suc i) within = absurd (omega arith)
+finished_at room (placed ∷ done) current zero within = grind (arith, nat_tests)
+finished_at room (placed ∷ done) current (suc i) within = finished_at room done current i (omega arith) ∙ ap Some (nat_lt-suc i (length done))
+
+pub finished-place : (room : List ℕ) (done : List Placed) (current : Option Heading) (meshes : List Mesh) (i count : ℕ)
+  → map (mesh_at room) done ++ option_to_list (option_map (mesh_from room) current) ≡ meshes → count ≡ length done → i < length meshes
+  → option_map (λ mesh. mesh.finished) (slice_get meshes i) ≡ Some (nat_lt i count)
+finished-place room done current meshes i count are all within =
+    rw (← are, all) (finished_at room done current i (rw are within))

@@ -1,13 +1,9 @@
-use Rattle.std.proofs.Common.{arith, inl, inr}
-use Rattle.std.proofs.lemmas.Grind.{common_steps}
-use Rattle.std.proofs.lemmas.Option.{gets}
-use Rattle.std.proofs.lemmas.Bool.{cases_lt}
-use Rattle.std.proofs.lemmas.Bool.Decides.{nat_tests}
+use Rattle.std.proofs.Common.{◌∙◌, ap}
+use Rattle.roam_edge.specs.MemMeshes.{all_meshes}
+use Rattle.roam_edge.proofs.MeshRoomLemmas.{finished-place}
 use Rattle.roam_edge.proofs.mem_meshes.MemMeshes.finished.Goals as goal
 
 pub returns : goal.returns
 returns c =
-    elim (cases_lt c.args.i c.len.result) [
-      inl below ↦ grind (arith, common_steps, gets, nat_tests)
-    | inr above ↦ grind (arith, common_steps, gets, nat_tests)
-    ]
+    let was = c.self.inside in
+    finished-place was.room.items was.done.items was.current (all_meshes c.args.self.now) c.args.i c.len.result (ap all_meshes c.self.view_is) (c.len.ensures ∙ was.done.ok.0) c.requires
