@@ -25,18 +25,18 @@ mesh_at-append room piece (placed ∷ done) within =
     rw (same, others)
 
 pub mesh_at-grown : (room piece now : List ℕ) (done : List Placed) (size : ℕ) → now ≡ room ++ piece → size ≡ length room → LieWithin done size
-  → map (mesh_at now) done ≡ map (mesh_at room) done
+    → map (mesh_at now) done ≡ map (mesh_at room) done
 mesh_at-grown room piece now done size grown all within =
     rw grown (mesh_at-append room piece done (subst (λ (n : ℕ). LieWithin done n) all within))
 
 -- the mesh under way gets the bytes by which the room grows
 mesh_from-append : (room piece : List ℕ) (current : Option Heading) → StartsWithin current (length room)
-  → option_map (mesh_from (room ++ piece)) current ≡ option_map (λ mesh. longer mesh piece) (option_map (mesh_from room) current)
+    → option_map (mesh_from (room ++ piece)) current ≡ option_map (λ mesh. longer mesh piece) (option_map (mesh_from room) current)
 mesh_from-append room piece None within = refl
 mesh_from-append room piece (Some heading) within = rw (drop-append-le heading.start room piece (within heading refl))
 
 pub mesh_from-grown : (room piece now : List ℕ) (current : Option Heading) (size : ℕ) → now ≡ room ++ piece → size ≡ length room → StartsWithin current size
-  → option_map (mesh_from now) current ≡ option_map (λ mesh. longer mesh piece) (option_map (mesh_from room) current)
+    → option_map (mesh_from now) current ≡ option_map (λ mesh. longer mesh piece) (option_map (mesh_from room) current)
 mesh_from-grown room piece now current size grown all within =
     rw grown (mesh_from-append room piece current (subst (λ (n : ℕ). StartsWithin current n) all within))
 
@@ -45,8 +45,8 @@ nat_lt-suc i n = elim (cases_lt i n) [ inl below ↦ grind (arith, nat_tests) | 
 
 -- a mesh is finished exactly where its place is one of the finished meshes
 finished_at : (room : List ℕ) (done : List Placed) (current : Option Heading) (i : ℕ)
-  → i < length (map (mesh_at room) done ++ option_to_list (option_map (mesh_from room) current))
-  → option_map (λ mesh. mesh.finished) (slice_get (map (mesh_at room) done ++ option_to_list (option_map (mesh_from room) current)) i)
+    → i < length (map (mesh_at room) done ++ option_to_list (option_map (mesh_from room) current))
+    → option_map (λ mesh. mesh.finished) (slice_get (map (mesh_at room) done ++ option_to_list (option_map (mesh_from room) current)) i)
     ≡ Some (nat_lt i (length done))
 finished_at room [] None i within = absurd (omega arith)
 finished_at room [] (Some heading) zero within = refl
@@ -55,7 +55,7 @@ finished_at room (placed ∷ done) current zero within = grind (arith, nat_tests
 finished_at room (placed ∷ done) current (suc i) within = finished_at room done current i (omega arith) ∙ ap Some (nat_lt-suc i (length done))
 
 pub finished-place : (room : List ℕ) (done : List Placed) (current : Option Heading) (meshes : List Mesh) (i count : ℕ)
-  → map (mesh_at room) done ++ option_to_list (option_map (mesh_from room) current) ≡ meshes → count ≡ length done → i < length meshes
-  → option_map (λ mesh. mesh.finished) (slice_get meshes i) ≡ Some (nat_lt i count)
+    → map (mesh_at room) done ++ option_to_list (option_map (mesh_from room) current) ≡ meshes → count ≡ length done → i < length meshes
+    → option_map (λ mesh. mesh.finished) (slice_get meshes i) ≡ Some (nat_lt i count)
 finished-place room done current meshes i count are all within =
     rw (← are, all) (finished_at room done current i (rw are within))

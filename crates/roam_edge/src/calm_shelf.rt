@@ -63,7 +63,8 @@ impl<'a> CalmShelf<'a> {
     pub fn with_file(mut self, name: &'a str, bytes: &'a [u8]) -> CalmShelf<'a>
         requires { length self.files < 4 }
         ensures { result ≡ record self.entry {
-            files = self.entry.files ++ record { name = name.now; bytes = bytes.now } ∷ [] } }
+          files = self.entry.files ++ record { name = name.now; bytes = bytes.now } ∷ [];
+        } }
     {
         self.files[self.count] = CalmFile { name, bytes };
         self.count += 1;

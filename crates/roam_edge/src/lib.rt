@@ -10,9 +10,12 @@
 
 mod calm_shelf;
 mod failures;
+mod file_meshes;
+mod file_shelf;
 mod mem_meshes;
 mod mem_sink;
 mod mesh_call;
+mod mesh_name;
 mod mesh_room;
 mod mesh_sink;
 mod shelf;
@@ -21,6 +24,8 @@ mod std_sink;
 
 pub use calm_shelf::CalmShelf;
 pub use failures::{Failed, NoMemory};
+pub use file_meshes::FileMeshes;
+pub use file_shelf::FileShelf;
 pub use mem_meshes::MemMeshes;
 pub use mem_sink::MemSink;
 pub use mesh_call::MeshCall;

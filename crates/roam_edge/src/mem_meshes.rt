@@ -38,17 +38,24 @@ impl Model for MemMeshes {
     ghost Value = { KeptMeshes };
 
     ghost view = { λ s. record {
-        done = map (mesh_at s.room.items) s.done.items;
-        current = option_map (mesh_from s.room.items) s.current;
-        mesh_room = s.mesh_room; byte_room = s.byte_room; fails = s.fails.items;
-        begins = s.begins; writes = s.writes; finishes = s.finishes; faults = s.faults } };
+      done = map (mesh_at s.room.items) s.done.items;
+      current = option_map (mesh_from s.room.items) s.current;
+      mesh_room = s.mesh_room;
+      byte_room = s.byte_room;
+      fails = s.fails.items;
+      begins = s.begins;
+      writes = s.writes;
+      finishes = s.finishes;
+      faults = s.faults;
+    } };
 
     ghost invariant = { λ s. record {
-        places : s.mesh_room + length (option_to_list s.current) + vec_len s.done ≤ vec_capacity s.done;
-        few : s.mesh_room + length (option_to_list s.current) + vec_len s.done < 2 ^ 32;
-        bytes : s.byte_room + vec_len s.room ≤ vec_capacity s.room;
-        done_within : LieWithin s.done.items (vec_len s.room);
-        current_within : StartsWithin s.current (vec_len s.room) } };
+      places : s.mesh_room + length (option_to_list s.current) + vec_len s.done ≤ vec_capacity s.done;
+      few : s.mesh_room + length (option_to_list s.current) + vec_len s.done < 2 ^ 32;
+      bytes : s.byte_room + vec_len s.room ≤ vec_capacity s.room;
+      done_within : LieWithin s.done.items (vec_len s.room);
+      current_within : StartsWithin s.current (vec_len s.room);
+    } };
 }
 
 impl MemMeshes {
@@ -61,8 +68,17 @@ impl MemMeshes {
         bytes: u64,
     ) -> Result<MemMeshes, NoMemory>
         requires { bytes ≤ 2 ^ 32 }
-        ensures { IfOk result (λ sink. sink ≡ record { done = []; current = None; mesh_room = meshes;
-            byte_room = bytes; fails = fails.now; begins = 0; writes = 0; finishes = 0; faults = 0 }) }
+        ensures { IfOk result (λ sink. sink ≡ record {
+          done = [];
+          current = None;
+          mesh_room = meshes;
+          byte_room = bytes;
+          fails = fails.now;
+          begins = 0;
+          writes = 0;
+          finishes = 0;
+          faults = 0;
+        }) }
     {
         Ok(MemMeshes {
             room: Vec::with_capacity(alloc, bytes as usize)?,

@@ -5,12 +5,12 @@ use Rattle.roam_edge.proofs.std_sink.write_all.Goals as goal
 pub loop-done-preserved : goal.loop-done-preserved
 loop-done-preserved g c = record {
   within =
-    let short = c.in-Ok.ensures.size.1 in
-    omega (arith, short, length-take (length c.args.piece.now - c.loop-done.done) (drop c.loop-done.done c.args.piece.now), length-drop c.loop-done.done c.args.piece.now);
+      let short = c.in-Ok.ensures.size.1 in
+      omega (arith, short, length-take (length c.args.piece.now - c.loop-done.done) (drop c.loop-done.done c.args.piece.now), length-drop c.loop-done.done c.args.piece.now);
   unchanged = search rules;
   handed = λ all told.
-    told_more _ all c.args.piece.now c.loop-done.done c.in-Ok.count
-    (c.in-Ok.ensures.bytes.ok (all ++ take c.loop-done.done c.args.piece.now) (c.loop-done.invariant.handed all told));
+      told_more _ all c.args.piece.now c.loop-done.done c.in-Ok.count
+      (c.in-Ok.ensures.bytes.ok (all ++ take c.loop-done.done c.args.piece.now) (c.loop-done.invariant.handed all told));
 }
 
 pub returns-in-Err-clause-bytes : goal.returns-in-Err-clause-bytes
@@ -19,6 +19,6 @@ returns-in-Err-clause-bytes g c = record {
   failed = λ all told. (
     take c.loop-done.done c.args.piece.now,
     record { back = drop c.loop-done.done c.args.piece.now; joined = sym (take-append-drop c.loop-done.done c.args.piece.now) },
-    c.in-Err.ensures.bytes.failed (all ++ take c.loop-done.done c.args.piece.now) (c.loop-done.invariant.handed all told)
+    c.in-Err.ensures.bytes.failed (all ++ take c.loop-done.done c.args.piece.now) (c.loop-done.invariant.handed all told),
   );
 }
