@@ -21,6 +21,8 @@ mod mesh_sink;
 mod shelf;
 mod sink;
 mod std_sink;
+#[cfg(test)]
+mod tests;
 
 pub use calm_shelf::CalmShelf;
 pub use failures::{Failed, NoMemory};

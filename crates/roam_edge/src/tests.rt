@@ -1,0 +1,216 @@
+//! Tests of each implementation through its trait, and of the adapters on real files.
+
+ghost use Rattle.std.specs.Prelude.{◌≡◌, ◌<◌, ◌≤◌, ◌^◌, false, length};
+
+use crate::{
+    CalmShelf, Failed, FileMeshes, FileShelf, MemMeshes, MemSink, MeshCall, MeshSink, Shelf, Sink,
+    StdSink,
+};
+use std::alloc::AllocError;
+use std::io::Write;
+use std::path::PathBuf;
+use std::test::Fail;
+use std::{env, fs, io, process};
+
+/// Opens a file by name and reads once.
+fn read_front<F: Shelf>(shelf: &mut F, name: &str, buf: &mut [u8]) -> Result<usize, Failed>
+    requires { 0 < length buf.old }
+{
+    shelf.open_named(name)?;
+    shelf.read(buf)
+}
+
+/// A mesh of two pieces.
+fn put_mesh<M: MeshSink>(meshes: &mut M, prefix: &str, number: u32) -> Result<(), Failed>
+    requires idle { M.under_way meshes.old ≡ false }
+    requires prefix_some { 0 < length prefix.now }
+    requires prefix_short { length prefix.now ≤ 200 }
+    requires number_low { 1 ≤ number }
+    requires number_high { number ≤ 999999 }
+{
+    meshes.begin(prefix, number)?;
+    meshes.write(b"v 0 0 0\n")?;
+    meshes.write(b"f 1 1 1\n")?;
+    meshes.finish()
+}
+
+/// Two pieces in a row.
+fn put_lines<S: Sink>(sink: &mut S) -> Result<(), Failed> {
+    sink.write(b"frame 1\n")?;
+    sink.write(b"frame 2\n")
+}
+
+/// A folder of its own for one test.
+fn make_folder(rt: &HostRuntime, name: &str) -> io::Result<PathBuf> {
+    let id = process::id(rt.process());
+    let folder = format!(in rt.alloc(); "roam-edge-{name}-{id}")?;
+    let path = env::temp_dir(rt)?.join(rt.alloc(), folder.as_str())?;
+    fs::create_dir(rt, path.as_path())?;
+    Ok(path)
+}
+
+#[test]
+fn a_calm_shelf_gives_the_first_file_of_a_name(rt: HostRuntime) -> Result<(), Fail> {
+    let mut shelf = CalmShelf::new()
+        .with_file("g", b"grid")
+        .with_file("s", b"frame\n")
+        .with_file("g", b"other");
+    let cases = [("g", "grid"), ("s", "frame\n"), ("none", "")];
+    for (name, want) in cases {
+        let mut buf = [0u8; 8];
+        let count = read_front(&mut shelf, name, &mut buf)?;
+        assert_eq!(rt; count, want.len(), "{name}");
+        if count <= 8 {
+            assert_eq!(rt; &buf[..count], want.as_bytes(), "{name}");
+        }
+    }
+    Ok(())
+}
+
+#[test]
+fn a_sink_in_memory_fails_where_it_is_told(rt: HostRuntime) -> Result<(), Fail> {
+    let cases = [
+        (0, 16, true, "frame 1\nframe 2\n"),
+        (1, 16, false, ""),
+        (2, 16, false, "frame 1\n"),
+        (3, 16, true, "frame 1\nframe 2\n"),
+        (0, 15, false, "frame 1\n"),
+        (0, 7, false, ""),
+    ];
+    for (fails, room, answer, want) in cases {
+        let mut sink = MemSink::new(rt.alloc(), &[fails], room).map_err(|_| AllocError)?;
+        assert_eq!(rt; put_lines(&mut sink).is_ok(), answer, "{fails} {room}");
+        assert_eq!(rt; sink.bytes(), want.as_bytes(), "{fails} {room}");
+    }
+    Ok(())
+}
+
+#[test]
+fn a_mesh_sink_in_memory_fails_where_it_is_told(rt: HostRuntime) -> Result<(), Fail> {
+    let whole = "v 0 0 0\nf 1 1 1\n";
+    let cases = [
+        (MeshCall::Begin(2), 1, 16, 1, whole, true),
+        (MeshCall::Begin(1), 1, 16, 0, "", false),
+        (MeshCall::Write(1), 1, 16, 1, "", false),
+        (MeshCall::Write(2), 1, 16, 1, "v 0 0 0\n", false),
+        (MeshCall::Finish(1), 1, 16, 1, whole, false),
+        (MeshCall::Finish(2), 0, 16, 0, "", false),
+        (MeshCall::Finish(2), 1, 15, 1, "v 0 0 0\n", false),
+    ];
+    for (call, most, room, count, bytes, finished) in cases {
+        let mut meshes = MemMeshes::new(rt.alloc(), &[call], most, room).map_err(|_| AllocError)?;
+        assert_eq!(rt;
+            put_mesh(&mut meshes, "out", 7).is_ok(),
+            finished,
+            "{call:?}"
+        );
+        assert_eq!(rt; meshes.count(), count, "{call:?}");
+        if meshes.count() == 1 {
+            assert_eq!(rt; meshes.prefix(0), "out");
+            assert_eq!(rt; meshes.number(0), 7);
+            assert_eq!(rt; meshes.bytes(0), bytes.as_bytes(), "{call:?}");
+            assert_eq!(rt; meshes.finished(0), finished, "{call:?}");
+        }
+    }
+    Ok(())
+}
+
+#[test]
+fn a_shelf_of_real_files_reads_them(rt: HostRuntime) -> Result<(), Fail> {
+    let folder = make_folder(&rt, "shelf")?;
+    let file = folder.join(rt.alloc(), "script")?;
+    let none = folder.join(rt.alloc(), "none")?;
+    fs::write(&rt, file.as_path(), "frame\n")?;
+    let mut buf = [0u8; 8];
+    let mut shelf = FileShelf::new(&rt);
+    let read = read_front(&mut shelf, file.as_path().as_str(), &mut buf);
+    let missing = shelf.open_named(none.as_path().as_str());
+    let a_folder = read_front(&mut shelf, folder.as_path().as_str(), &mut [0u8; 8]);
+    fs::remove_dir_all(&rt, folder.as_path())?;
+    assert_eq!(rt; read, Ok(6));
+    assert_eq!(rt; &buf, b"frame\n\0\0");
+    assert_eq!(rt; missing, Err(Failed));
+    assert_eq!(rt; a_folder, Err(Failed));
+    Ok(())
+}
+
+#[test]
+fn a_mesh_sink_over_real_files_names_and_fills_them(rt: HostRuntime) -> Result<(), Fail> {
+    let folder = make_folder(&rt, "meshes")?;
+    let prefix = folder.join(rt.alloc(), "out")?;
+    let name = folder.join(rt.alloc(), "out000042.obj")?;
+    let lost = folder.join(rt.alloc(), "none/out")?;
+    let mut meshes = FileMeshes::new(&rt);
+    let put = put_at(&mut meshes, prefix.as_path().as_str(), 42);
+    let bytes = fs::read(&rt, name.as_path());
+    let mut others = FileMeshes::new(&rt);
+    let not_put = put_at(&mut others, lost.as_path().as_str(), 1);
+    fs::remove_dir_all(&rt, folder.as_path())?;
+    assert_eq!(rt; put, Ok(()));
+    assert_eq!(rt; bytes?.as_slice(), b"v 0 0 0\nf 1 1 1\n".as_slice());
+    assert_eq!(rt; not_put, Err(Failed));
+    Ok(())
+}
+
+/// A mesh under a path, of which nothing else is known.
+fn put_at<M: MeshSink>(meshes: &mut M, prefix: &str, number: u32) -> Result<(), Failed>
+    requires idle { M.under_way meshes.old ≡ false }
+    requires number_low { 1 ≤ number }
+    requires number_high { number ≤ 999999 }
+{
+    if prefix.is_empty() || prefix.len() > 200 {
+        return Err(Failed);
+    }
+    put_mesh(meshes, prefix, number)
+}
+
+#[test]
+fn a_sink_over_a_real_file_fills_it(rt: HostRuntime) -> Result<(), Fail> {
+    let folder = make_folder(&rt, "sink")?;
+    let name = folder.join(rt.alloc(), "report")?;
+    let mut sink = StdSink::new(fs::create(&rt, name.as_path())?);
+    let put = put_lines(&mut sink);
+    let bytes = fs::read(&rt, name.as_path());
+    fs::remove_dir_all(&rt, folder.as_path())?;
+    assert_eq!(rt; put, Ok(()));
+    assert_eq!(rt; bytes?.as_slice(), b"frame 1\nframe 2\n".as_slice());
+    Ok(())
+}
+
+/// A writer that takes at most three bytes at once, and nothing once it is full.
+struct Narrow {
+    taken: Vec<u8>,
+    room: usize,
+}
+
+impl Write for Narrow {
+    fn write(&mut self, buf: &[u8]) -> io::Result<usize> {
+        let count = buf.len().min(3).min(self.room);
+        self.taken.extend_from_slice(&buf[..count])?;
+        self.room -= count;
+        Ok(count)
+    }
+
+    fn flush(&mut self) -> io::Result<()> {
+        Ok(())
+    }
+}
+
+#[test]
+fn a_sink_hands_over_short_writes_and_fails_at_a_full_writer(rt: HostRuntime) -> Result<(), Fail> {
+    for (room, answer, want) in [
+        (16, true, "frame 1\nframe 2\n"),
+        (13, false, "frame 1\nframe"),
+    ] {
+        let mut narrow = Narrow {
+            taken: Vec::new(rt.alloc()),
+            room,
+        };
+        let put = put_lines(&mut StdSink::new(&mut narrow));
+        assert_eq!(rt; put.is_ok(), answer, "{room}");
+        assert_eq!(rt; narrow.taken.as_slice(), want.as_bytes(), "{room}");
+        let Narrow { taken, room: _ } = narrow;
+        drop(taken);
+    }
+    Ok(())
+}
