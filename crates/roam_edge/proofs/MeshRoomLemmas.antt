@@ -1,5 +1,5 @@
 -- Lemmas on meshes that lie one after the other in a room of bytes.
-use Rattle.std.proofs.Common.{◌≡◌, ℕ, zero, suc, ◌-◌, ◌<◌, ◌≤◌, nat_lt, inl, inr, slice_get, option_to_list, List, [], ◌∷◌, ◌++◌, length, take, drop, Option, Some, None, option_map, ap, refl, arith, sym, subst, ◌∙◌, map, length-drop}
+use Rattle.std.proofs.Common.{◌≡◌, ℕ, zero, suc, ◌-◌, ◌<◌, ◌≤◌, nat_lt, inl, inr, slice_get, option_to_list, List, [], ◌∷◌, ◌++◌, length, drop, Option, Some, None, option_map, ap, refl, arith, subst, ◌∙◌, map, length-drop}
 use Rattle.std.specs.Prelude.{slice_range}
 use Rattle.std.proofs.lemmas.Bool.{cases_lt}
 use Rattle.std.proofs.lemmas.Bool.Decides.{nat_tests}

@@ -1,6 +1,5 @@
 -- A shelf of borrowed files that never fails: what contracts see of it. This project's own words.
-use Rattle.std.specs.Prelude.{ℕ, Bool, List, map}
-use Rattle.std.specs.Borrow.{Bor}
+use Rattle.std.specs.Prelude.{ℕ, Bool, List}
 use Rattle.roam_edge.specs.Shelf.{NamedFile}
 use Rattle.roam_edge.specs.declared.calm_shelf.CalmFile.{CalmFile}
 

@@ -1,6 +1,6 @@
 -- A sink of meshes in memory: what contracts see of it, and where a call of it fails.
 -- This project's own words.
-use Rattle.std.specs.Prelude.{◌≡◌, ℕ, ◌-◌, ◌≤◌, Bool, false, true, List, ◌++◌, map, length, drop, slice_range, Option, Some, None, option_map, option_to_list, nat_lt, ◌==◌, ◌||◌, if◌then◌else◌}
+use Rattle.std.specs.Prelude.{ℕ, ◌-◌, Bool, false, List, ◌++◌, map, length, Option, Some, None, option_map, option_to_list, nat_lt, ◌==◌, ◌||◌, if◌then◌else◌}
 use Rattle.std.specs.List.{list_any}
 use Rattle.roam_edge.specs.Fault.{next_count}
 use Rattle.roam_edge.specs.MeshSink.{Mesh, begun, longer, closed}

@@ -6,7 +6,6 @@ use crate::{
     CalmShelf, Failed, FileMeshes, FileShelf, MemMeshes, MemSink, MeshCall, MeshSink, Shelf, Sink,
     StdSink,
 };
-use std::alloc::AllocError;
 use std::io::Write;
 use std::path::PathBuf;
 use std::test::Fail;
@@ -78,7 +77,7 @@ fn a_sink_in_memory_fails_where_it_is_told(rt: HostRuntime) -> Result<(), Fail> 
         (0, 7, false, ""),
     ];
     for (fails, room, answer, want) in cases {
-        let mut sink = MemSink::new(rt.alloc(), &[fails], room).map_err(|_| AllocError)?;
+        let mut sink = MemSink::new(rt.alloc(), &[fails], room)?;
         assert_eq!(rt; put_lines(&mut sink).is_ok(), answer, "{fails} {room}");
         assert_eq!(rt; sink.bytes(), want.as_bytes(), "{fails} {room}");
     }
@@ -98,7 +97,7 @@ fn a_mesh_sink_in_memory_fails_where_it_is_told(rt: HostRuntime) -> Result<(), F
         (MeshCall::Finish(2), 1, 15, 1, "v 0 0 0\n", false),
     ];
     for (call, most, room, count, bytes, finished) in cases {
-        let mut meshes = MemMeshes::new(rt.alloc(), &[call], most, room).map_err(|_| AllocError)?;
+        let mut meshes = MemMeshes::new(rt.alloc(), &[call], most, room)?;
         assert_eq!(rt;
             put_mesh(&mut meshes, "out", 7).is_ok(),
             finished,

@@ -1,4 +1,4 @@
-use Rattle.std.proofs.Common.{rules, arith, ◌≡◌, ◌≤◌, ℕ, ◌+◌, ◌-◌, ◌++◌, List, length, take, drop, Some, sym, length-take, length-drop, take-append-drop}
+use Rattle.std.proofs.Common.{rules, arith, ◌-◌, ◌++◌, length, take, drop, sym, length-take, length-drop, take-append-drop}
 use Rattle.roam_edge.proofs.SinkLemmas.{told_more}
 use Rattle.roam_edge.proofs.std_sink.write_all.Goals as goal
 
