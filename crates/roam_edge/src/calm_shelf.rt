@@ -23,7 +23,7 @@ struct CalmFile<'a> {
 /// A name that is not there stands for a file without bytes.
 #[derive(Drop)]
 pub struct CalmShelf<'a> {
-    files: [CalmFile<'a>; 4],
+    files: [CalmFile<'a>; MOST_FILES],
     count: usize,
     unread: &'a [u8],
     opens: u64,
@@ -36,7 +36,12 @@ impl<'a> Model for CalmShelf<'a> {
 
     ghost Value = { CalmFiles };
 
-    ghost view = { λ s. record { files = map file_of (take s.count s.files); unread = s.unread.now; opens = s.opens; ended = s.ended } };
+    ghost view = { λ s. record {
+      files = map file_of (take s.count s.files);
+      unread = s.unread.now;
+      opens = s.opens;
+      ended = s.ended;
+    } };
 
     ghost invariant = { λ s. (s.count ≤ 4) × (length s.files ≡ 4) };
 }
@@ -85,7 +90,8 @@ impl<'a> Shelf for CalmShelf<'a> {
 
     fn open_named(&mut self, name: &str) -> Result<(), Failed>
         ensures ok { IsOk result }
-        ensures opened { Opens (Some self.old.files) (Some self.old.unread) (Some self.new.unread) name.now result }
+        ensures opened { Opens (Some self.old.files) (Some self.old.unread) (Some self.new.unread)
+            name.now result }
         ensures ends { self.new.ended ≡ is_err result }
         ensures count { self.new.opens ≡ next_count self.old.opens }
         ensures others { Some self.new.files ≡ Some self.old.files }

@@ -50,7 +50,8 @@ impl Model for MemMeshes {
     } };
 
     ghost invariant = { λ s. record {
-      places : s.mesh_room + length (option_to_list s.current) + vec_len s.done ≤ vec_capacity s.done;
+      places : s.mesh_room + length (option_to_list s.current) + vec_len s.done
+          ≤ vec_capacity s.done;
       few : s.mesh_room + length (option_to_list s.current) + vec_len s.done < 2 ^ 32;
       bytes : s.byte_room + vec_len s.room ≤ vec_capacity s.room;
       done_within : LieWithin s.done.items (vec_len s.room);
@@ -108,7 +109,8 @@ impl MemMeshes {
     /// The prefix of a mesh, by its place in the order of `begin`, counted from 0.
     pub fn prefix(&self, i: u64) -> &str
         requires { i < length (all_meshes self.now) }
-        ensures { option_map (λ mesh. mesh.prefix) (slice_get (all_meshes self.now) i) ≡ Some result.now }
+        ensures { option_map (λ mesh. mesh.prefix) (slice_get (all_meshes self.now) i)
+            ≡ Some result.now }
     {
         self.heading(i as usize).prefix.as_str()
     }
@@ -116,7 +118,8 @@ impl MemMeshes {
     /// The number of a mesh, by its place.
     pub fn number(&self, i: u64) -> u32
         requires { i < length (all_meshes self.now) }
-        ensures { option_map (λ mesh. mesh.number) (slice_get (all_meshes self.now) i) ≡ Some result }
+        ensures { option_map (λ mesh. mesh.number) (slice_get (all_meshes self.now) i)
+            ≡ Some result }
     {
         self.heading(i as usize).number
     }
@@ -124,7 +127,8 @@ impl MemMeshes {
     /// The bytes of a mesh so far, by its place.
     pub fn bytes(&self, i: u64) -> &[u8]
         requires { i < length (all_meshes self.now) }
-        ensures { option_map (λ mesh. mesh.bytes) (slice_get (all_meshes self.now) i) ≡ Some result.now }
+        ensures { option_map (λ mesh. mesh.bytes) (slice_get (all_meshes self.now) i)
+            ≡ Some result.now }
     {
         let i = i as usize;
         if i < self.done.len() {
@@ -140,7 +144,8 @@ impl MemMeshes {
     /// Whether a mesh is finished, by its place.
     pub fn finished(&self, i: u64) -> bool
         requires { i < length (all_meshes self.now) }
-        ensures { option_map (λ mesh. mesh.finished) (slice_get (all_meshes self.now) i) ≡ Some result }
+        ensures { option_map (λ mesh. mesh.finished) (slice_get (all_meshes self.now) i)
+            ≡ Some result }
     {
         (i as usize) < self.done.len()
     }
@@ -180,7 +185,8 @@ impl MeshSink for MemMeshes {
         requires number_high { number ≤ 999999 }
         ensures fails { is_err result ≡ begin_fails self.old }
         ensures after { self.new ≡ after_begin self.old prefix.now number }
-        ensures mesh { Begins (Some (all_meshes self.old)) (Some (all_meshes self.new)) prefix.now number result }
+        ensures mesh { Begins (Some (all_meshes self.old)) (Some (all_meshes self.new))
+            prefix.now number result }
         ensures under_way { is_some self.new.current ≡ is_ok result }
         ensures faults { HasCause self.old.faults self.new.faults result }
     {
@@ -205,7 +211,8 @@ impl MeshSink for MemMeshes {
         requires { is_some self.old.current ≡ true }
         ensures fails { is_err result ≡ write_fails self.old piece.now }
         ensures after { self.new ≡ after_write self.old piece.now }
-        ensures mesh { Writes (Some (all_meshes self.old)) (Some (all_meshes self.new)) piece.now result }
+        ensures mesh { Writes (Some (all_meshes self.old)) (Some (all_meshes self.new))
+            piece.now result }
         ensures under_way { is_some self.new.current ≡ is_some self.old.current }
         ensures faults { HasCause self.old.faults self.new.faults result }
     {

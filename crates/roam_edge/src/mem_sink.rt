@@ -28,7 +28,13 @@ impl Model for MemSink {
 
     ghost Value = { KeptBytes };
 
-    ghost view = { λ s. record { contents = s.kept.items; room = s.room; fails = s.fails.items; writes = s.writes; faults = s.faults } };
+    ghost view = { λ s. record {
+      contents = s.kept.items;
+      room = s.room;
+      fails = s.fails.items;
+      writes = s.writes;
+      faults = s.faults;
+    } };
 
     ghost invariant = { λ s. s.room + vec_len s.kept ≤ vec_capacity s.kept };
 }
