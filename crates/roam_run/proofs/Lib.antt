@@ -1,0 +1,6 @@
+pub mod ActLemmas
+pub mod LineLemmas
+pub mod StepLemmas
+pub mod ReadingLemmas
+pub mod ScriptReading
+pub mod TextLemmas

@@ -1,0 +1,81 @@
+-- A grid that is read from a shelf, piece by piece.
+use Rattle.std.proofs.Common.{◌≡◌, ◌≢◌, ℕ, ◌+◌, ◌≤◌, ◌↔◌, List, [], ◌∷◌, ◌++◌, length, take, drop, Option, Some, Result, Ok, Err, refl, sym, ◌∙◌, ap, subst, append_assoc, append-nil}
+use Rattle.std.proofs.Math.Seq.{take-append_seam}
+use Rattle.std.proofs.lemmas.List.{take-append-drop, length-take-le}
+use Rattle.mesh_defs.specs.HeightField.{HeightField}
+use Rattle.roam_edge.specs.Shelf.{NamedFile, bytes_of}
+use Rattle.pgm_grid.specs.declared.fault.PgmFault.{PgmFault}
+use Rattle.pgm_grid.specs.declared.fault.PgmFault.TheVariants.{BadMagic, BadHeader, HeaderTooLong, BadMaxval, NotSquare, BadSide, Truncated, BadSample, AboveMaxval, Trailing, NoMemory, TooLong}
+use Rattle.pgm_grid.specs.Progress.{Progress, grid_of, resume}
+use Rattle.roam_run.specs.declared.grid_file.GridStop.TheVariants as stop
+use Rattle.roam_run.specs.GridStop.{stop_for}
+
+-- The reader has taken some bytes, and where the shelf tells its files, these are the front of the named
+-- file, whose other bytes are unread.
+pub record IsReading (files : Option (List NamedFile)) (rest : Option (List ℕ)) (name : List ℕ) (reader : Progress) : Type 0 where
+  pub bytes : List ℕ
+  pub means : (more : List ℕ) → resume reader more ≡ grid_of (bytes ++ more)
+  pub told : (all : List NamedFile) → files ≡ Some all →
+      (unread : List ℕ) × (rest ≡ Some unread) × (bytes_of all name ≡ bytes ++ unread)
+
+-- nothing was taken of a file that was just opened
+pub reading-begin : (files : Option (List NamedFile)) (rest : Option (List ℕ)) (name : List ℕ) (reader : Progress)
+    → ((more : List ℕ) → resume reader more ≡ grid_of more)
+    → ((all : List NamedFile) → files ≡ Some all → rest ≡ Some (bytes_of all name))
+    → IsReading files rest name reader
+reading-begin files rest name reader means chosen = record {
+    bytes = [];
+    means = means;
+    told = λ all is. (bytes_of all name, chosen all is, refl);
+  }
+
+-- the front of a buffer into which a read put the first unread bytes
+pub front-read : (count : ℕ) (unread old : List ℕ) → count ≤ length unread
+    → take count (take count unread ++ drop count old) ≡ take count unread
+front-read count unread old within =
+    ap (λ k. take k (take count unread ++ drop count old)) (sym (length-take-le count unread within))
+    ∙ take-append_seam (take count unread) (drop count old)
+
+-- a piece was read and taken
+pub reading-more : (files : Option (List NamedFile)) (rest rest' : Option (List ℕ)) (name piece : List ℕ) (count : ℕ) (reader next : Progress)
+    → IsReading files rest name reader
+    → ((unread : List ℕ) → rest ≡ Some unread → rest' ≡ Some (drop count unread))
+    → ((unread : List ℕ) → rest ≡ Some unread → piece ≡ take count unread)
+    → ((more : List ℕ) → resume reader (piece ++ more) ≡ resume next more)
+    → IsReading files rest' name next
+reading-more files rest rest' name piece count reader next reading takes gives goes_on = record {
+    bytes = reading.bytes ++ piece;
+    means = λ more. sym (goes_on more) ∙ reading.means (piece ++ more) ∙ ap grid_of (sym (append_assoc reading.bytes piece more));
+    told = λ all is.
+        let here = reading.told all is in
+        (drop count here.0, takes here.0 here.1,
+         here.2 ∙ ap (λ m. reading.bytes ++ m) (sym (take-append-drop count here.0) ∙ ap (λ m. m ++ drop count here.0) (sym (gives here.0 here.1)))
+         ∙ sym (append_assoc reading.bytes piece (drop count here.0)));
+  }
+
+-- a piece was read, and the reader refuses it
+pub reading-refused : (files : Option (List NamedFile)) (rest : Option (List ℕ)) (name piece : List ℕ) (count : ℕ) (reader : Progress) (fault : PgmFault)
+    → IsReading files rest name reader
+    → ((unread : List ℕ) → rest ≡ Some unread → piece ≡ take count unread)
+    → ((more : List ℕ) → resume reader (piece ++ more) ≡ Err fault)
+    → (all : List NamedFile) → files ≡ Some all → grid_of (bytes_of all name) ≡ Err fault
+reading-refused files rest name piece count reader fault reading gives refusal all is =
+    let here = reading.told all is in
+    ap grid_of (here.2 ∙ ap (λ m. reading.bytes ++ m) (sym (take-append-drop count here.0) ∙ ap (λ m. m ++ drop count here.0) (sym (gives here.0 here.1))))
+    ∙ sym (reading.means (piece ++ drop count here.0))
+    ∙ refusal (drop count here.0)
+
+-- a refusal that is not want of memory is that of the reader
+pub stop_for-refused : (found fault : PgmFault) → stop_for found ≡ stop.Refused fault → (found ≡ fault) × (found ≢ NoMemory)
+stop_for-refused BadMagic fault is = (cc, λ e. cc)
+stop_for-refused (BadHeader place) fault is = (cc, λ e. cc)
+stop_for-refused HeaderTooLong fault is = (cc, λ e. cc)
+stop_for-refused BadMaxval fault is = (cc, λ e. cc)
+stop_for-refused NotSquare fault is = (cc, λ e. cc)
+stop_for-refused BadSide fault is = (cc, λ e. cc)
+stop_for-refused Truncated fault is = (cc, λ e. cc)
+stop_for-refused (BadSample place) fault is = (cc, λ e. cc)
+stop_for-refused (AboveMaxval place) fault is = (cc, λ e. cc)
+stop_for-refused (Trailing place) fault is = (cc, λ e. cc)
+stop_for-refused NoMemory fault is = absurd cc
+stop_for-refused TooLong fault is = (cc, λ e. cc)

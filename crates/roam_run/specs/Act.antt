@@ -1,0 +1,70 @@
+-- What a run does to the outside: a list of acts, each a whole mesh or a line of the report.
+-- This project's own words.
+-- Words: Act, meshes_of, report_of, Told, Stands, IsPartOfMesh, StandsInPart, IsCutShort.
+use Rattle.std.specs.Prelude.{◌≡◌, ℕ, ◌⊎◌, Bool, true, false, List, [], ◌∷◌, ◌++◌, Option, Some}
+use Rattle.roam_edge.specs.MeshSink.{Mesh}
+use Rattle.roam_edge.specs.Told.{IsFront}
+
+-- a whole mesh, written and finished; or bytes at the end of the report
+pub data Act : Type 0 where
+  WholeMesh : (prefix : List ℕ) (number : ℕ) (bytes : List ℕ) → Act
+  ReportLine : (bytes : List ℕ) → Act
+
+-- the mesh of a sink with these bytes
+abbrev pub mesh_with : List ℕ → ℕ → List ℕ → Bool → Mesh
+mesh_with name count text is_finished =
+    record { prefix = name; number = count; bytes = text; finished = is_finished }
+
+-- the meshes that the acts add
+abbrev pub meshes_of : List Act → List Mesh
+meshes_of [] = []
+meshes_of (WholeMesh prefix number bytes ∷ acts) = mesh_with prefix number bytes true ∷ meshes_of acts
+meshes_of (ReportLine bytes ∷ acts) = meshes_of acts
+
+-- the bytes that the acts add to the report
+abbrev pub report_of : List Act → List ℕ
+report_of [] = []
+report_of (WholeMesh prefix number bytes ∷ acts) = report_of acts
+report_of (ReportLine bytes ∷ acts) = bytes ++ report_of acts
+
+-- what a sink of meshes and a report tell at one moment
+pub record Told : Type 0 where
+  pub meshes : Option (List Mesh)
+  pub report : Option (List ℕ)
+
+abbrev pub told : Option (List Mesh) → Option (List ℕ) → Told
+told all_meshes all_bytes = record { meshes = all_meshes; report = all_bytes }
+
+-- where it is told, this came behind what was there
+abbrev pub Grows : {A : Type 0} → Option (List A) → Option (List A) → List A → Type 0
+Grows {A} before now more = (all : List A) → before ≡ Some all → now ≡ Some (all ++ more)
+
+-- These acts were added to meshes and report, in order, and nothing else.
+pub record Stands (before now : Told) (acts : List Act) : Type 0 where
+  pub meshes_grow : Grows before.meshes now.meshes (meshes_of acts)
+  pub report_grows : Grows before.report now.report (report_of acts)
+
+-- nothing of the mesh, or an unfinished mesh with a front of its bytes
+abbrev pub IsPartOfMesh : List ℕ → ℕ → List ℕ → List Mesh → Type 0
+IsPartOfMesh prefix number bytes part =
+    (part ≡ []) ⊎ ((front : List ℕ) × IsFront front bytes × (part ≡ mesh_with prefix number front false ∷ []))
+
+-- the acts done were added, and a part of the next one
+abbrev pub StandsInPart : Told → Told → List Act → Act → Type 0
+StandsInPart before now done (WholeMesh prefix number bytes) =
+    ((all : List Mesh) → before.meshes ≡ Some all → (part : List Mesh) × IsPartOfMesh prefix number bytes part
+        × (now.meshes ≡ Some (all ++ (meshes_of done ++ part))))
+    × Grows before.report now.report (report_of done)
+StandsInPart before now done (ReportLine bytes) =
+    Grows before.meshes now.meshes (meshes_of done)
+    × ((all : List ℕ) → before.report ≡ Some all → (front : List ℕ) × IsFront front bytes
+        × (now.report ≡ Some (all ++ (report_of done ++ front))))
+
+-- The acts were cut short: some were added whole and in order, and of the next one a part. So a mesh that
+-- was finished stays, and an unfinished mesh or a cut line is a front of what was owed.
+pub record IsCutShort (before now : Told) (acts : List Act) : Type 0 where
+  pub done : List Act
+  pub next : Act
+  pub owed : List Act
+  pub in_order : acts ≡ done ++ next ∷ owed
+  pub standing : StandsInPart before now done next

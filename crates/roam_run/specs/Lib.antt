@@ -1,0 +1,11 @@
+pub mod Words
+pub mod WordView
+pub mod Act
+pub mod ReportText
+pub mod Script
+pub mod Outcome
+pub mod Cause
+pub mod Step
+pub mod Taking
+pub mod GridStop
+pub mod Promise

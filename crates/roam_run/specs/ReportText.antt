@@ -1,0 +1,39 @@
+-- The lines of the report. This project's own; each ends with one LF (10).
+use Rattle.std.specs.Prelude.{ℕ, ◌+◌, List, [], ◌∷◌, ◌++◌, codes, decimal}
+use Rattle.pgm_grid.specs.declared.fault.PgmFault.{PgmFault}
+use Rattle.pgm_grid.specs.declared.fault.PgmFault.TheVariants.{BadMagic, BadHeader, HeaderTooLong, BadMaxval, NotSquare, BadSide, Truncated, BadSample, AboveMaxval, Trailing, NoMemory, TooLong}
+use Rattle.roam_run.specs.declared.script_fault.ScriptFault.{ScriptFault}
+use Rattle.roam_run.specs.declared.script_fault.ScriptFault.TheVariants.{UnknownCommand, TooManyFrames}
+
+-- `frame K triangles 2 vertices 4`
+abbrev pub frame_line : ℕ → List ℕ
+frame_line number = codes "frame " ++ decimal number ++ codes " triangles 2 vertices 4\n"
+
+-- why a grid is refused
+abbrev pub grid_fault_text : PgmFault → List ℕ
+grid_fault_text BadMagic = codes "bad magic"
+grid_fault_text (BadHeader place) = codes "bad header at " ++ decimal place
+grid_fault_text HeaderTooLong = codes "header too long"
+grid_fault_text BadMaxval = codes "bad maxval"
+grid_fault_text NotSquare = codes "not square"
+grid_fault_text BadSide = codes "bad side"
+grid_fault_text Truncated = codes "truncated"
+grid_fault_text (BadSample place) = codes "bad sample at " ++ decimal place
+grid_fault_text (AboveMaxval index) = codes "above maxval at sample " ++ decimal index
+grid_fault_text (Trailing place) = codes "trailing byte at " ++ decimal place
+grid_fault_text NoMemory = codes "out of memory"
+grid_fault_text TooLong = codes "file too long"
+
+-- `grid refused: TEXT`
+abbrev pub grid_refusal : PgmFault → List ℕ
+grid_refusal fault = codes "grid refused: " ++ grid_fault_text fault ++ codes "\n"
+
+-- why a line of a script is refused
+abbrev pub script_fault_text : ScriptFault → List ℕ
+script_fault_text UnknownCommand = codes "unknown command"
+script_fault_text TooManyFrames = codes "too many frames"
+
+-- `line N refused: TEXT`, lines counted from 1
+abbrev pub line_refusal : ℕ → ScriptFault → List ℕ
+line_refusal number fault =
+    codes "line " ++ decimal number ++ codes " refused: " ++ script_fault_text fault ++ codes "\n"

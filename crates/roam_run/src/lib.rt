@@ -1,0 +1,15 @@
+//! The run of `roam`: from words, a shelf of files and two sinks to meshes and a report.
+
+#![tactic(auto)]
+
+mod frame;
+mod grid_file;
+mod mesh_text;
+mod report;
+mod script;
+mod script_fault;
+mod status;
+mod text;
+mod words;
+
+pub use status::{Run, Status};

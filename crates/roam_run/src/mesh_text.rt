@@ -1,0 +1,36 @@
+//! The text of the mesh of the two base triangles.
+
+ghost use Rattle.std.specs.Prelude.{◌≡◌, ◌≤◌, ◌^◌};
+ghost use Rattle.roam_run.specs.Outcome.{frame_text};
+
+use arrayvec::ArrayVec;
+use mesh_defs::base_mesh;
+use pgm_grid::Grid;
+
+use crate::text::{Text, push_numbers};
+
+/// The text of a frame's mesh: the four corners of the square, and the two base triangles.
+pub(crate) fn text_of(grid: &Grid) -> Text
+    ensures { result.items ≡ frame_text grid.now }
+{
+    let n = grid.n();
+    base_mesh(n);
+    let end = last_coordinate(n);
+    let far = u64::from(end);
+    let mut text = ArrayVec::new();
+    push_numbers(&mut text, b'v', 0, 0, u64::from(grid.height(0, 0)));
+    push_numbers(&mut text, b'v', far, 0, u64::from(grid.height(end, 0)));
+    push_numbers(&mut text, b'v', 0, far, u64::from(grid.height(0, end)));
+    push_numbers(&mut text, b'v', far, far, u64::from(grid.height(end, end)));
+    push_numbers(&mut text, b'f', 1, 2, 3);
+    push_numbers(&mut text, b'f', 4, 3, 2);
+    text
+}
+
+/// The greatest coordinate of a grid with this n.
+fn last_coordinate(n: u32) -> u32
+    requires { n ≤ 11 }
+    ensures { result ≡ 2 ^ n }
+{
+    1 << n
+}
