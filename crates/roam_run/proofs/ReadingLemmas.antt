@@ -6,7 +6,11 @@ use Rattle.mesh_defs.specs.HeightField.{HeightField}
 use Rattle.roam_edge.specs.Shelf.{NamedFile, bytes_of}
 use Rattle.pgm_grid.specs.declared.fault.PgmFault.{PgmFault}
 use Rattle.pgm_grid.specs.declared.fault.PgmFault.TheVariants.{BadMagic, BadHeader, HeaderTooLong, BadMaxval, NotSquare, BadSide, Truncated, BadSample, AboveMaxval, Trailing, NoMemory, TooLong}
-use Rattle.pgm_grid.specs.Progress.{Progress, grid_of, resume}
+use Rattle.std.proofs.lemmas.Result.{IfErr-at_err}
+use Rattle.pgm_grid.specs.Laws.{OthersAreAbsent, IsRefusal}
+use Rattle.pgm_grid.specs.PgmText.{raster_of}
+use Rattle.pgm_grid.specs.Progress.{Progress, grid_of, resume, IsSettled, EndsHeader}
+use Rattle.roam_run.specs.Promise.{BeginsWithHeader}
 use Rattle.roam_run.specs.declared.grid_file.GridStop.TheVariants as stop
 use Rattle.roam_run.specs.GridStop.{stop_for}
 
@@ -79,3 +83,47 @@ stop_for-refused (AboveMaxval place) fault is = (cc, λ e. cc)
 stop_for-refused (Trailing place) fault is = (cc, λ e. cc)
 stop_for-refused NoMemory fault is = absurd cc
 stop_for-refused TooLong fault is = (cc, λ e. cc)
+
+-- a refusal that is want of memory is that of the reader
+pub stop_for-memory : (found : PgmFault) → stop_for found ≡ stop.NoMemory → found ≡ NoMemory
+stop_for-memory BadMagic is = absurd cc
+stop_for-memory (BadHeader place) is = absurd cc
+stop_for-memory HeaderTooLong is = absurd cc
+stop_for-memory BadMaxval is = absurd cc
+stop_for-memory NotSquare is = absurd cc
+stop_for-memory BadSide is = absurd cc
+stop_for-memory Truncated is = absurd cc
+stop_for-memory (BadSample place) is = absurd cc
+stop_for-memory (AboveMaxval place) is = absurd cc
+stop_for-memory (Trailing place) is = absurd cc
+stop_for-memory NoMemory is = refl
+stop_for-memory TooLong is = absurd cc
+
+-- a reader of a file's bytes is not settled on want of memory
+pub reading-unsettled : (files : Option (List NamedFile)) (rest : Option (List ℕ)) (name : List ℕ) (reader : Progress)
+    → OthersAreAbsent → IsReading files rest name reader → IsSettled reader NoMemory → ⊥
+unfolding IsSettled
+reading-unsettled files rest name reader others reading settled =
+    let e = sym (reading.means []) ∙ settled [] in
+    IfErr-at_err IsRefusal e (others (reading.bytes ++ []))
+
+-- the header of a grid ended with a piece
+pub reading-header : (files : Option (List NamedFile)) (rest : Option (List ℕ)) (name piece : List ℕ) (count : ℕ) (reader : Progress)
+    → IsReading files rest name reader
+    → ((unread : List ℕ) → rest ≡ Some unread → piece ≡ take count unread)
+    → EndsHeader reader piece
+    → (all : List NamedFile) → files ≡ Some all → BeginsWithHeader (bytes_of all name)
+reading-header files rest name piece count reader reading gives ends all is =
+    let here = reading.told all is in
+    let split = sym (take-append-drop count here.0) ∙ ap (λ m. m ++ drop count here.0) (sym (gives here.0 here.1) ∙ sym (take-append-drop ends.count piece))
+        ∙ append_assoc (take ends.count piece) (drop ends.count piece) (drop count here.0) in
+    (reading.bytes ++ take ends.count piece, drop ends.count piece ++ drop count here.0,
+     here.2 ∙ ap (λ m. reading.bytes ++ m) split ∙ sym (append_assoc reading.bytes (take ends.count piece) (drop ends.count piece ++ drop count here.0)),
+     record {
+       n = ends.n;
+       level = ends.level;
+       raster = λ samples size.
+           ap grid_of (append_assoc reading.bytes (take ends.count piece) (raster_of samples))
+           ∙ sym (reading.means (take ends.count piece ++ raster_of samples))
+           ∙ ends.room samples size;
+     })

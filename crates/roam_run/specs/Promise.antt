@@ -1,12 +1,24 @@
 -- What a run of `roam` promises, by its status.
--- Words: is_complete, IsScriptEnd, IsRunEnd, HasEnded, EndsAs, StandsForRead.
-use Rattle.std.specs.Prelude.{◌≡◌, ℕ, ◌≤◌, ◌⊎◌, Bool, true, false, IsTrue, List, [], ◌++◌, length, Option, Some}
-use Rattle.roam_edge.specs.Shelf.{NamedFile}
+-- Words: is_complete, IsScriptEnd, IsRunEnd, HasEnded, EndsAs, StandsForRead, CommandReadFault,
+-- IsWholeHeader, BeginsWithHeader, CommandNoMemory, LeavesAtReadFault, LeavesAtNoMemory, OpensForStatus, IsBestFrame, AreBestFrames,
+-- KeepsBestMeshes.
+use Rattle.std.specs.Prelude.{◌≡◌, ℕ, ◌+◌, ◌≤◌, ◌⊎◌, Bool, true, false, IsTrue, ⊤, List, [], ◌∷◌, ◌++◌, length, Option, Some, Ok}
+use Rattle.mesh_defs.specs.HeightField.{HeightField}
+use Rattle.mesh_defs.specs.View.{start_view}
+use Rattle.mesh_defs.specs.Priority.{priority_of}
+use Rattle.mesh_defs.specs.MeshText.{mesh_text}
+use Rattle.mesh_defs.specs.BestMesh.{IsBestMesh}
+use Rattle.roam_edge.specs.MeshSink.{Mesh}
+use Rattle.roam_edge.specs.Shelf.{NamedFile, bytes_of}
+use Rattle.pgm_grid.specs.PgmText.{IsLevel, points_of, raster_of}
+use Rattle.pgm_grid.specs.Progress.{grid_of}
 use Rattle.roam_run.specs.declared.status.Status.{Status}
 use Rattle.roam_run.specs.declared.status.Status.TheVariants.{Done, NoMemory, Usage, GridRefused, ScriptRefused, ReadFault, WriteFault}
+use Rattle.roam_run.specs.Words.{MeshCommand, command_of, word_budget}
 use Rattle.roam_run.specs.Act.{Told, Stands, IsCutShort}
 use Rattle.roam_run.specs.Script.{Outcome, script_outcome, AreWhole}
 use Rattle.roam_run.specs.Step.{Shown, IsOneLine}
+use Rattle.roam_run.specs.Outcome.{frame_text, word_spacing}
 
 -- the run came to its end or to a refusal, and nothing outside failed
 abbrev pub is_complete : Status → Bool
@@ -48,3 +60,65 @@ pub record StandsForRead (before now : Told) (shown : Shown) (script : List ℕ)
   pub one_line : IsOneLine begun
   pub accepted : (script_outcome shown.prefix shown.text 0 lines).status ≡ Done
   pub stands : Stands before now (script_outcome shown.prefix shown.text 0 lines).acts
+
+-- A command's read failed: at the grid nothing was done, and at the script what its whole lines do.
+pub record CommandReadFault (before now : Told) (command : MeshCommand) (files : List NamedFile) : Type 0 where
+  pub left : Stands before now [] ⊎ ((grid : HeightField) × (grid_of (bytes_of files command.grid) ≡ Ok grid)
+      × StandsForRead before now (record { prefix = command.prefix; text = frame_text grid }) (bytes_of files command.script))
+
+-- the bytes are a whole header of an accepted grid: behind them each raster of its size is read
+pub record IsWholeHeader (bytes : List ℕ) : Type 0 where
+  pub n : ℕ
+  pub level : IsLevel n
+  pub raster : (samples : List ℕ) → length samples ≡ points_of n →
+      grid_of (bytes ++ raster_of samples) ≡ Ok (record { n = n; maxval = 65535; heights = samples })
+
+-- some front of the bytes is a whole header of an accepted grid
+abbrev pub BeginsWithHeader : List ℕ → Type 0
+BeginsWithHeader bytes = (front rest : List ℕ) × (bytes ≡ front ++ rest) × IsWholeHeader front
+
+-- A command wanted memory: nothing was done, and the file of the grid begins with a whole accepted header.
+pub record CommandNoMemory (before now : Told) (command : MeshCommand) (files : List NamedFile) : Type 0 where
+  pub left : Stands before now []
+  pub header : BeginsWithHeader (bytes_of files command.grid)
+
+-- Only words of a command read files, and what stands then is that of the command.
+pub record LeavesAtReadFault (before now : Told) (words : List (List ℕ)) (files : List NamedFile) : Type 0 where
+  pub of_command : (command : MeshCommand) × (command_of words ≡ Some command) × CommandReadFault before now command files
+
+pub record LeavesAtNoMemory (before now : Told) (words : List (List ℕ)) (files : List NamedFile) : Type 0 where
+  pub of_command : (command : MeshCommand) × (command_of words ≡ Some command) × CommandNoMemory before now command files
+
+-- How often files were opened: twice for a script that was read to its end, once for a grid that is
+-- refused, never for words that are no command, and else at most twice.
+pub record OpensForStatus (before now : ℕ) (status : Status) : Type 0 where
+  pub done : status ≡ Done → now ≡ before + 2
+  pub grid_refused : status ≡ GridRefused → now ≡ before + 1
+  pub usage : status ≡ Usage → now ≡ before
+  pub least : before ≤ now
+  pub most : now ≤ before + 2
+
+-- The mesh is the frame of this number: its text is that of a best mesh of the named grid within the
+-- budget, seen from the view at the script's beginning.
+pub record IsBestFrame (words : List (List ℕ)) (files : List NamedFile) (number : ℕ) (mesh : Mesh) : Type 0 where
+  pub command : MeshCommand
+  pub grid : HeightField
+  pub triangles : List ℕ
+  pub is_command : command_of words ≡ Some command
+  pub is_grid : grid_of (bytes_of files command.grid) ≡ Ok grid
+  pub named : mesh.prefix ≡ command.prefix
+  pub numbered : mesh.number ≡ number
+  pub best : IsBestMesh grid.n word_budget (priority_of grid.n grid.heights (start_view word_spacing)) triangles
+  pub text : mesh.bytes ≡ mesh_text grid.n grid.heights word_spacing [] triangles
+
+-- the meshes are numbered from this number on, and each that is finished is a best frame
+abbrev pub AreBestFrames : List (List ℕ) → List NamedFile → ℕ → List Mesh → Type 0
+AreBestFrames words files number [] = ⊤
+AreBestFrames words files number (mesh ∷ meshes) =
+    (mesh.finished ≡ true → IsBestFrame words files number mesh) × AreBestFrames words files (number + 1) meshes
+
+-- The meshes that were there stay, and behind them came best frames, numbered from 1.
+pub record KeepsBestMeshes (words : List (List ℕ)) (files : List NamedFile) (before : List Mesh) (now : Option (List Mesh)) : Type 0 where
+  pub added : List Mesh
+  pub behind : now ≡ Some (before ++ added)
+  pub frames : AreBestFrames words files 1 added

@@ -6,8 +6,9 @@ ghost use Rattle.roam_edge.specs.Shelf.{NamedFile, bytes_of};
 ghost use Rattle.pgm_grid.specs.declared.fault.PgmFault.{PgmFault as Fault};
 ghost use Rattle.pgm_grid.specs.Progress.{grid_of, resume};
 ghost use Rattle.roam_run.specs.GridStop.{stop_for};
+ghost use Rattle.roam_run.specs.Promise.{BeginsWithHeader};
 
-use pgm_grid::{Grid, PgmFault, PgmReader};
+use pgm_grid::{Grid, PgmFault, PgmReader, grids_and_texts};
 use roam_edge::Shelf;
 use std::alloc::Global;
 
@@ -36,6 +37,8 @@ pub(crate) fn read_grid<F: Shelf>(
     ensures refused { (fault : Fault) → result ≡ Err (GridStop.Refused fault) →
         (files : List NamedFile) → F.files shelf.old ≡ Some files →
         grid_of (bytes_of files name.now) ≡ Err fault }
+    ensures no_memory { result ≡ Err GridStop.NoMemory →
+        (files : List NamedFile) → F.files shelf.old ≡ Some files → BeginsWithHeader (bytes_of files name.now) }
     ensures files { F.files shelf.new ≡ F.files shelf.old }
     ensures opens { F.opens shelf.new ≡ next_count (F.opens shelf.old) }
     ensures failed { result ≡ Err GridStop.Failed → Rose (F.faults shelf.old) (F.faults shelf.new) }
@@ -44,6 +47,8 @@ pub(crate) fn read_grid<F: Shelf>(
     let Ok(()) = shelf.open_named(name) else {
         return Err(GridStop::Failed);
     };
+    // No refusal of a file's bytes is want of memory.
+    grids_and_texts();
     let mut reader = PgmReader::new(alloc);
     let mut buffer = [0; PIECE];
     'pieces: loop {

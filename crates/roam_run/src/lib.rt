@@ -6,10 +6,12 @@ mod frame;
 mod grid_file;
 mod mesh_text;
 mod report;
+mod run;
 mod script;
 mod script_fault;
 mod status;
 mod text;
 mod words;
 
+pub use run::roam;
 pub use status::{Run, Status};

@@ -1,7 +1,7 @@
-use Rattle.std.proofs.Common.{◌≡◌, take, rules, arith, sym, ap, ◌∙◌}
+use Rattle.std.proofs.Common.{◌≡◌, ℕ, List, Some, Err, inl, inr, take, rules, arith, sym, ap, ◌∙◌}
 use Rattle.roam_run.specs.GridStop.{stop_for}
-use Rattle.roam_run.specs.declared.grid_file.GridStop.TheVariants.{Refused}
-use Rattle.roam_run.proofs.ReadingLemmas.{reading-begin, reading-more, reading-refused, front-read, stop_for-refused}
+use Rattle.roam_run.specs.declared.grid_file.GridStop.TheVariants.{Refused, NoMemory}
+use Rattle.roam_run.proofs.ReadingLemmas.{reading-begin, reading-more, reading-refused, reading-unsettled, reading-header, front-read, stop_for-refused, stop_for-memory}
 use Rattle.roam_run.proofs.grid_file.read_grid.Goals as goal
 
 pub pieces-init : goal.pieces-init
@@ -34,3 +34,12 @@ pieces-preserved g c = record {
     opens = search rules;
     faults = search rules;
   }
+
+pub returns-in-Err-clause-no_memory : goal.returns-in-Err-clause-no_memory
+returns-in-Err-clause-no_memory g c is all told =
+    let wanted = stop_for-memory c.in-Err.fault (let e : stop_for c.in-Err.fault ≡ NoMemory = cc in e) in
+    let gives = λ (unread : List ℕ) (here : g.F.Shelf.rest c.pieces.shelf ≡ Some unread). ap (take c.in-Ok-read.count) (c.in-Ok-read.ensures.bytes.gives unread here)
+            ∙ front-read c.in-Ok-read.count unread _ (c.in-Ok-read.ensures.bytes.within unread here) in
+    elim (c.in-Err.ensures.no_memory (ap Err wanted)) [
+        inl settled ↦ absurd (reading-unsettled _ _ _ _ c.grids_and_texts.ensures.others c.pieces.invariant.reading settled)
+      | inr ends ↦ reading-header _ _ _ _ c.in-Ok-read.count _ c.pieces.invariant.reading gives ends all told ]
