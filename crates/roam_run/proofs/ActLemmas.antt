@@ -1,5 +1,5 @@
 -- Acts that stand, one after another, and acts that were cut short.
-use Rattle.std.proofs.Common.{◌≡◌, ℕ, Bool, true, false, List, [], ◌∷◌, ◌++◌, Option, Some, refl, sym, ◌∙◌, ap, inl, inr, append_assoc, append-nil}
+use Rattle.std.proofs.Common.{◌≡◌, ℕ, true, false, List, [], ◌∷◌, ◌++◌, Option, Some, refl, sym, ◌∙◌, ap, inr, append_assoc, append-nil}
 use Rattle.roam_edge.specs.MeshSink.{Mesh, begun, longer, closed}
 use Rattle.roam_edge.specs.Told.{IsFront}
 use Rattle.roam_run.specs.Act.{Act, WholeMesh, ReportLine, Told, Grows, Stands, IsPartOfMesh, IsCutShort, StandsInPart, meshes_of, report_of, mesh_with, told}
@@ -12,7 +12,7 @@ module _ (before middle later now : Option (List Mesh)) (prefix : List ℕ) (num
     (begin : (all : List Mesh) → before ≡ Some all → middle ≡ Some (all ++ begun prefix number ∷ [])) where
   -- a mesh was begun, and a write of its bytes was cut short
   pub part-write : ((all : List Mesh) (mesh : Mesh) → middle ≡ Some (all ++ mesh ∷ [])
-        → (front : List ℕ) × IsFront front bytes × (later ≡ Some (all ++ longer mesh front ∷ [])))
+      → (front : List ℕ) × IsFront front bytes × (later ≡ Some (all ++ longer mesh front ∷ [])))
       → (all : List Mesh) → before ≡ Some all
       → (part : List Mesh) × IsPartOfMesh prefix number bytes part × (later ≡ Some (all ++ part))
   part-write write all is =
@@ -23,7 +23,7 @@ module _ (before middle later now : Option (List Mesh)) (prefix : List ℕ) (num
       → later ≡ Some (all ++ longer mesh bytes ∷ [])) where
     -- a mesh was begun, written and finished
     pub whole-mesh : ((all : List Mesh) (mesh : Mesh) → later ≡ Some (all ++ mesh ∷ [])
-          → now ≡ Some (all ++ closed mesh ∷ []))
+        → now ≡ Some (all ++ closed mesh ∷ []))
         → Grows before now (mesh_with prefix number bytes true ∷ [])
     whole-mesh finish all is =
         finish all (longer (begun prefix number) bytes) (write all (begun prefix number) (begin all is))
@@ -63,60 +63,68 @@ stands-nothing before = record { meshes_grow = grows-nothing before.meshes; repo
 pub stands-append : (before middle now : Told) (first second : List Act)
     → Stands before middle first → Stands middle now second → Stands before now (first ++ second)
 stands-append before middle now first second one two = record {
-    meshes_grow = rw (meshes_of-append first second) (grows-append before.meshes middle.meshes now.meshes (meshes_of first) (meshes_of second) one.meshes_grow two.meshes_grow);
-    report_grows = rw (report_of-append first second) (grows-append before.report middle.report now.report (report_of first) (report_of second) one.report_grows two.report_grows);
-  }
+  meshes_grow = rw (meshes_of-append first second) (grows-append before.meshes middle.meshes now.meshes (meshes_of first) (meshes_of second) one.meshes_grow two.meshes_grow);
+  report_grows = rw (report_of-append first second) (grows-append before.report middle.report now.report (report_of first) (report_of second) one.report_grows two.report_grows);
+}
 
 -- acts were done, and then an act in part
 pub part-append : (before middle now : Told) (first done : List Act) (next : Act)
     → Stands before middle first → StandsInPart middle now done next → StandsInPart before now (first ++ done) next
-part-append before middle now first done (WholeMesh prefix number bytes) one part =
-    (λ all is.
-        let cut = part.0 (all ++ meshes_of first) (one.meshes_grow all is) in
-        (cut.0, cut.1, cut.2 ∙ ap Some (append_assoc all (meshes_of first) (meshes_of done ++ cut.0)
+part-append before middle now first done (WholeMesh prefix number bytes) one part = (
+  λ all is.
+      let cut = part.0 (all ++ meshes_of first) (one.meshes_grow all is) in (
+        cut.0,
+        cut.1,
+        cut.2 ∙ ap Some (append_assoc all (meshes_of first) (meshes_of done ++ cut.0)
             ∙ ap (λ m. all ++ m) (sym (append_assoc (meshes_of first) (meshes_of done) cut.0)
-                ∙ ap (λ m. m ++ cut.0) (sym (meshes_of-append first done))))),
-     rw (report_of-append first done) (grows-append before.report middle.report now.report (report_of first) (report_of done) one.report_grows part.1))
-part-append before middle now first done (ReportLine bytes) one part =
-    (rw (meshes_of-append first done) (grows-append before.meshes middle.meshes now.meshes (meshes_of first) (meshes_of done) one.meshes_grow part.0),
-     λ all is.
-        let cut = part.1 (all ++ report_of first) (one.report_grows all is) in
-        (cut.0, cut.1, cut.2 ∙ ap Some (append_assoc all (report_of first) (report_of done ++ cut.0)
+            ∙ ap (λ m. m ++ cut.0) (sym (meshes_of-append first done)))),
+      ),
+  rw (report_of-append first done) (grows-append before.report middle.report now.report (report_of first) (report_of done) one.report_grows part.1),
+)
+part-append before middle now first done (ReportLine bytes) one part = (
+  rw (meshes_of-append first done) (grows-append before.meshes middle.meshes now.meshes (meshes_of first) (meshes_of done) one.meshes_grow part.0),
+  λ all is.
+      let cut = part.1 (all ++ report_of first) (one.report_grows all is) in (
+        cut.0,
+        cut.1,
+        cut.2 ∙ ap Some (append_assoc all (report_of first) (report_of done ++ cut.0)
             ∙ ap (λ m. all ++ m) (sym (append_assoc (report_of first) (report_of done) cut.0)
-                ∙ ap (λ m. m ++ cut.0) (sym (report_of-append first done))))))
+            ∙ ap (λ m. m ++ cut.0) (sym (report_of-append first done)))),
+      ),
+)
 
 -- acts were done, and then others were cut short
 pub cut-append : (before middle now : Told) (first second : List Act)
     → Stands before middle first → IsCutShort middle now second → IsCutShort before now (first ++ second)
 cut-append before middle now first second one cut = record {
-    done = first ++ cut.done;
-    next = cut.next;
-    owed = cut.owed;
-    in_order = ap (λ m. first ++ m) cut.in_order ∙ sym (append_assoc first cut.done (cut.next ∷ cut.owed));
-    standing = part-append before middle now first cut.done cut.next one cut.standing;
-  }
+  done = first ++ cut.done;
+  next = cut.next;
+  owed = cut.owed;
+  in_order = ap (λ m. first ++ m) cut.in_order ∙ sym (append_assoc first cut.done (cut.next ∷ cut.owed));
+  standing = part-append before middle now first cut.done cut.next one cut.standing;
+}
 
 -- acts were cut short, and more were owed behind them
 pub cut-longer : (before now : Told) (acts more : List Act) → IsCutShort before now acts → IsCutShort before now (acts ++ more)
 cut-longer before now acts more cut = record {
-    done = cut.done;
-    next = cut.next;
-    owed = cut.owed ++ more;
-    in_order = ap (λ m. m ++ more) cut.in_order ∙ append_assoc cut.done (cut.next ∷ cut.owed) more;
-    standing = cut.standing;
-  }
+  done = cut.done;
+  next = cut.next;
+  owed = cut.owed ++ more;
+  in_order = ap (λ m. m ++ more) cut.in_order ∙ append_assoc cut.done (cut.next ∷ cut.owed) more;
+  standing = cut.standing;
+}
 
 -- a mesh was cut short, and nothing else was done
 pub cut-mesh : (meshes meshes' : Option (List Mesh)) (report : Option (List ℕ)) (prefix : List ℕ) (number : ℕ) (bytes : List ℕ) (owed : List Act)
     → ((all : List Mesh) → meshes ≡ Some all → (part : List Mesh) × IsPartOfMesh prefix number bytes part × (meshes' ≡ Some (all ++ part)))
     → IsCutShort (told meshes report) (told meshes' report) (WholeMesh prefix number bytes ∷ owed)
 cut-mesh meshes meshes' report prefix number bytes owed part = record {
-    done = [];
-    next = WholeMesh prefix number bytes;
-    owed = owed;
-    in_order = refl;
-    standing = (part, grows-nothing report);
-  }
+  done = [];
+  next = WholeMesh prefix number bytes;
+  owed = owed;
+  in_order = refl;
+  standing = (part, grows-nothing report);
+}
 
 -- a mesh was written whole, and then a line was cut short
 pub cut-line : (meshes meshes' : Option (List Mesh)) (report report' : Option (List ℕ)) (prefix : List ℕ) (number : ℕ) (bytes line : List ℕ)
@@ -124,21 +132,21 @@ pub cut-line : (meshes meshes' : Option (List Mesh)) (report report' : Option (L
     → ((all : List ℕ) → report ≡ Some all → (front : List ℕ) × IsFront front line × (report' ≡ Some (all ++ front)))
     → IsCutShort (told meshes report) (told meshes' report') (WholeMesh prefix number bytes ∷ (ReportLine line ∷ []))
 cut-line meshes meshes' report report' prefix number bytes line whole part = record {
-    done = WholeMesh prefix number bytes ∷ [];
-    next = ReportLine line;
-    owed = [];
-    in_order = refl;
-    standing = (whole, part);
-  }
+  done = WholeMesh prefix number bytes ∷ [];
+  next = ReportLine line;
+  owed = [];
+  in_order = refl;
+  standing = (whole, part);
+}
 
 -- a line was cut short, and nothing else was done
 pub cut-only-line : (meshes : Option (List Mesh)) (report report' : Option (List ℕ)) (line : List ℕ) (owed : List Act)
     → ((all : List ℕ) → report ≡ Some all → (front : List ℕ) × IsFront front line × (report' ≡ Some (all ++ front)))
     → IsCutShort (told meshes report) (told meshes report') (ReportLine line ∷ owed)
 cut-only-line meshes report report' line owed part = record {
-    done = [];
-    next = ReportLine line;
-    owed = owed;
-    in_order = refl;
-    standing = (grows-nothing meshes, part);
-  }
+  done = [];
+  next = ReportLine line;
+  owed = owed;
+  in_order = refl;
+  standing = (grows-nothing meshes, part);
+}

@@ -4,3 +4,4 @@ pub mod StepLemmas
 pub mod ReadingLemmas
 pub mod ScriptReading
 pub mod TextLemmas
+pub mod RunLemmas

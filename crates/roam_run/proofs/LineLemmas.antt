@@ -1,8 +1,8 @@
 -- The lines of a text that is known up to some byte.
-use Rattle.std.proofs.Common.{◌≡◌, ◌≢◌, ℕ, ◌+◌, ◌<◌, ◌≤◌, Bool, true, false, List, [], ◌∷◌, ◌++◌, length, Option, Some, None, refl, sym, ◌∙◌, ap, codes, arith, length-append}
+use Rattle.std.proofs.Common.{◌≡◌, ◌≢◌, ℕ, ◌<◌, List, [], ◌∷◌, ◌++◌, length, Some, refl, ◌∙◌, ap, codes, arith}
 use Rattle.std.specs.List.{AllByRecursion, onto_first}
 use Rattle.std.specs.Str.{bytes_eq}
-use Rattle.std.proofs.lemmas.Bool.{ne_eqb, cond-false, false_from_ne_true, true≢false}
+use Rattle.std.proofs.lemmas.Bool.{ne_eqb, cond-false, false_from_ne_true}
 use Rattle.std.proofs.lemmas.Slice.Eq.{bytes_eq-Decides}
 use Rattle.roam_run.specs.Script.{lines_of, line_fault}
 use Rattle.roam_run.specs.declared.script_fault.ScriptFault.TheVariants.{UnknownCommand}
@@ -49,4 +49,4 @@ lines_of-begins byte (next ∷ part) more none =
 pub line_fault-long : (frames : ℕ) (line : List ℕ) → 5 < length line → line_fault frames line ≡ Some UnknownCommand
 line_fault-long frames line long =
     cond-false _ _ _ (false_from_ne_true (bytes_eq line (codes "frame")) (λ same.
-        let e = ap length ((bytes_eq-Decides line (codes "frame")).0 same) in omega (arith, e)))
+    let e = ap length ((bytes_eq-Decides line (codes "frame")).0 same) in omega (arith, e)))

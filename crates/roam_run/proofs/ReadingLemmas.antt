@@ -1,8 +1,7 @@
 -- A grid that is read from a shelf, piece by piece.
-use Rattle.std.proofs.Common.{◌≡◌, ◌≢◌, ℕ, ◌+◌, ◌≤◌, ◌↔◌, List, [], ◌∷◌, ◌++◌, length, take, drop, Option, Some, Result, Ok, Err, refl, sym, ◌∙◌, ap, subst, append_assoc, append-nil}
+use Rattle.std.proofs.Common.{◌≡◌, ◌≢◌, ℕ, ◌≤◌, List, [], ◌++◌, length, take, drop, Option, Some, Err, refl, sym, ◌∙◌, ap, append_assoc}
 use Rattle.std.proofs.Math.Seq.{take-append_seam}
 use Rattle.std.proofs.lemmas.List.{take-append-drop, length-take-le}
-use Rattle.mesh_defs.specs.HeightField.{HeightField}
 use Rattle.roam_edge.specs.Shelf.{NamedFile, bytes_of}
 use Rattle.pgm_grid.specs.declared.fault.PgmFault.{PgmFault}
 use Rattle.pgm_grid.specs.declared.fault.PgmFault.TheVariants.{BadMagic, BadHeader, HeaderTooLong, BadMaxval, NotSquare, BadSide, Truncated, BadSample, AboveMaxval, Trailing, NoMemory, TooLong}
@@ -28,10 +27,10 @@ pub reading-begin : (files : Option (List NamedFile)) (rest : Option (List ℕ))
     → ((all : List NamedFile) → files ≡ Some all → rest ≡ Some (bytes_of all name))
     → IsReading files rest name reader
 reading-begin files rest name reader means chosen = record {
-    bytes = [];
-    means = means;
-    told = λ all is. (bytes_of all name, chosen all is, refl);
-  }
+  bytes = [];
+  means = means;
+  told = λ all is. (bytes_of all name, chosen all is, refl);
+}
 
 -- the front of a buffer into which a read put the first unread bytes
 pub front-read : (count : ℕ) (unread old : List ℕ) → count ≤ length unread
@@ -48,14 +47,16 @@ pub reading-more : (files : Option (List NamedFile)) (rest rest' : Option (List 
     → ((more : List ℕ) → resume reader (piece ++ more) ≡ resume next more)
     → IsReading files rest' name next
 reading-more files rest rest' name piece count reader next reading takes gives goes_on = record {
-    bytes = reading.bytes ++ piece;
-    means = λ more. sym (goes_on more) ∙ reading.means (piece ++ more) ∙ ap grid_of (sym (append_assoc reading.bytes piece more));
-    told = λ all is.
-        let here = reading.told all is in
-        (drop count here.0, takes here.0 here.1,
-         here.2 ∙ ap (λ m. reading.bytes ++ m) (sym (take-append-drop count here.0) ∙ ap (λ m. m ++ drop count here.0) (sym (gives here.0 here.1)))
-         ∙ sym (append_assoc reading.bytes piece (drop count here.0)));
-  }
+  bytes = reading.bytes ++ piece;
+  means = λ more. sym (goes_on more) ∙ reading.means (piece ++ more) ∙ ap grid_of (sym (append_assoc reading.bytes piece more));
+  told = λ all is.
+      let here = reading.told all is in (
+        drop count here.0,
+        takes here.0 here.1,
+        here.2 ∙ ap (λ m. reading.bytes ++ m) (sym (take-append-drop count here.0) ∙ ap (λ m. m ++ drop count here.0) (sym (gives here.0 here.1)))
+            ∙ sym (append_assoc reading.bytes piece (drop count here.0)),
+      );
+}
 
 -- a piece was read, and the reader refuses it
 pub reading-refused : (files : Option (List NamedFile)) (rest : Option (List ℕ)) (name piece : List ℕ) (count : ℕ) (reader : Progress) (fault : PgmFault)
@@ -116,14 +117,16 @@ pub reading-header : (files : Option (List NamedFile)) (rest : Option (List ℕ)
 reading-header files rest name piece count reader reading gives ends all is =
     let here = reading.told all is in
     let split = sym (take-append-drop count here.0) ∙ ap (λ m. m ++ drop count here.0) (sym (gives here.0 here.1) ∙ sym (take-append-drop ends.count piece))
-        ∙ append_assoc (take ends.count piece) (drop ends.count piece) (drop count here.0) in
-    (reading.bytes ++ take ends.count piece, drop ends.count piece ++ drop count here.0,
-     here.2 ∙ ap (λ m. reading.bytes ++ m) split ∙ sym (append_assoc reading.bytes (take ends.count piece) (drop ends.count piece ++ drop count here.0)),
-     record {
-       n = ends.n;
-       level = ends.level;
-       raster = λ samples size.
-           ap grid_of (append_assoc reading.bytes (take ends.count piece) (raster_of samples))
-           ∙ sym (reading.means (take ends.count piece ++ raster_of samples))
-           ∙ ends.room samples size;
-     })
+    ∙ append_assoc (take ends.count piece) (drop ends.count piece) (drop count here.0) in (
+      reading.bytes ++ take ends.count piece,
+      drop ends.count piece ++ drop count here.0,
+      here.2 ∙ ap (λ m. reading.bytes ++ m) split ∙ sym (append_assoc reading.bytes (take ends.count piece) (drop ends.count piece ++ drop count here.0)),
+      record {
+        n = ends.n;
+        level = ends.level;
+        raster = λ samples size.
+            ap grid_of (append_assoc reading.bytes (take ends.count piece) (raster_of samples))
+            ∙ sym (reading.means (take ends.count piece ++ raster_of samples))
+            ∙ ends.room samples size;
+      },
+    )

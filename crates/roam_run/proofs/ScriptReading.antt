@@ -1,16 +1,16 @@
 -- A script that is read from a shelf, piece by piece.
-use Rattle.std.proofs.Common.{rules, inl, inr, Ok, Err, ◌≡◌, ◌≢◌, ℕ, ◌+◌, ◌≤◌, ◌⊎◌, List, [], ◌∷◌, ◌++◌, length, take, drop, Option, Some, refl, sym, ◌∙◌, ap, subst, append_assoc, append-nil, arith}
+use Rattle.std.proofs.Common.{rules, inl, Ok, Err, ◌≡◌, ◌≢◌, ℕ, ◌≤◌, List, [], ◌∷◌, ◌++◌, length, take, drop, Option, Some, refl, sym, ◌∙◌, ap, subst, append_assoc, append-nil, arith}
 use Rattle.std.proofs.lemmas.List.{take-append-drop}
 use Rattle.roam_edge.specs.Shelf.{NamedFile, bytes_of}
 use Rattle.roam_run.specs.declared.status.Status.{Status}
 use Rattle.roam_run.specs.declared.status.Status.TheVariants.{Done, ScriptRefused, WriteFault}
 use Rattle.roam_run.specs.declared.script.Stop.{Stop}
 use Rattle.roam_run.specs.declared.script.Stop.TheVariants.{Refused, Failed}
-use Rattle.roam_run.specs.Act.{Act, Told, Stands, IsCutShort}
+use Rattle.roam_run.specs.Act.{Act, Told, Stands}
 use Rattle.std.proofs.lemmas.List.Elements.{recursion_from_All}
 use Rattle.roam_run.proofs.LineLemmas.{lines_of-last}
 use Rattle.roam_run.specs.Script.{Outcome, outcome, after_acts, line_outcome, lines_outcome, line_fault, script_outcome, lines_of}
-use Rattle.roam_run.specs.Step.{Shown, Place, place, left_outcome, IsOneLine, Carries, Refuses, Cuts, TakesPiece, TakesLine}
+use Rattle.roam_run.specs.Step.{Shown, Place, place, left_outcome, IsOneLine, Carries, TakesPiece, TakesLine}
 use Rattle.roam_run.specs.Promise.{EndsAs, StandsForRead}
 use Rattle.roam_run.specs.Taking.{status_for}
 use Rattle.roam_run.proofs.ActLemmas.{stands-nothing, stands-append, cut-append}
@@ -38,10 +38,10 @@ pub carried-begin : (before : Told) (shown : Shown) (files : Option (List NamedF
     → ((all : List NamedFile) → files ≡ Some all → rest ≡ Some (bytes_of all name))
     → IsCarried before before shown (place 0 []) files rest name
 carried-begin before shown files rest name chosen = record {
-    bytes = [];
-    carried = carries-nothing before shown (place 0 []);
-    told_script = λ all is. (bytes_of all name, chosen all is, refl);
-  }
+  bytes = [];
+  carried = carries-nothing before shown (place 0 []);
+  told_script = λ all is. (bytes_of all name, chosen all is, refl);
+}
 
 module _ (before middle now : Told) (shown : Shown) (here next : Place) (files : Option (List NamedFile)) (rest rest' : Option (List ℕ))
     (name piece : List ℕ) (count : ℕ)
@@ -59,12 +59,12 @@ module _ (before middle now : Told) (shown : Shown) (here next : Place) (files :
       → Carries middle now shown here next piece
       → IsCarried before now shown next files rest' name
   carried-more takes more = record {
-      bytes = so_far.bytes ++ piece;
-      carried = carries-append before middle now shown (place 0 []) here next so_far.bytes piece so_far.carried more;
-      told_script = λ all is.
-          let there = so_far.told_script all is in
-          (drop count there.0, takes there.0 there.1, file-cut all there.0 there.1 there.2);
-    }
+    bytes = so_far.bytes ++ piece;
+    carried = carries-append before middle now shown (place 0 []) here next so_far.bytes piece so_far.carried more;
+    told_script = λ all is.
+        let there = so_far.told_script all is in
+        (drop count there.0, takes there.0 there.1, file-cut all there.0 there.1 there.2);
+  }
 
   -- what is left of the script, behind what was carried out
   file-outcome : (all : List NamedFile) (unread : List ℕ) → rest ≡ Some unread → bytes_of all name ≡ so_far.bytes ++ unread
@@ -83,17 +83,17 @@ module _ (before middle now : Told) (shown : Shown) (here next : Place) (files :
       let ends = file-outcome all there.0 there.1 there.2 ∙ ap (after_acts so_far.carried.acts) (refused.ends (drop count there.0)) in
       let P : Outcome → Type 0 = λ end. EndsAs before now end ScriptRefused in
       subst P (sym ends) (record {
-          complete = λ e. (stands-append before middle now so_far.carried.acts refused.acts so_far.carried.stands refused.stands, refl);
-          cut_short = λ e. cc;
-        })
+        complete = λ e. (stands-append before middle now so_far.carried.acts refused.acts so_far.carried.stands refused.stands, refl);
+        cut_short = λ e. cc;
+      })
   carried-stop Failed takes all is =
       let there = so_far.told_script all is in
       let cuts = takes.failed refl in
       let P : Outcome → Type 0 = λ end. EndsAs before now end WriteFault in
       subst P (sym (file-outcome all there.0 there.1 there.2)) (record {
-          complete = λ e. cc;
-          cut_short = λ e. cut-append before middle now so_far.carried.acts _ so_far.carried.stands (cuts.short (drop count there.0));
-        })
+        complete = λ e. cc;
+        cut_short = λ e. cut-append before middle now so_far.carried.acts _ so_far.carried.stands (cuts.short (drop count there.0));
+      })
 
 module _ (before middle now : Told) (shown : Shown) (here : Place) (files : Option (List NamedFile)) (rest : Option (List ℕ)) (name : List ℕ)
     (so_far : IsCarried before middle shown here files rest name) where
@@ -105,13 +105,13 @@ module _ (before middle now : Told) (shown : Shown) (here : Place) (files : Opti
   carried-end status none ends all is =
       let there = so_far.told_script all is in
       let whole = ap (left_outcome shown (place 0 [])) (there.2 ∙ ap (λ m. so_far.bytes ++ m) (none there.0 there.1))
-          ∙ left_outcome-carried before middle shown (place 0 []) here so_far.bytes so_far.carried [] in
+      ∙ left_outcome-carried before middle shown (place 0 []) here so_far.bytes so_far.carried [] in
       let P : Outcome → Type 0 = λ end. EndsAs before now end status in
       subst P (sym whole) (record {
-          complete = λ e. (let c = ends.complete e in
-              (stands-append before middle now so_far.carried.acts _ so_far.carried.stands c.0, c.1));
-          cut_short = λ e. cut-append before middle now so_far.carried.acts _ so_far.carried.stands (ends.cut_short e);
-        })
+        complete = λ e. (let c = ends.complete e in
+            (stands-append before middle now so_far.carried.acts _ so_far.carried.stands c.0, c.1));
+        cut_short = λ e. cut-append before middle now so_far.carried.acts _ so_far.carried.stands (ends.cut_short e);
+      })
 
   -- a read of the script failed
   pub carried-fault : length here.part ≤ 5 → IsOneLine here.part
@@ -132,20 +132,21 @@ module _ (before middle now : Told) (shown : Shown) (here : Place) (files : Opti
         stands = (let P : List Act → Type 0 = λ acts. Stands before middle acts in
             subst P (sym (ap (λ (o : Outcome). o.acts) at_end ∙ none_left-acts shown here.frames so_far.carried.acts)) so_far.carried.stands);
       }
+
 -- opening the script failed
 pub fault-open : (before : Told) (shown : Shown) (script : List ℕ) → StandsForRead before before shown script
 unfolding script_outcome
 fault-open before shown script = record {
-    lines = [];
-    begun = [];
-    unread = script;
-    cut = refl;
-    whole = inl refl;
-    short = omega arith;
-    one_line = search rules;
-    accepted = refl;
-    stands = stands-nothing before;
-  }
+  lines = [];
+  begun = [];
+  unread = script;
+  cut = refl;
+  whole = inl refl;
+  short = omega arith;
+  one_line = search rules;
+  accepted = refl;
+  stands = stands-nothing before;
+}
 
 -- no line has begun at a script's end
 pub end-empty : (before : Told) (shown : Shown) (frames : ℕ) (part : List ℕ) → part ≡ []
@@ -158,7 +159,7 @@ end-empty before shown frames part empty =
 -- the last line needs no LF
 script_outcome-last : (prefix text : List ℕ) (frames : ℕ) (part : List ℕ) → part ≢ [] → IsOneLine part
     → script_outcome prefix text frames (part ++ [])
-      ≡ line_outcome prefix text frames (line_fault frames part) (outcome [] Done)
+    ≡ line_outcome prefix text frames (line_fault frames part) (outcome [] Done)
 unfolding script_outcome
 script_outcome-last prefix text frames [] some one = absurd (some refl)
 script_outcome-last prefix text frames (byte ∷ part) some one =
@@ -180,9 +181,9 @@ module _ (before now : Told) (shown : Shown) (frames : ℕ) (line part : List �
       let P : Outcome → Type 0 = λ end. EndsAs before now end Done in
       let e = last-outcome ∙ ap (λ fault. line_outcome shown.prefix shown.text frames fault (outcome [] Done)) made.0 in
       subst P (sym e) (record {
-          complete = λ c. (made.1, refl);
-          cut_short = λ c. cc;
-        })
+        complete = λ c. (made.1, refl);
+        cut_short = λ c. cc;
+      })
 
   -- the last line is refused, or a write failed
   pub end-stop : (stop : Stop) → TakesLine {T = Unit {0}} before now shown frames (line_fault frames line) (Err stop)

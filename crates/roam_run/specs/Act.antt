@@ -53,12 +53,12 @@ IsPartOfMesh prefix number bytes part =
 abbrev pub StandsInPart : Told → Told → List Act → Act → Type 0
 StandsInPart before now done (WholeMesh prefix number bytes) =
     ((all : List Mesh) → before.meshes ≡ Some all → (part : List Mesh) × IsPartOfMesh prefix number bytes part
-        × (now.meshes ≡ Some (all ++ (meshes_of done ++ part))))
+    × (now.meshes ≡ Some (all ++ (meshes_of done ++ part))))
     × Grows before.report now.report (report_of done)
 StandsInPart before now done (ReportLine bytes) =
     Grows before.meshes now.meshes (meshes_of done)
     × ((all : List ℕ) → before.report ≡ Some all → (front : List ℕ) × IsFront front bytes
-        × (now.report ≡ Some (all ++ (report_of done ++ front))))
+    × (now.report ≡ Some (all ++ (report_of done ++ front))))
 
 -- The acts were cut short: some were added whole and in order, and of the next one a part. So a mesh that
 -- was finished stays, and an unfinished mesh or a cut line is a front of what was owed.

@@ -1,6 +1,6 @@
 -- Why there is no grid. This project's own words.
 use Rattle.pgm_grid.specs.declared.fault.PgmFault.{PgmFault}
-use Rattle.pgm_grid.specs.declared.fault.PgmFault.TheVariants.{BadMagic, BadHeader, HeaderTooLong, BadMaxval, NotSquare, BadSide, Truncated, BadSample, AboveMaxval, Trailing, NoMemory, TooLong}
+use Rattle.pgm_grid.specs.declared.fault.PgmFault.TheVariants.{NoMemory}
 use Rattle.roam_run.specs.declared.grid_file.GridStop.{GridStop}
 use Rattle.roam_run.specs.declared.grid_file.GridStop.TheVariants as stop
 

@@ -1,12 +1,11 @@
 -- The outcome of a run of `roam`: a function of its words and of the files that they name.
 -- This project's own.
-use Rattle.std.specs.Prelude.{◌≡◌, ℕ, List, [], ◌∷◌, Option, Some, None, Result, Ok, Err}
+use Rattle.std.specs.Prelude.{ℕ, List, [], ◌∷◌, Option, Some, None, Result, Ok, Err}
 use Rattle.mesh_defs.specs.HeightField.{HeightField}
 use Rattle.mesh_defs.specs.MeshText.{mesh_text}
 use Rattle.roam_edge.specs.Shelf.{NamedFile, bytes_of}
 use Rattle.pgm_grid.specs.declared.fault.PgmFault.{PgmFault}
 use Rattle.pgm_grid.specs.Progress.{grid_of}
-use Rattle.roam_run.specs.declared.status.Status.{Status}
 use Rattle.roam_run.specs.declared.status.Status.TheVariants.{Usage, GridRefused}
 use Rattle.roam_run.specs.Words.{MeshCommand, command_of}
 use Rattle.roam_run.specs.Act.{ReportLine}

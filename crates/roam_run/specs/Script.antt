@@ -1,6 +1,6 @@
 -- What a script does, line by line. This project's own.
 -- Words: lines_of, is_frame, line_fault, Outcome, after_acts, frame_acts, lines_outcome, script_outcome.
-use Rattle.std.specs.Prelude.{◌≡◌, ℕ, ◌+◌, ◌<◌, ◌≤◌, Bool, true, false, nat_lt, ◌==◌, cond, if◌then◌else◌, List, [], ◌∷◌, ◌++◌, Option, Some, None, codes, bytes_eq}
+use Rattle.std.specs.Prelude.{◌≡◌, ℕ, ◌+◌, nat_lt, ◌==◌, cond, if◌then◌else◌, List, [], ◌∷◌, ◌++◌, Option, Some, None, codes, bytes_eq}
 use Rattle.std.specs.List.{onto_first}
 use Rattle.roam_run.specs.declared.status.Status.{Status}
 use Rattle.roam_run.specs.declared.status.Status.TheVariants.{Done, ScriptRefused}

@@ -1,6 +1,6 @@
 -- What a piece of a script does to the outside, and what is left to do. This project's own words.
 -- Words: Carries, Refuses, Cuts, TakesPiece.
-use Rattle.std.specs.Prelude.{◌≡◌, ◌≢◌, ℕ, ◌+◌, ◌*◌, ◌≤◌, ◌⊎◌, Bool, false, List, [], ◌∷◌, ◌++◌, length, All, Option, Some, None, Result, Err, OnOk}
+use Rattle.std.specs.Prelude.{◌≡◌, ◌≢◌, ℕ, ◌+◌, ◌*◌, ◌≤◌, ◌⊎◌, List, [], ◌∷◌, ◌++◌, length, All, Option, Some, None, Result, Err, OnOk}
 use Rattle.roam_run.specs.declared.status.Status.TheVariants.{ScriptRefused}
 use Rattle.roam_run.specs.declared.script.Stop.{Stop}
 use Rattle.roam_run.specs.declared.script.Stop.TheVariants.{Refused, Failed}

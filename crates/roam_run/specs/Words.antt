@@ -1,5 +1,5 @@
 -- The words of a command line that are a command. This project's own.
-use Rattle.std.specs.Prelude.{ℕ, ◌≤◌, Bool, ◌&&◌, nat_le, if◌then◌else◌, List, [], ◌∷◌, length, Option, Some, None, codes, bytes_eq}
+use Rattle.std.specs.Prelude.{ℕ, Bool, ◌&&◌, nat_le, if◌then◌else◌, List, [], ◌∷◌, length, Option, Some, None, codes, bytes_eq}
 
 -- the command `mesh GRID SCRIPT PREFIX 2 1`: the names of the two files, and what each mesh's name begins with
 pub record MeshCommand : Type 0 where

@@ -7,9 +7,8 @@ ghost use Rattle.roam_run.specs.Act.{told, Grows, Stands, IsCutShort, IsPartOfMe
 ghost use Rattle.roam_run.specs.Cause.{WritesHaveCause};
 ghost use Rattle.roam_run.specs.Script.{frame_acts};
 
-use roam_edge::{Failed, MeshSink, Sink};
-
 use crate::report::frame_report;
+use roam_edge::{Failed, MeshSink, Sink};
 
 /// Writes the mesh, and then its line. The line comes only after the mesh was finished.
 pub(crate) fn write_frame<M: MeshSink, R: Sink>(

@@ -1,17 +1,20 @@
 //! The text of the mesh of the two base triangles.
 
-ghost use Rattle.std.specs.Prelude.{◌≡◌, ◌≤◌, ◌^◌};
-ghost use Rattle.roam_run.specs.Outcome.{frame_text};
+ghost use Rattle.std.specs.Prelude.{◌≡◌, ◌≤◌, ◌^◌, ℕ};
+ghost use Rattle.mesh_defs.specs.BestMesh.{IsBestMesh};
+ghost use Rattle.roam_run.specs.Outcome.{frame_text, frame_triangles};
+ghost use Rattle.roam_run.specs.Words.{word_budget};
 
+use crate::text::{Text, push_numbers};
 use arrayvec::ArrayVec;
 use mesh_defs::base_mesh;
 use pgm_grid::Grid;
 
-use crate::text::{Text, push_numbers};
-
 /// The text of a frame's mesh: the four corners of the square, and the two base triangles.
 pub(crate) fn text_of(grid: &Grid) -> Text
-    ensures { result.items ≡ frame_text grid.now }
+    ensures text { result.items ≡ frame_text grid.now }
+    // Whatever the priorities are, these two are the best mesh within the budget.
+    ensures best { (priority : ℕ → ℕ) → IsBestMesh grid.now.n word_budget priority frame_triangles }
 {
     let n = grid.n();
     base_mesh(n);

@@ -4,11 +4,10 @@ ghost use Rattle.std.specs.Prelude.{◌≡◌, ◌+◌, ◌≤◌, ◌++◌, len
 ghost use Rattle.arrayvec.specs.ArrayVec.{array_vec_len};
 ghost use Rattle.roam_run.specs.ReportText.{frame_line, grid_fault_text, grid_refusal, script_fault_text, line_refusal};
 
-use arrayvec::ArrayVec;
-use pgm_grid::PgmFault;
-
 use crate::script_fault::ScriptFault;
 use crate::text::{Text, push_bytes, push_number};
+use arrayvec::ArrayVec;
+use pgm_grid::PgmFault;
 
 /// The line of a frame.
 pub(crate) fn frame_report(number: u32) -> Text

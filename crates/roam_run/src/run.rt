@@ -1,6 +1,6 @@
 //! The top call: a run from words to meshes and a report.
 
-ghost use Rattle.std.specs.Prelude.{◌≡◌, ◌≢◌, ◌+◌, ◌-◌, ◌^◌, ◌<◌, ◌≤◌, ◌⊎◌, ◌↔◌, List, [], map, Some, None, false, string_bytes};
+ghost use Rattle.std.specs.Prelude.{◌≡◌, ◌≢◌, ◌+◌, ◌-◌, ◌^◌, ◌<◌, ◌≤◌, ◌⊎◌, ◌↔◌, ℕ, List, [], map, Some, None, false, string_bytes};
 ghost use Rattle.roam_edge.specs.MeshSink.{Mesh};
 ghost use Rattle.roam_edge.specs.Shelf.{NamedFile};
 ghost use Rattle.roam_run.specs.Act.{told};
@@ -11,15 +11,14 @@ ghost use Rattle.roam_run.specs.Taking.{IsPrefixLength};
 ghost use Rattle.roam_run.specs.WordView.{command_seen};
 ghost use Rattle.roam_run.specs.Words.{command_of};
 
-use roam_edge::{MeshSink, Shelf, Sink};
-use std::alloc::Global;
-
 use crate::grid_file::{GridStop, read_grid};
 use crate::mesh_text::text_of;
 use crate::report::grid_report;
 use crate::script::{Scene, run_script};
 use crate::status::{Run, Status};
 use crate::words::{Command, command_in};
+use roam_edge::{MeshSink, Shelf, Sink};
+use std::alloc::Global;
 
 /// Carries out the words of a command line: reads the files that they name from the shelf, writes a
 /// mesh for each frame of the script, and a line of the report behind each.
@@ -44,14 +43,14 @@ pub fn roam<F: Shelf, M: MeshSink, R: Sink>(
     // The outcome: what stands after each status.
     ensures outcome { (files : List NamedFile) → F.files shelf.old ≡ Some files →
         EndsAs (told (M.meshes meshes.old) (R.contents report.old))
-            (told (M.meshes meshes.new) (R.contents report.new))
-            (outcome_of (map string_bytes words.now) files) result.status }
+        (told (M.meshes meshes.new) (R.contents report.new))
+        (outcome_of (map string_bytes words.now) files) result.status }
     ensures read_fault { result.status ≡ Status.ReadFault → (files : List NamedFile) → F.files shelf.old ≡ Some files →
         LeavesAtReadFault (told (M.meshes meshes.old) (R.contents report.old))
-            (told (M.meshes meshes.new) (R.contents report.new)) (map string_bytes words.now) files }
+        (told (M.meshes meshes.new) (R.contents report.new)) (map string_bytes words.now) files }
     ensures no_memory { result.status ≡ Status.NoMemory → (files : List NamedFile) → F.files shelf.old ≡ Some files →
         LeavesAtNoMemory (told (M.meshes meshes.old) (R.contents report.old))
-            (told (M.meshes meshes.new) (R.contents report.new)) (map string_bytes words.now) files }
+        (told (M.meshes meshes.new) (R.contents report.new)) (map string_bytes words.now) files }
 
     // The headline: each finished mesh is a best mesh within the budget, whatever the status.
     ensures best { (files : List NamedFile) (all : List Mesh) → F.files shelf.old ≡ Some files →
@@ -92,14 +91,17 @@ fn run_mesh<F: Shelf, M: MeshSink, R: Sink>(
     requires opens { F.opens shelf.old ≤ 2 ^ 63 }
     ensures outcome { (files : List NamedFile) → F.files shelf.old ≡ Some files →
         EndsAs (told (M.meshes meshes.old) (R.contents report.old))
-            (told (M.meshes meshes.new) (R.contents report.new))
-            (command_outcome (Some (command_seen command.now)) files) result }
+        (told (M.meshes meshes.new) (R.contents report.new))
+        (command_outcome (Some (command_seen command.now)) files) result }
     ensures read_fault { result ≡ Status.ReadFault → (files : List NamedFile) → F.files shelf.old ≡ Some files →
         CommandReadFault (told (M.meshes meshes.old) (R.contents report.old))
-            (told (M.meshes meshes.new) (R.contents report.new)) (command_seen command.now) files }
+        (told (M.meshes meshes.new) (R.contents report.new)) (command_seen command.now) files }
     ensures no_memory { result ≡ Status.NoMemory → (files : List NamedFile) → F.files shelf.old ≡ Some files →
         CommandNoMemory (told (M.meshes meshes.old) (R.contents report.old))
-            (told (M.meshes meshes.new) (R.contents report.new)) (command_seen command.now) files }
+        (told (M.meshes meshes.new) (R.contents report.new)) (command_seen command.now) files }
+    ensures best { (words : List (List ℕ)) (files : List NamedFile) (all : List Mesh) →
+        Some (command_seen command.now) ≡ command_of words → F.files shelf.old ≡ Some files →
+        M.meshes meshes.old ≡ Some all → KeepsBestMeshes words files all (M.meshes meshes.new) }
     ensures not_usage { result ≢ Status.Usage }
     ensures faults { StatusHasCause (F.faults shelf.old) (F.faults shelf.new) (M.faults meshes.old)
         (M.faults meshes.new) (R.faults report.old) (R.faults report.new) result }

@@ -12,14 +12,13 @@ ghost use Rattle.roam_run.specs.Script.{line_fault};
 ghost use Rattle.roam_run.specs.Step.{HasBegun, TakesLine, TakesPiece, left_outcome, place};
 ghost use Rattle.roam_run.specs.Taking.{shown, place_of, status_for, IsPrefixLength, NotFailed, StopsHaveCause};
 
-use arrayvec::ArrayVec;
-use roam_edge::{Failed, MeshSink, Shelf, Sink};
-
 use crate::frame::write_frame;
 use crate::grid_file::PIECE;
 use crate::report::line_report;
 use crate::script_fault::ScriptFault;
 use crate::status::Status;
+use arrayvec::ArrayVec;
+use roam_edge::{Failed, MeshSink, Shelf, Sink};
 
 /// Why a run goes no further.
 #[derive(Clone, Copy, Debug, PartialEq, Eq)]
@@ -130,7 +129,13 @@ fn take_byte<M: MeshSink, R: Sink>(
         (R.faults report.old) (R.faults report.new) result }
 {
     if byte == b'\n' {
-        take_line(scene, progress.frames, progress.part.as_slice(), meshes, report)?;
+        take_line(
+            scene,
+            progress.frames,
+            progress.part.as_slice(),
+            meshes,
+            report,
+        )?;
         progress.frames += 1;
         progress.part.clear();
         return Ok(());
@@ -204,7 +209,13 @@ fn end_script<M: MeshSink, R: Sink>(
     if progress.part.is_empty() {
         return Status::Done;
     }
-    match take_line(scene, progress.frames, progress.part.as_slice(), meshes, report) {
+    match take_line(
+        scene,
+        progress.frames,
+        progress.part.as_slice(),
+        meshes,
+        report,
+    ) {
         Ok(()) => Status::Done,
         Err(stop) => status_of(stop),
     }
@@ -222,12 +233,12 @@ pub(crate) fn run_script<F: Shelf, M: MeshSink, R: Sink>(
     requires prefix { IsPrefixLength scene.now.prefix.now }
     ensures ends { (files : List NamedFile) → F.files shelf.old ≡ Some files →
         EndsAs (told (M.meshes meshes.old) (R.contents report.old))
-            (told (M.meshes meshes.new) (R.contents report.new))
-            (left_outcome (shown scene.now) (place 0 []) (bytes_of files name.now)) result }
+        (told (M.meshes meshes.new) (R.contents report.new))
+        (left_outcome (shown scene.now) (place 0 []) (bytes_of files name.now)) result }
     ensures read_fault { result ≡ Status.ReadFault → (files : List NamedFile) → F.files shelf.old ≡ Some files →
         StandsForRead (told (M.meshes meshes.old) (R.contents report.old))
-            (told (M.meshes meshes.new) (R.contents report.new))
-            (shown scene.now) (bytes_of files name.now) }
+        (told (M.meshes meshes.new) (R.contents report.new))
+        (shown scene.now) (bytes_of files name.now) }
     ensures status { IsRunEnd result }
     ensures done { result ≡ Status.Done → HasEnded (F.ended shelf.new) (F.files shelf.old) (F.rest shelf.new) }
     ensures opens { F.opens shelf.new ≡ next_count (F.opens shelf.old) }

@@ -13,4 +13,4 @@ returns-in_err-write_mesh-clause-err g c =
 pub returns-clause-err : goal.returns-clause-err
 returns-clause-err g c =
     on_err_weaker c.write.result (cut-line _ _ _ _ _ _ _ (frame_line c.args.number) c.in_ok-write_mesh.ensures.ok)
-        (rw (← c.frame_report.ensures, ← c.as_slice.ensures.value) c.write.ensures.bytes.failed)
+    (rw (← c.frame_report.ensures, ← c.as_slice.ensures.value) c.write.ensures.bytes.failed)

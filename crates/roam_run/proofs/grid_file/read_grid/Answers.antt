@@ -1,4 +1,4 @@
-use Rattle.std.proofs.Common.{◌≡◌, ℕ, List, Some, Err, inl, inr, take, rules, arith, sym, ap, ◌∙◌}
+use Rattle.std.proofs.Common.{◌≡◌, ℕ, List, Some, Err, inl, inr, take, rules, arith, ap, ◌∙◌}
 use Rattle.roam_run.specs.GridStop.{stop_for}
 use Rattle.roam_run.specs.declared.grid_file.GridStop.TheVariants.{Refused, NoMemory}
 use Rattle.roam_run.proofs.ReadingLemmas.{reading-begin, reading-more, reading-refused, reading-unsettled, reading-header, front-read, stop_for-refused, stop_for-memory}
@@ -6,40 +6,41 @@ use Rattle.roam_run.proofs.grid_file.read_grid.Goals as goal
 
 pub pieces-init : goal.pieces-init
 pieces-init g c = record {
-    reading = reading-begin _ _ _ _ c.new-reader.ensures.value c.in-Ok.ensures.opened.chosen;
-    few = omega (arith, c.new-reader.ensures.count);
-    open_file = search rules;
-    files = search rules;
-    opens = search rules;
-    faults = search rules;
-  }
+  reading = reading-begin _ _ _ _ c.new-reader.ensures.value c.in-Ok.ensures.opened.chosen;
+  few = omega (arith, c.new-reader.ensures.count);
+  open_file = search rules;
+  files = search rules;
+  opens = search rules;
+  faults = search rules;
+}
 
 pub returns-in-Err-clause-refused : goal.returns-in-Err-clause-refused
 returns-in-Err-clause-refused g c fault is all told =
     let found = stop_for-refused c.in-Err.fault fault (let e : stop_for c.in-Err.fault ≡ Refused fault = cc in e) in
     reading-refused _ _ _ _ c.in-Ok-read.count _ _ c.pieces.invariant.reading
-        (λ unread here. ap (take c.in-Ok-read.count) (c.in-Ok-read.ensures.bytes.gives unread here)
-            ∙ front-read c.in-Ok-read.count unread _ (c.in-Ok-read.ensures.bytes.within unread here))
-        (rw found.0 at (c.in-Err.ensures.refusal found.1)) all told
+    (λ unread here. ap (take c.in-Ok-read.count) (c.in-Ok-read.ensures.bytes.gives unread here)
+    ∙ front-read c.in-Ok-read.count unread _ (c.in-Ok-read.ensures.bytes.within unread here))
+    (rw found.0 at (c.in-Err.ensures.refusal found.1)) all told
 
 pub pieces-preserved : goal.pieces-preserved
 pieces-preserved g c = record {
-    reading = reading-more _ _ _ _ _ c.in-Ok-read.count _ _ c.pieces.invariant.reading c.in-Ok-read.ensures.bytes.takes
-        (λ unread here. ap (take c.in-Ok-read.count) (c.in-Ok-read.ensures.bytes.gives unread here)
-            ∙ front-read c.in-Ok-read.count unread _ (c.in-Ok-read.ensures.bytes.within unread here))
-        c.in_default-feed.ensures.ok;
-    few = c.in_default-feed.ensures.limit;
-    open_file = search rules;
-    files = search rules;
-    opens = search rules;
-    faults = search rules;
-  }
+  reading = reading-more _ _ _ _ _ c.in-Ok-read.count _ _ c.pieces.invariant.reading c.in-Ok-read.ensures.bytes.takes
+      (λ unread here. ap (take c.in-Ok-read.count) (c.in-Ok-read.ensures.bytes.gives unread here)
+      ∙ front-read c.in-Ok-read.count unread _ (c.in-Ok-read.ensures.bytes.within unread here))
+      c.in_default-feed.ensures.ok;
+  few = c.in_default-feed.ensures.limit;
+  open_file = search rules;
+  files = search rules;
+  opens = search rules;
+  faults = search rules;
+}
 
 pub returns-in-Err-clause-no_memory : goal.returns-in-Err-clause-no_memory
 returns-in-Err-clause-no_memory g c is all told =
     let wanted = stop_for-memory c.in-Err.fault (let e : stop_for c.in-Err.fault ≡ NoMemory = cc in e) in
     let gives = λ (unread : List ℕ) (here : g.F.Shelf.rest c.pieces.shelf ≡ Some unread). ap (take c.in-Ok-read.count) (c.in-Ok-read.ensures.bytes.gives unread here)
-            ∙ front-read c.in-Ok-read.count unread _ (c.in-Ok-read.ensures.bytes.within unread here) in
+    ∙ front-read c.in-Ok-read.count unread _ (c.in-Ok-read.ensures.bytes.within unread here) in
     elim (c.in-Err.ensures.no_memory (ap Err wanted)) [
-        inl settled ↦ absurd (reading-unsettled _ _ _ _ c.grids_and_texts.ensures.others c.pieces.invariant.reading settled)
-      | inr ends ↦ reading-header _ _ _ _ c.in-Ok-read.count _ c.pieces.invariant.reading gives ends all told ]
+      | inl settled ↦ absurd (reading-unsettled _ _ _ _ c.grids_and_texts.ensures.others c.pieces.invariant.reading settled)
+      | inr ends ↦ reading-header _ _ _ _ c.in-Ok-read.count _ c.pieces.invariant.reading gives ends all told
+    ]

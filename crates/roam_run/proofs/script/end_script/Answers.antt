@@ -1,4 +1,4 @@
-use Rattle.std.proofs.Common.{◌≡◌, ◌≢◌, [], arith, rules}
+use Rattle.std.proofs.Common.{◌≡◌, ◌≢◌, [], arith}
 use Rattle.std.proofs.lemmas.Grind.{common_steps}
 use Rattle.roam_run.proofs.ScriptReading.{end-empty, end-frame, end-stop}
 use Rattle.roam_run.proofs.script.end_script.Goals as goal

@@ -1,4 +1,4 @@
-use Rattle.std.proofs.Common.{◌≡◌, ◌++◌, ◌∷◌, [], length, arith, rules}
+use Rattle.std.proofs.Common.{◌≡◌, ◌++◌, ◌∷◌, [], length, arith}
 use Rattle.std.proofs.lemmas.Grind.{common_steps}
 use Rattle.std.proofs.lemmas.Result.{err_from_is_err_and}
 use Rattle.roam_run.specs.Step.{IsOneLine}
@@ -15,7 +15,7 @@ returns-in_err-take_line-clause-outcome g c =
 pub returns-then-byte-eq10-clause-outcome : goal.returns-then-byte-eq10-clause-outcome
 returns-then-byte-eq10-clause-outcome g c =
     takes-frame _ _ _ _ _ _ _ _ c.as_slice.ensures.value c.if-byte-eq10.true c.clear.ensures c.requires.part.one_line
-        c.in_ok-take_line.ensures.word c.in_ok-take_line.ensures.outcome.ok
+    c.in_ok-take_line.ensures.word c.in_ok-take_line.ensures.outcome.ok
 
 pub returns-in-Ok-clause-outcome : goal.returns-in-Ok-clause-outcome
 returns-in-Ok-clause-outcome g c =

@@ -1,0 +1,171 @@
+-- What a run of a command leaves, and that its meshes are best frames.
+use Rattle.std.proofs.Common.{◌≡◌, ℕ, ◌+◌, true, List, [], ◌∷◌, ◌++◌, Option, Some, None, Result, Ok, Err, refl, sym, ◌∙◌, ap, subst, inl, inr, append-nil}
+use Rattle.mesh_defs.specs.HeightField.{HeightField}
+use Rattle.mesh_defs.specs.BestMesh.{IsBestMesh}
+use Rattle.mesh_defs.specs.View.{start_view}
+use Rattle.mesh_defs.specs.Priority.{priority_of}
+use Rattle.roam_edge.specs.Shelf.{NamedFile, bytes_of}
+use Rattle.roam_edge.specs.MeshSink.{Mesh}
+use Rattle.roam_edge.specs.Told.{IsFront}
+use Rattle.pgm_grid.specs.declared.fault.PgmFault.{PgmFault}
+use Rattle.pgm_grid.specs.Progress.{grid_of}
+use Rattle.roam_run.specs.declared.status.Status.{Status}
+use Rattle.roam_run.specs.declared.status.Status.TheVariants.{Usage, GridRefused, ReadFault, WriteFault}
+use Rattle.roam_run.specs.declared.script_fault.ScriptFault.{ScriptFault}
+use Rattle.roam_run.specs.Words.{MeshCommand, command_of, word_budget}
+use Rattle.roam_run.specs.Act.{Act, WholeMesh, ReportLine, Told, told, Stands, StandsInPart, IsCutShort, IsPartOfMesh, meshes_of, mesh_with}
+use Rattle.roam_run.specs.ReportText.{grid_refusal}
+use Rattle.roam_run.specs.Script.{Outcome, line_outcome, lines_outcome, line_fault, script_outcome, lines_of}
+use Rattle.roam_run.specs.Step.{Shown, place, left_outcome}
+use Rattle.roam_run.specs.Outcome.{frame_text, frame_triangles, grid_outcome, command_outcome, outcome_of, word_spacing}
+use Rattle.roam_run.specs.Promise.{EndsAs, StandsForRead, IsRunEnd, CommandReadFault, IsBestFrame, AreBestFrames, KeepsBestMeshes}
+use Rattle.roam_run.proofs.ActLemmas.{stands-nothing, cut-only-line, meshes_of-append}
+use Rattle.roam_run.proofs.StepLemmas.{stands-line}
+
+-- what every frame of a command shows
+abbrev pub shown_by : MeshCommand → List ℕ → Shown
+shown_by command bytes = record { prefix = command.prefix; text = bytes }
+
+-- a read of the script failed
+pub read-fault : (before now : Told) (command : MeshCommand) (files : List NamedFile) (grid : HeightField) (text : List ℕ)
+    → text ≡ frame_text grid → grid_of (bytes_of files command.grid) ≡ Ok grid
+    → StandsForRead before now (shown_by command text) (bytes_of files command.script)
+    → CommandReadFault before now command files
+read-fault before now command files grid text is found stands =
+    let P : List ℕ → Type 0 = λ t. StandsForRead before now (shown_by command t) (bytes_of files command.script) in
+    record { left = inr (grid, found, subst P is stands) }
+
+-- the script ended
+pub script-ends : (before now : Told) (command : MeshCommand) (files : List NamedFile) (grid : HeightField) (text : List ℕ) (status : Status)
+    → text ≡ frame_text grid → grid_of (bytes_of files command.grid) ≡ Ok grid
+    → EndsAs before now (left_outcome (shown_by command text) (place 0 []) (bytes_of files command.script)) status
+    → EndsAs before now (command_outcome (Some command) files) status
+script-ends before now command files grid text status is found ends =
+    let P : Outcome → Type 0 = λ end. EndsAs before now end status in
+    subst P (ap (λ t. script_outcome command.prefix t 0 (bytes_of files command.script)) is
+    ∙ sym (ap (λ answer. grid_outcome command answer (bytes_of files command.script)) found)) ends
+
+module _ (meshes : Option (List Mesh)) (report report' : Option (List ℕ)) (command : MeshCommand) (answer : Result HeightField PgmFault)
+    (fault : PgmFault) (script line : List ℕ) (is : answer ≡ Err fault) (is_line : line ≡ grid_refusal fault) where
+  -- the grid was refused, and the report says so
+  pub refused-ends : ((all : List ℕ) → report ≡ Some all → report' ≡ Some (all ++ line))
+      → EndsAs (told meshes report) (told meshes report') (grid_outcome command answer script) GridRefused
+  refused-ends came =
+      let P : Result HeightField PgmFault → Type 0 = λ a. EndsAs (told meshes report) (told meshes report') (grid_outcome command a script) GridRefused in
+      let Q : List ℕ → Type 0 = λ l. Stands (told meshes report) (told meshes report') (ReportLine l ∷ []) in
+      subst P (sym is) (record { complete = λ e. (subst Q is_line (stands-line meshes report report' line came), refl); cut_short = λ e. cc })
+
+  -- the grid was refused, and the line that says so was cut short
+  pub refused-cut : ((all : List ℕ) → report ≡ Some all → (front : List ℕ) × IsFront front line × (report' ≡ Some (all ++ front)))
+      → EndsAs (told meshes report) (told meshes report') (grid_outcome command answer script) WriteFault
+  refused-cut part =
+      let P : Result HeightField PgmFault → Type 0 = λ a. EndsAs (told meshes report) (told meshes report') (grid_outcome command a script) WriteFault in
+      let Q : List ℕ → Type 0 = λ l. IsCutShort (told meshes report) (told meshes report') (ReportLine l ∷ []) in
+      subst P (sym is) (record { complete = λ e. cc; cut_short = λ e. subst Q is_line (cut-only-line meshes report report' line [] part) })
+
+-- words that are no command do nothing
+pub usage-ends : (before : Told) (words : List (List ℕ)) (files : List NamedFile) → None ≡ command_of words
+    → EndsAs before before (outcome_of words files) Usage
+unfolding outcome_of
+usage-ends before words files is =
+    let P : Option MeshCommand → Type 0 = λ c. EndsAs before before (command_outcome c files) Usage in
+    subst P is (record { complete = λ e. (stands-nothing before, refl); cut_short = λ e. cc })
+
+-- words of a command end as the command does
+pub command-ends : (before now : Told) (words : List (List ℕ)) (files : List NamedFile) (command : MeshCommand) (status : Status)
+    → Some command ≡ command_of words → EndsAs before now (command_outcome (Some command) files) status
+    → EndsAs before now (outcome_of words files) status
+unfolding outcome_of
+command-ends before now words files command status is ends =
+    let P : Option MeshCommand → Type 0 = λ c. EndsAs before now (command_outcome c files) status in
+    subst P is ends
+
+-- no mesh was added
+pub keeps-nothing : (words : List (List ℕ)) (files : List NamedFile) (all : List Mesh) (now : Option (List Mesh))
+    → now ≡ Some all → KeepsBestMeshes words files all now
+keeps-nothing words files all now is = record { added = []; behind = is ∙ ap Some (sym (append-nil all)); frames = tt }
+
+-- a front of best frames
+frames-front : (words : List (List ℕ)) (files : List NamedFile) (number : ℕ) (front back : List Mesh)
+    → AreBestFrames words files number (front ++ back) → AreBestFrames words files number front
+frames-front words files number [] back frames = tt
+frames-front words files number (mesh ∷ front) back frames = (frames.0, frames-front words files (number + 1) front back frames.1)
+
+-- best frames, and then a part of a mesh
+frames-part : (words : List (List ℕ)) (files : List NamedFile) (number : ℕ) (front part : List Mesh) (prefix : List ℕ) (count : ℕ) (bytes : List ℕ)
+    → AreBestFrames words files number front → IsPartOfMesh prefix count bytes part
+    → AreBestFrames words files number (front ++ part)
+frames-part words files number [] part prefix count bytes frames (inl none) =
+    let P : List Mesh → Type 0 = λ m. AreBestFrames words files number m in
+    subst P (sym none) tt
+frames-part words files number [] part prefix count bytes frames (inr some) =
+    let P : List Mesh → Type 0 = λ m. AreBestFrames words files number m in
+    subst P (sym some.2) ((λ e. cc), tt)
+frames-part words files number (mesh ∷ front) part prefix count bytes frames is =
+    (frames.0, frames-part words files (number + 1) front part prefix count bytes frames.1 is)
+
+module _ (words : List (List ℕ)) (files : List NamedFile) (command : MeshCommand) (grid : HeightField) (text : List ℕ)
+    (is_command : Some command ≡ command_of words)
+    (is_grid : grid_of (bytes_of files command.grid) ≡ Ok grid)
+    (is_text : text ≡ frame_text grid)
+    (best : (priority : ℕ → ℕ) → IsBestMesh grid.n word_budget priority frame_triangles) where
+  -- the mesh of a frame is best
+  frame-best : (number : ℕ) → IsBestFrame words files number (mesh_with command.prefix number text true)
+  frame-best number = record {
+    command = command;
+    grid = grid;
+    triangles = frame_triangles;
+    is_command = sym is_command;
+    is_grid = is_grid;
+    named = refl;
+    numbered = refl;
+    best = best (priority_of grid.n grid.heights (start_view word_spacing));
+    text = is_text;
+  }
+
+  -- a line, and best frames behind it
+  line-best : (frames : ℕ) (fault : Option ScriptFault) (rest : Outcome) → AreBestFrames words files (frames + 1 + 1) (meshes_of rest.acts)
+      → AreBestFrames words files (frames + 1) (meshes_of (line_outcome command.prefix text frames fault rest).acts)
+  line-best frames None rest behind = ((λ e. frame-best (frames + 1)), behind)
+  line-best frames (Some fault) rest behind = tt
+
+  -- the meshes of lines are best frames
+  lines-best : (lines : List (List ℕ)) (frames : ℕ) → AreBestFrames words files (frames + 1) (meshes_of (lines_outcome command.prefix text frames lines).acts)
+  lines-best [] frames = tt
+  lines-best (line ∷ lines) frames = line-best frames (line_fault frames line) _ (lines-best lines (frames + 1))
+
+  -- the meshes of a script are best frames
+  script-best : (script : List ℕ) → AreBestFrames words files 1 (meshes_of (script_outcome command.prefix text 0 script).acts)
+  unfolding script_outcome
+  script-best script = lines-best (lines_of script) 0
+
+  module _ (before now : Told) (all : List Mesh) (there : before.meshes ≡ Some all) where
+    -- what stands of a script
+    stands-best : (script : List ℕ) → Stands before now (script_outcome command.prefix text 0 script).acts
+        → KeepsBestMeshes words files all now.meshes
+    stands-best script stands = record { added = _; behind = stands.meshes_grow all there; frames = script-best script }
+
+    part-best : (done : List Act) (next : Act) → AreBestFrames words files 1 (meshes_of done) → StandsInPart before now done next
+        → KeepsBestMeshes words files all now.meshes
+    part-best done (WholeMesh prefix number bytes) frames standing =
+        let part = standing.0 all there in
+        record { added = _; behind = part.2; frames = frames-part words files 1 (meshes_of done) part.0 prefix number bytes frames part.1 }
+    part-best done (ReportLine bytes) frames standing = record { added = _; behind = standing.0 all there; frames = frames }
+
+    -- what stands of a script that was cut short
+    cut-best : (script : List ℕ) → IsCutShort before now (script_outcome command.prefix text 0 script).acts
+        → KeepsBestMeshes words files all now.meshes
+    cut-best script cut =
+        let P : List Mesh → Type 0 = λ m. AreBestFrames words files 1 m in
+        let frames = subst P (ap meshes_of cut.in_order ∙ meshes_of-append cut.done (cut.next ∷ cut.owed)) (script-best script) in
+        part-best cut.done cut.next (frames-front words files 1 (meshes_of cut.done) (meshes_of (cut.next ∷ cut.owed)) frames) cut.standing
+
+    -- whatever the end of a script is, its meshes are best frames
+    pub run-best : (script : List ℕ) (status : Status) → IsRunEnd status
+        → EndsAs before now (left_outcome (shown_by command text) (place 0 []) script) status
+        → (status ≡ ReadFault → StandsForRead before now (shown_by command text) script)
+        → KeepsBestMeshes words files all now.meshes
+    run-best script status (inl e) ends fault = (let left = fault e in stands-best left.lines left.stands)
+    run-best script status (inr (inl e)) ends fault = stands-best script (ends.complete (rw e refl)).0
+    run-best script status (inr (inr (inl e))) ends fault = stands-best script (ends.complete (rw e refl)).0
+    run-best script status (inr (inr (inr e))) ends fault = cut-best script (ends.cut_short e)

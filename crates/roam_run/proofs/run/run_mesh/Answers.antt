@@ -1,0 +1,32 @@
+use Rattle.std.proofs.Common.{Err, ◌∙◌, ap}
+use Rattle.roam_run.proofs.RunLemmas.{read-fault, refused-ends, refused-cut, run-best}
+use Rattle.roam_run.specs.Act.{told}
+use Rattle.roam_run.specs.WordView.{command_seen}
+use Rattle.roam_run.proofs.run.run_mesh.Goals as goal
+
+pub returns-in-Ok-clause-read_fault : goal.returns-in-Ok-clause-read_fault
+returns-in-Ok-clause-read_fault g c is all told_files =
+    read-fault _ _ (command_seen c.args.command.now) all _ _ (c.as_slice.ensures.value ∙ c.text_of-text.ensures.text) (c.in-Ok.ensures.ok all told_files)
+    (c.run_script.ensures.read_fault is all (c.in-Ok.ensures.files ∙ told_files))
+
+pub returns-in-Ok-clause-best : goal.returns-in-Ok-clause-best
+returns-in-Ok-clause-best g c words all before is_command told_files told_meshes =
+    run-best words all (command_seen c.args.command.now) _ _ is_command (c.in-Ok.ensures.ok all told_files)
+    (c.as_slice.ensures.value ∙ c.text_of-text.ensures.text) c.text_of-text.ensures.best
+    (told (g.M.MeshSink.meshes c.args.meshes.now) (g.R.Sink.contents c.args.report.now))
+    (told (g.M.MeshSink.meshes c.run_script.new.meshes) (g.R.Sink.contents c.run_script.new.report))
+    before told_meshes _ c.run_script.result c.run_script.ensures.status
+    (c.run_script.ensures.ends all (c.in-Ok.ensures.files ∙ told_files))
+    (λ fault. c.run_script.ensures.read_fault fault all (c.in-Ok.ensures.files ∙ told_files))
+
+pub returns-in-Ok-write-clause-outcome : goal.returns-in-Ok-write-clause-outcome
+returns-in-Ok-write-clause-outcome g c all told_files =
+    refused-ends _ _ _ (command_seen c.args.command.now) _ c.in-Err-Refused.fault _ _
+    (c.in-Err-Refused.ensures.refused c.in-Err-Refused.fault (ap Err c.in-Err-Refused.field-0-is) all told_files)
+    (c.as_slice-in-Err-Refused.ensures.value ∙ c.grid_report.ensures) c.in-Ok-write.ensures.bytes.ok
+
+pub returns-in-Err-clause-outcome : goal.returns-in-Err-clause-outcome
+returns-in-Err-clause-outcome g c all told_files =
+    refused-cut _ _ _ (command_seen c.args.command.now) _ c.in-Err-Refused.fault _ _
+    (c.in-Err-Refused.ensures.refused c.in-Err-Refused.fault (ap Err c.in-Err-Refused.field-0-is) all told_files)
+    (c.as_slice-in-Err-Refused.ensures.value ∙ c.grid_report.ensures) c.in-Err.ensures.bytes.failed
