@@ -1,0 +1,13 @@
+//! Addresses of the triangles of a bintree over a square grid.
+//!
+//! A `Tri` names a triangle by its number in a binary heap: 2 and 3 are the halves of the square,
+//! and 2a and 2a + 1 the left and right child of a. Corners, levels and mates follow from the number
+//! by a step a level, so nothing here is stored and no call takes memory.
+//! Sets of triangles, heights and priorities are the business of the crates above.
+
+#![tactic(auto)]
+
+mod tri;
+
+pub use mesh_defs::{Corners, Point};
+pub use tri::Tri;
