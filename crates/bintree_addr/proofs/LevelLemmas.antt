@@ -77,9 +77,10 @@ level_of-parent a low =
 -- the addresses below a level are those below a power of 2
 pub level_of-below : (a k : ℕ) → 2 ≤ a → (level_of a < k) ↔ (a < 2 ^ (k + 1))
 level_of-below a k low =
-    let at : IsAtLevel (level_of a) a = IsAtLevel-level_of a low in
-    ((λ lt. let le : 2 ^ (level_of a + 2) ≤ 2 ^ (k + 1) = pow_mono (omega arith) in omega arith),
-     (λ lt. ⊎_elim (λ done. done) (λ ge. let le : 2 ^ (k + 1) ≤ 2 ^ (level_of a + 1) = pow_mono (omega arith) in absurd (omega arith)) (cases_lt (level_of a) k)))
+    let at : IsAtLevel (level_of a) a = IsAtLevel-level_of a low in (
+      (λ lt. let le : 2 ^ (level_of a + 2) ≤ 2 ^ (k + 1) = pow_mono (omega arith) in omega arith),
+      (λ lt. ⊎_elim (λ done. done) (λ ge. let le : 2 ^ (k + 1) ≤ 2 ^ (level_of a + 1) = pow_mono (omega arith) in absurd (omega arith)) (cases_lt (level_of a) k)),
+    )
 
 top_is_level : (a j blanks : ℕ) → 2 ≤ a → blanks + suc j ≡ 32 → 2 ^ j ≤ a → a < 2 ^ suc j → blanks + (level_of a + 2) ≡ 32
 top_is_level a zero blanks low e from to = absurd (omega arith)

@@ -7,7 +7,10 @@
 
 #![tactic(auto)]
 
+mod laws;
+mod shape;
 mod tri;
 
+pub use laws::{corner_laws, level_laws};
 pub use mesh_defs::{Corners, Point};
 pub use tri::Tri;

@@ -1,8 +1,11 @@
 //! The address of a triangle, with what follows from it alone.
 
-ghost use Rattle.std.specs.Prelude.{◌≡◌, ◌+◌, ◌*◌, ◌^◌, ◌<◌, ◌≤◌, ◌↔◌, IsSome, IfSome};
-ghost use Rattle.mesh_defs.specs.Triangle.{level_of};
+ghost use Rattle.std.specs.Prelude.{◌≡◌, ℕ, ◌+◌, ◌*◌, ◌^◌, ◌<◌, ◌≤◌, ◌↔◌, IsSome, IfSome};
+ghost use Rattle.mesh_defs.specs.Triangle.{level_of, corners_of, child, midpoint};
+ghost use Rattle.bintree_addr.specs.Corners.{IsWithin, HasEvenBase};
 
+use crate::shape::{child_corners, half_square, point_between};
+use crate::{Corners, Point};
 use std::marker::Model;
 
 /// The address of a triangle: 2 and 3 for the halves of the square, 2a and 2a + 1 for the left and
@@ -27,7 +30,7 @@ impl Model for Tri {
     ghost inverse = { λ a. record { number = a } };
 }
 
-#[tactic(auto, using(crate::proofs::LevelLemmas::levels))]
+#[tactic(auto, using(crate::proofs::LatticeLemmas::corner_facts))]
 impl Tri {
     /// The triangle with this address.
     pub fn new(number: u32) -> Option<Self>
@@ -63,6 +66,7 @@ impl Tri {
         requires coarse { level_of self < 22 }
         ensures value { result ≡ 2 * self }
         ensures level { level_of result ≡ level_of self + 1 }
+        ensures corners { (n : ℕ) → corners_of n result ≡ child 0 (corners_of n self) }
     {
         Tri {
             number: 2 * self.number,
@@ -74,9 +78,43 @@ impl Tri {
         requires coarse { level_of self < 22 }
         ensures value { result ≡ 2 * self + 1 }
         ensures level { level_of result ≡ level_of self + 1 }
+        ensures corners { (n : ℕ) → corners_of n result ≡ child 1 (corners_of n self) }
     {
         Tri {
             number: 2 * self.number + 1,
         }
     }
+
+    /// The corners, counterclockwise, in grid steps.
+    ///
+    /// Cost (not proved): a step a level.
+    pub fn corners(self, n: u32) -> Corners
+        requires in_grid { (1 ≤ n) × (n ≤ 11) }
+        requires level { level_of self ≤ 2 * n }
+        ensures value { result ≡ corners_of n self }
+        ensures within { IsWithin (2 ^ n) result }
+    {
+        let level = self.level();
+        let mut corners = half_square(1 << n, self.number >> level & 1 == 1);
+        for below in (0..level).rev() {
+            corners = child_corners(corners, self.number >> below & 1 == 1);
+        }
+        corners
+    }
+
+    /// The midpoint of the base, which is the apex of both children.
+    ///
+    /// Cost (not proved): a step a level.
+    pub fn centre(self, n: u32) -> Point
+        requires in_grid { (1 ≤ n) × (n ≤ 11) }
+        requires splittable { level_of self < 2 * n }
+        ensures value { result ≡ midpoint (corners_of n self).v0 (corners_of n self).v1 }
+        ensures exact { HasEvenBase (corners_of n self) }
+    {
+        let corners = self.corners(n);
+        point_between(corners.v0, corners.v1)
+    }
 }
+
+#[cfg(test)]
+mod tests;

@@ -1,0 +1,131 @@
+//! Addresses, levels and corners, against tables worked by hand.
+
+use super::*;
+use std::test::Fail;
+
+// The corners as (apex, v0, v1), each a pair of coordinates.
+type Row = ((u32, u32), (u32, u32), (u32, u32));
+
+fn corners_from(row: Row) -> Corners {
+    let (apex, v0, v1) = row;
+    Corners {
+        apex: Point {
+            x: apex.0,
+            y: apex.1,
+        },
+        v0: Point { x: v0.0, y: v0.1 },
+        v1: Point { x: v1.0, y: v1.1 },
+    }
+}
+
+#[test]
+fn addresses_are_two_to_sixteen_million(rt: HostRuntime) {
+    let cases = [
+        (0, false),
+        (1, false),
+        (2, true),
+        (3, true),
+        (16_777_215, true),
+        (16_777_216, false),
+        (u32::MAX, false),
+    ];
+    for (number, is_address) in cases {
+        let tri = Tri::new(number);
+        assert_eq!(rt; tri.is_some(), is_address, "{number}");
+        assert_eq!(rt; tri.map_or(number, Tri::number), number);
+    }
+}
+
+#[test]
+fn levels_of_addresses(rt: HostRuntime) -> Result<(), Fail> {
+    let cases = [
+        (2, 0),
+        (3, 0),
+        (4, 1),
+        (7, 1),
+        (8, 2),
+        (15, 2),
+        (17, 3),
+        (8_388_607, 21),
+        (16_777_215, 22),
+    ];
+    for (number, level) in cases {
+        let tri = Tri::new(number).ok_or("an address")?;
+        assert_eq!(rt; tri.level(), level, "{number}");
+    }
+    Ok(())
+}
+
+#[test]
+fn children_double_the_address(rt: HostRuntime) -> Result<(), Fail> {
+    for number in 2..18 {
+        let tri = Tri::new(number).ok_or("an address")?;
+        assert!(rt; tri.level() < 22);
+        assert_eq!(rt; tri.left().number(), 2 * number);
+        assert_eq!(rt; tri.right().number(), 2 * number + 1);
+    }
+    Ok(())
+}
+
+#[test]
+fn corners_in_the_grid_of_side_two(rt: HostRuntime) -> Result<(), Fail> {
+    let cases: [(u32, Row); 14] = [
+        (2, ((0, 0), (2, 0), (0, 2))),
+        (3, ((2, 2), (0, 2), (2, 0))),
+        (4, ((1, 1), (0, 0), (2, 0))),
+        (5, ((1, 1), (0, 2), (0, 0))),
+        (6, ((1, 1), (2, 2), (0, 2))),
+        (7, ((1, 1), (2, 0), (2, 2))),
+        (8, ((1, 0), (1, 1), (0, 0))),
+        (9, ((1, 0), (2, 0), (1, 1))),
+        (10, ((0, 1), (1, 1), (0, 2))),
+        (11, ((0, 1), (0, 0), (1, 1))),
+        (12, ((1, 2), (1, 1), (2, 2))),
+        (13, ((1, 2), (0, 2), (1, 1))),
+        (14, ((2, 1), (1, 1), (2, 0))),
+        (15, ((2, 1), (2, 2), (1, 1))),
+    ];
+    for (number, row) in cases {
+        let tri = Tri::new(number).ok_or("an address")?;
+        assert!(rt; tri.level() <= 2);
+        assert_eq!(rt; tri.corners(1), corners_from(row), "{number}");
+    }
+    Ok(())
+}
+
+#[test]
+fn corners_in_the_grid_of_side_four(rt: HostRuntime) -> Result<(), Fail> {
+    let cases: [(u32, Row); 5] = [
+        (2, ((0, 0), (4, 0), (0, 4))),
+        (7, ((2, 2), (4, 0), (4, 4))),
+        (8, ((2, 0), (2, 2), (0, 0))),
+        (13, ((2, 4), (0, 4), (2, 2))),
+        (17, ((1, 1), (0, 0), (2, 0))),
+    ];
+    for (number, row) in cases {
+        let tri = Tri::new(number).ok_or("an address")?;
+        assert!(rt; tri.level() <= 4);
+        assert_eq!(rt; tri.corners(2), corners_from(row), "{number}");
+    }
+    Ok(())
+}
+
+#[test]
+fn centres_are_midpoints_of_bases(rt: HostRuntime) -> Result<(), Fail> {
+    let cases = [
+        (2, 2, 2),
+        (3, 2, 2),
+        (4, 2, 0),
+        (5, 0, 2),
+        (6, 2, 4),
+        (7, 4, 2),
+        (8, 1, 1),
+        (17, 1, 0),
+    ];
+    for (number, x, y) in cases {
+        let tri = Tri::new(number).ok_or("an address")?;
+        assert!(rt; tri.level() < 4);
+        assert_eq!(rt; tri.centre(2), Point { x, y }, "{number}");
+    }
+    Ok(())
+}
