@@ -1,3 +1,5 @@
 pub mod LevelLemmas
 pub mod CornerLemmas
 pub mod LatticeLemmas
+pub mod FrameLemmas
+pub mod PairLemmas
