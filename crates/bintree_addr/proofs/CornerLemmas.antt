@@ -31,7 +31,7 @@ corners_of-right n a low = rw (level_of-right a low, add-one (level_of a)) (corn
 
 -- ---- within the square
 
-IsWithin-base : (m half : ℕ) → IsWithin m (base_triangle m half)
+pub IsWithin-base : (m half : ℕ) → IsWithin m (base_triangle m half)
 IsWithin-base m zero = record { apex_x = omega arith; apex_y = omega arith; v0_x = omega arith; v0_y = omega arith; v1_x = omega arith; v1_y = omega arith }
 IsWithin-base m (suc _) = record { apex_x = omega arith; apex_y = omega arith; v0_x = omega arith; v0_y = omega arith; v1_x = omega arith; v1_y = omega arith }
 

@@ -19,7 +19,7 @@ at x y = record { x = x; y = y }
 abbrev pub three : Point → Point → Point → Corners
 three apex v0 v1 = record { apex = apex; v0 = v0; v1 = v1 }
 
-same_point : (i j k l : ℕ) → i ≡ k → j ≡ l → at i j ≡ at k l
+pub same_point : (i j k l : ℕ) → i ≡ k → j ≡ l → at i j ≡ at k l
 same_point i j k l x y = rw (x, y) refl
 
 same_corners : (a p q b r s : Point) → a ≡ b → p ≡ r → q ≡ s → three a p q ≡ three b r s
@@ -92,7 +92,7 @@ corners_at-lattice (suc (suc level)) step m a size =
     let four = child_of_child step (a / 2 % 2) (a % 2) (lattice level (a / 4)) (omega arith) (omega arith) in
     rw (quarter, above) (rw rest at four)
 
-halved-half : (level : ℕ) → halved level ≡ (level + 1) / 2
+pub halved-half : (level : ℕ) → halved level ≡ (level + 1) / 2
 halved-half zero = refl
 halved-half (suc zero) = refl
 halved-half (suc (suc level)) = let above : halved level ≡ (level + 1) / 2 = halved-half level in omega arith

@@ -3,3 +3,4 @@ pub mod CornerLemmas
 pub mod LatticeLemmas
 pub mod FrameLemmas
 pub mod PairLemmas
+pub mod MateLemmas

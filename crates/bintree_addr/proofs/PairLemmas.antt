@@ -10,14 +10,14 @@ use Rattle.bintree_addr.proofs.LatticeLemmas.{grandchild}
 use Rattle.bintree_addr.proofs.FrameLemmas.{quarter, frame, IsHalf, IsSomeHalf, IsHalf-frame, SameSum, AreHalves, pivot, SamePivot, SamePivot-above}
 
 -- which grandchildren of a are a pair with one of a itself: the first and the last
-abbrev IsInner : ℕ → Type 0
+abbrev pub IsInner : ℕ → Type 0
 IsInner zero = Unit {0}
 IsInner (suc zero) = ⊥
 IsInner (suc (suc zero)) = ⊥
 IsInner (suc (suc (suc _))) = Unit {0}
 
 -- which are a pair with one of the other triangle at the base of a: the second and the third
-abbrev IsOuter : ℕ → Type 0
+abbrev pub IsOuter : ℕ → Type 0
 IsOuter zero = ⊥
 IsOuter (suc zero) = Unit {0}
 IsOuter (suc (suc zero)) = Unit {0}

@@ -1,0 +1,189 @@
+-- Mates: the pairs of addresses are exactly the mates, and a triangle in no pair has its base on the border.
+use Rattle.std.proofs.Common.{◌≡◌, ◌≢◌, ◌⊎◌, ◌↔◌, sym, ◌∙◌, ap, ℕ, zero, suc, ◌+◌, ◌-◌, ◌*◌, ◌/◌, ◌%◌, ◌^◌, ◌<◌, ◌≤◌, refl, arith, inl, inr, ⊎_elim, add-one}
+use Rattle.std.proofs.Math.Nat.{mul-div_cancel_left, mul-add, pow-succ'}
+use Rattle.std.proofs.Math.Pow.{pow_mono}
+use Rattle.std.proofs.lemmas.Bool.{cases_eq}
+use Rattle.std.proofs.lemmas.Nat.{pow_pos}
+use Rattle.mesh_defs.specs.declared.point.Point.{Point}
+use Rattle.mesh_defs.specs.declared.point.Corners.{Corners}
+use Rattle.mesh_defs.specs.Triangle.{level_of, base_triangle, child, corners_of, midpoint, IsAddress, IsSplittable, SameEnds, IsMate, OnOneSide, HasBorderBase}
+use Rattle.bintree_addr.specs.Corners.{IsWithin}
+use Rattle.bintree_addr.proofs.LevelLemmas.{IsAtLevel, IsAtLevel-level_of, level_of-at}
+use Rattle.bintree_addr.proofs.CornerLemmas.{IsWithin-base, IsWithin-child}
+use Rattle.bintree_addr.proofs.LatticeLemmas.{at, three, same_point, multiple, sum_of, scaled, grandchild, lattice, halved, halved-half, step_of, size_by_steps, corners_of-lattice}
+use Rattle.bintree_addr.proofs.FrameLemmas.{quarter, frame, IsHalf, IsSomeHalf, IsHalf-frame, SameSum, AreHalves}
+use Rattle.bintree_addr.proofs.PairLemmas.{IsInner, IsOuter, IsPair, IsAtLevel-quarter, IsAtLevel-pair, pair_differs, pair_unique, AreHalves-pair, same_base}
+
+-- ---- from the frame of a level to its lattice
+
+-- how far the turned frame is moved
+abbrev spread : ℕ → ℕ
+spread zero = 0
+spread (suc zero) = 1
+spread (suc (suc level)) = 2 * spread level
+
+-- a point of the lattice and what it is in the turned frame
+record IsTurned (k : ℕ) (p q : Point) : Type 0 where
+  across : p.x + k ≡ q.x + q.y
+  along : p.y + q.y ≡ q.x + k
+
+record AllTurned (k : ℕ) (c d : Corners) : Type 0 where
+  apex : IsTurned k c.apex d.apex
+  v0 : IsTurned k c.v0 d.v0
+  v1 : IsTurned k c.v1 d.v1
+
+lattice-frame : (level a : ℕ) → level % 2 ≡ 0 → lattice level a ≡ frame level a
+lattice-frame zero a even = refl
+lattice-frame (suc zero) a even = absurd (omega (arith, even))
+lattice-frame (suc (suc level)) a even =
+    let above : lattice level (a / 4) ≡ frame level (a / 4) = lattice-frame level (a / 4) (omega arith) in rw above refl
+
+turned : (k i j s t : ℕ) → i + k ≡ s + t → j + t ≡ s + k → IsTurned k (at i j) (at s t)
+turned k i j s t x y = record { across = x; along = y }
+
+AllTurned-quarter : (which half side : ℕ) → half < 2 → side < 2 → which ≡ 2 * half + side → AllTurned 1 (child side (base_triangle 2 half)) (quarter which)
+AllTurned-quarter which zero zero low less e = rw e (record { apex = turned 1 1 1 1 1 refl refl; v0 = turned 1 0 0 0 1 refl refl; v1 = turned 1 2 0 1 2 refl refl })
+AllTurned-quarter which zero (suc zero) low less e = rw e (record { apex = turned 1 1 1 1 1 refl refl; v0 = turned 1 0 2 1 0 refl refl; v1 = turned 1 0 0 0 1 refl refl })
+AllTurned-quarter which (suc zero) zero low less e = rw e (record { apex = turned 1 1 1 1 1 refl refl; v0 = turned 1 2 2 2 1 refl refl; v1 = turned 1 0 2 1 0 refl refl })
+AllTurned-quarter which (suc zero) (suc zero) low less e = rw e (record { apex = turned 1 1 1 1 1 refl refl; v0 = turned 1 2 0 1 2 refl refl; v1 = turned 1 2 2 2 1 refl refl })
+AllTurned-quarter which (suc (suc _)) side low less e = absurd (omega (arith, low))
+AllTurned-quarter which half (suc (suc _)) low less e = absurd (omega (arith, less))
+
+IsTurned-sum_of : (k : ℕ) (p q r s : Point) → IsTurned k p r → IsTurned k q s → IsTurned (2 * k) (sum_of p q) (sum_of r s)
+IsTurned-sum_of k p q r s t u = record { across = omega arith; along = omega arith }
+
+IsTurned-double : (k : ℕ) (p r : Point) → IsTurned k p r → IsTurned (2 * k) (multiple 2 p) (multiple 2 r)
+IsTurned-double k p r t = record { across = omega arith; along = omega arith }
+
+AllTurned-grandchild : (which k : ℕ) (c d : Corners) → AllTurned k c d → AllTurned (2 * k) (grandchild which c) (grandchild which d)
+AllTurned-grandchild zero k c d t =
+    record { apex = IsTurned-sum_of k c.apex c.v0 d.apex d.v0 t.apex t.v0; v0 = IsTurned-sum_of k c.v0 c.v1 d.v0 d.v1 t.v0 t.v1; v1 = IsTurned-double k c.apex d.apex t.apex }
+AllTurned-grandchild (suc zero) k c d t =
+    record { apex = IsTurned-sum_of k c.apex c.v0 d.apex d.v0 t.apex t.v0; v0 = IsTurned-double k c.v0 d.v0 t.v0; v1 = IsTurned-sum_of k c.v0 c.v1 d.v0 d.v1 t.v0 t.v1 }
+AllTurned-grandchild (suc (suc zero)) k c d t =
+    record { apex = IsTurned-sum_of k c.v1 c.apex d.v1 d.apex t.v1 t.apex; v0 = IsTurned-sum_of k c.v0 c.v1 d.v0 d.v1 t.v0 t.v1; v1 = IsTurned-double k c.v1 d.v1 t.v1 }
+AllTurned-grandchild (suc (suc (suc _))) k c d t =
+    record { apex = IsTurned-sum_of k c.v1 c.apex d.v1 d.apex t.v1 t.apex; v0 = IsTurned-double k c.apex d.apex t.apex; v1 = IsTurned-sum_of k c.v0 c.v1 d.v0 d.v1 t.v0 t.v1 }
+
+AllTurned-frame : (level a : ℕ) → level % 2 ≡ 1 → AllTurned (spread level) (lattice level a) (frame level a)
+AllTurned-frame zero a odd = absurd (omega (arith, odd))
+AllTurned-frame (suc zero) a odd = AllTurned-quarter (a % 4) (a / 2 % 2) (a % 2) (omega arith) (omega arith) (omega arith)
+AllTurned-frame (suc (suc level)) a odd =
+    AllTurned-grandchild (a % 4) (spread level) (lattice level (a / 4)) (frame level (a / 4)) (AllTurned-frame level (a / 4) (omega arith))
+
+parity : (level : ℕ) → (level % 2 ≡ 0) ⊎ (level % 2 ≡ 1)
+parity level = ⊎_elim (λ e. inl e) (λ other. inr (omega arith)) (cases_eq (level % 2) 0)
+
+-- ---- what the frame says of the lattice
+
+turned_sums : (k : ℕ) (c d e f : Corners) → AllTurned k c e → AllTurned k d f → SameSum c d → SameSum e f
+turned_sums k c d e f t u same =
+    let a = t.v0 in let b = t.v1 in let g = u.v0 in let h = u.v1 in let x = same.x in let y = same.y in record { x = omega arith; y = omega arith }
+
+SameSum-frame : (level a b : ℕ) → SameSum (lattice level a) (lattice level b) → SameSum (frame level a) (frame level b)
+SameSum-frame level a b same =
+    ⊎_elim
+        (λ even. rw (← lattice-frame level a even, ← lattice-frame level b even) same)
+        (λ odd. turned_sums (spread level) (lattice level a) (lattice level b) (frame level a) (frame level b) (AllTurned-frame level a odd) (AllTurned-frame level b odd) same)
+        (parity level)
+
+turned_halves : (k : ℕ) (c d e f : Corners) → AllTurned k c e → AllTurned k d f → AreHalves e f → AreHalves c d
+turned_halves k c d e f t u halves =
+    let a = t.apex in let b = t.v0 in let g = t.v1 in let h = u.apex in let i = u.v0 in let j = u.v1 in
+    record { v0_x = omega arith; v0_y = omega arith; v1_x = omega arith; v1_y = omega arith; apex_x = omega arith; apex_y = omega arith }
+
+AreHalves-lattice : (level a b : ℕ) → AreHalves (frame level a) (frame level b) → AreHalves (lattice level a) (lattice level b)
+AreHalves-lattice level a b halves =
+    ⊎_elim
+        (λ even. rw (lattice-frame level a even, lattice-frame level b even) halves)
+        (λ odd. turned_halves (spread level) (lattice level a) (lattice level b) (frame level a) (frame level b) (AllTurned-frame level a odd) (AllTurned-frame level b odd) halves)
+        (parity level)
+
+-- ---- no triangle is flat
+
+half_not_flat : (i j : ℕ) (c : Corners) → IsHalf i j c → (c.v0.x ≡ c.v1.x → ⊥) × (c.v0.y ≡ c.v1.y → ⊥)
+half_not_flat i j c h = let x = h.x.sum in let y = h.y.sum in ((λ e. omega arith), (λ e. omega arith))
+
+turned_not_flat : (k i j : ℕ) (c d : Corners) → AllTurned k c d → IsHalf i j d → ((c.v0.x ≡ c.v1.x) → (c.apex.x ≡ c.v0.x) → ⊥) × ((c.v0.y ≡ c.v1.y) → (c.apex.y ≡ c.v0.y) → ⊥)
+turned_not_flat k i j c d t h =
+    let a = t.apex in let b = t.v0 in let g = t.v1 in let right = h.right in let x = h.x.sum in let y = h.y.sum in
+    ((λ e f. omega arith), (λ e f. omega arith))
+
+lattice_not_flat : (level a : ℕ) → (((lattice level a).v0.x ≡ (lattice level a).v1.x) → ((lattice level a).apex.x ≡ (lattice level a).v0.x) → ⊥) × (((lattice level a).v0.y ≡ (lattice level a).v1.y) → ((lattice level a).apex.y ≡ (lattice level a).v0.y) → ⊥)
+lattice_not_flat level a =
+    let half : IsSomeHalf (frame level a) = IsHalf-frame level a in
+    ⊎_elim
+        (λ even. rw (lattice-frame level a even) (let apart = half_not_flat half.0 half.1 (frame level a) half.2 in ((λ e f. apart.0 e), (λ e f. apart.1 e))))
+        (λ odd. turned_not_flat (spread level) half.0 half.1 (lattice level a) (frame level a) (AllTurned-frame level a odd) half.2)
+        (parity level)
+
+-- ---- the lattice lies within the square
+
+IsWithin-quarter : (half side : ℕ) → IsWithin 2 (child side (base_triangle 2 half))
+IsWithin-quarter half side = IsWithin-child 2 side (base_triangle 2 half) (IsWithin-base 2 half)
+
+IsWithin-grandchild : (which m : ℕ) (c : Corners) → IsWithin m c → IsWithin (2 * m) (grandchild which c)
+IsWithin-grandchild zero m c w = record { apex_x = omega arith; apex_y = omega arith; v0_x = omega arith; v0_y = omega arith; v1_x = omega arith; v1_y = omega arith }
+IsWithin-grandchild (suc zero) m c w = record { apex_x = omega arith; apex_y = omega arith; v0_x = omega arith; v0_y = omega arith; v1_x = omega arith; v1_y = omega arith }
+IsWithin-grandchild (suc (suc zero)) m c w = record { apex_x = omega arith; apex_y = omega arith; v0_x = omega arith; v0_y = omega arith; v1_x = omega arith; v1_y = omega arith }
+IsWithin-grandchild (suc (suc (suc _))) m c w = record { apex_x = omega arith; apex_y = omega arith; v0_x = omega arith; v0_y = omega arith; v1_x = omega arith; v1_y = omega arith }
+
+IsWithin-lattice : (level a : ℕ) → IsWithin (2 ^ halved level) (lattice level a)
+IsWithin-lattice zero a = IsWithin-base 1 (a % 2)
+IsWithin-lattice (suc zero) a = IsWithin-quarter (a / 2 % 2) (a % 2)
+IsWithin-lattice (suc (suc level)) a =
+    rw (pow-succ' 2 (halved level)) (IsWithin-grandchild (a % 4) (2 ^ halved level) (lattice level (a / 4)) (IsWithin-lattice level (a / 4)))
+
+-- ---- a base is in a pair or on the border, and never both
+
+abbrev IsOnSide : ℕ → Corners → Type 0
+IsOnSide m c = OnOneSide m c.v0 c.v1
+
+IsOnSide-quarter : (half side : ℕ) → half < 2 → side < 2 → IsOnSide 2 (child side (base_triangle 2 half))
+IsOnSide-quarter zero zero low less = inr (inr (inl (refl, refl)))
+IsOnSide-quarter zero (suc _) low less = inl (refl, refl)
+IsOnSide-quarter (suc _) zero low less = inr (inr (inr (refl, refl)))
+IsOnSide-quarter (suc _) (suc _) low less = inr (inl (refl, refl))
+
+IsOnSide-grandchild : (which m : ℕ) (c : Corners) → IsOuter which → IsOnSide m c → IsOnSide (2 * m) (grandchild which c)
+IsOnSide-grandchild zero m c outer side = absurd outer
+IsOnSide-grandchild (suc zero) m c outer side =
+    ⊎_elim (λ e. inl (omega arith, omega arith)) (⊎_elim (λ e. inr (inl (omega arith, omega arith))) (⊎_elim (λ e. inr (inr (inl (omega arith, omega arith)))) (λ e. inr (inr (inr (omega arith, omega arith)))))) side
+IsOnSide-grandchild (suc (suc zero)) m c outer side =
+    ⊎_elim (λ e. inl (omega arith, omega arith)) (⊎_elim (λ e. inr (inl (omega arith, omega arith))) (⊎_elim (λ e. inr (inr (inl (omega arith, omega arith)))) (λ e. inr (inr (inr (omega arith, omega arith)))))) side
+IsOnSide-grandchild (suc (suc (suc _))) m c outer side = absurd outer
+
+inner_or_outer : (which : ℕ) → which < 4 → IsInner which ⊎ IsOuter which
+inner_or_outer zero low = inl tt
+inner_or_outer (suc zero) low = inr tt
+inner_or_outer (suc (suc zero)) low = inr tt
+inner_or_outer (suc (suc (suc _))) low = inl tt
+
+abbrev HasPair : ℕ → ℕ → Type 0
+HasPair level a = (b : ℕ) × IsPair level a b
+
+pair_from_parts : (level a above : ℕ) → (IsInner (a % 4) × (a / 4 ≡ above)) ⊎ (IsOuter (a % 4) × IsPair level (a / 4) above) → HasPair (suc (suc level)) a
+pair_from_parts level a above parts =
+    let half : (4 * above + (3 - a % 4)) / 4 ≡ above = omega arith in
+    (4 * above + (3 - a % 4), (omega arith, rw half parts))
+
+border_or_pair : (level a : ℕ) → IsAtLevel level a → IsOnSide (2 ^ halved level) (lattice level a) ⊎ HasPair level a
+border_or_pair zero a at = inr (5 - a, (let high = at.high in omega arith))
+border_or_pair (suc zero) a at = inl (IsOnSide-quarter (a / 2 % 2) (a % 2) (omega arith) (omega arith))
+border_or_pair (suc (suc level)) a at =
+    ⊎_elim
+        (λ inner. inr (pair_from_parts level a (a / 4) (inl (inner, refl))))
+        (λ outer. ⊎_elim
+            (λ side. inl (rw (pow-succ' 2 (halved level)) (IsOnSide-grandchild (a % 4) (2 ^ halved level) (lattice level (a / 4)) outer side)))
+            (λ pair. inr (pair_from_parts level a pair.0 (inr (outer, pair.1))))
+            (border_or_pair level (a / 4) (IsAtLevel-quarter level a at)))
+        (inner_or_outer (a % 4) (omega arith))
+
+halves_off_border : (m : ℕ) (c d : Corners) → IsWithin m c → IsWithin m d → AreHalves c d → ((c.v0.x ≡ c.v1.x) → (c.apex.x ≡ c.v0.x) → ⊥) → ((c.v0.y ≡ c.v1.y) → (c.apex.y ≡ c.v0.y) → ⊥) → IsOnSide m c → ⊥
+halves_off_border m c d w u halves flat_x flat_y side =
+    ⊎_elim (λ e. flat_x (omega arith) (omega arith)) (⊎_elim (λ e. flat_x (omega arith) (omega arith)) (⊎_elim (λ e. flat_y (omega arith) (omega arith)) (λ e. flat_y (omega arith) (omega arith)))) side
+
+pair_off_border : (level a b : ℕ) → IsPair level a b → IsOnSide (2 ^ halved level) (lattice level a) → ⊥
+pair_off_border level a b pair side =
+    let solid = lattice_not_flat level a in
+    halves_off_border (2 ^ halved level) (lattice level a) (lattice level b) (IsWithin-lattice level a) (IsWithin-lattice level b) (AreHalves-lattice level a b (AreHalves-pair level a b pair)) solid.0 solid.1 side
