@@ -3,7 +3,7 @@
 use Rattle.std.proofs.Common.{◌≡◌, ℕ, zero, suc, ap, ◌-◌, ◌+◌, ◌*◌, ◌/◌, ◌%◌, ◌^◌, ◌<◌, ◌≤◌, refl, sym, ◌∙◌, arith, inl, inr, ⊎_elim}
 use Rattle.std.proofs.Math.Nat.{pow-succ', mul-add}
 use Rattle.std.proofs.lemmas.Bool.{cases_lt}
-use Rattle.std.proofs.lemmas.Nat.{pow-add}
+use Rattle.std.proofs.lemmas.Nat.{pow-add, pow_pos}
 use Rattle.bintree_addr.specs.Corners.{HasEvenBase}
 use Rattle.bintree_addr.proofs.LevelLemmas.{levels}
 use Rattle.bintree_addr.proofs.CornerLemmas.{corners_of-left, corners_of-right, IsWithin-corners_of}
@@ -132,6 +132,10 @@ HasEvenBase-doubled step c = record { x = omega arith; y = omega arith }
 -- the step of a level in a grid with this n
 pub step_of : ℕ → ℕ → ℕ
 step_of n level = 2 ^ (n - halved level)
+
+pub step_pos : (n level : ℕ) → 0 < step_of n level
+unfolding step_of
+step_pos n level = pow_pos (n - halved level)
 
 pub size_by_steps : (n level : ℕ) → level ≤ 2 * n → 2 ^ n ≡ step_of n level * 2 ^ halved level
 unfolding step_of

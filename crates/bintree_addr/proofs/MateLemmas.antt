@@ -10,7 +10,7 @@ use Rattle.mesh_defs.specs.Triangle.{level_of, base_triangle, child, corners_of,
 use Rattle.bintree_addr.specs.Corners.{IsWithin}
 use Rattle.bintree_addr.proofs.LevelLemmas.{IsAtLevel, IsAtLevel-level_of, level_of-at}
 use Rattle.bintree_addr.proofs.CornerLemmas.{IsWithin-base, IsWithin-child}
-use Rattle.bintree_addr.proofs.LatticeLemmas.{at, three, same_point, multiple, sum_of, scaled, grandchild, lattice, halved, halved-half, step_of, size_by_steps, corners_of-lattice}
+use Rattle.bintree_addr.proofs.LatticeLemmas.{at, three, same_point, multiple, sum_of, scaled, grandchild, lattice, halved, halved-half, step_of, step_pos, size_by_steps, corners_of-lattice}
 use Rattle.bintree_addr.proofs.FrameLemmas.{quarter, frame, IsHalf, IsSomeHalf, IsHalf-frame, SameSum, AreHalves}
 use Rattle.bintree_addr.proofs.PairLemmas.{IsInner, IsOuter, IsPair, IsAtLevel-quarter, IsAtLevel-pair, pair_differs, pair_unique, AreHalves-pair, same_base}
 
@@ -187,3 +187,93 @@ pair_off_border : (level a b : ℕ) → IsPair level a b → IsOnSide (2 ^ halve
 pair_off_border level a b pair side =
     let solid = lattice_not_flat level a in
     halves_off_border (2 ^ halved level) (lattice level a) (lattice level b) (IsWithin-lattice level a) (IsWithin-lattice level b) (AreHalves-lattice level a b (AreHalves-pair level a b pair)) solid.0 solid.1 side
+
+-- ---- from the lattice to the grid
+
+cancel : (step i j : ℕ) → 0 < step → step * i ≡ step * j → i ≡ j
+cancel step i j some e = sym (mul-div_cancel_left i some) ∙ ap (λ k. k / step) e ∙ mul-div_cancel_left j some
+
+cancel_sum : (step i j k l : ℕ) → 0 < step → step * i + step * j ≡ step * k + step * l → i + j ≡ k + l
+cancel_sum step i j k l some e = cancel step (i + j) (k + l) some (mul-add step i j ∙ e ∙ sym (mul-add step k l))
+
+SameSum-unscaled : (step : ℕ) (c d : Corners) → 0 < step → SameSum (scaled step c) (scaled step d) → SameSum c d
+SameSum-unscaled step c d some same =
+    record { x = cancel_sum step c.v0.x c.v1.x d.v0.x d.v1.x some same.x; y = cancel_sum step c.v0.y c.v1.y d.v0.y d.v1.y some same.y }
+
+coordinates : (p q : Point) → p ≡ q → (p.x ≡ q.x) × (p.y ≡ q.y)
+coordinates p q e = (ap (λ (r : Point). r.x) e, ap (λ (r : Point). r.y) e)
+
+SameEnds-sum : (c d : Corners) → SameEnds c d → SameSum c d
+SameEnds-sum c d ends =
+    ⊎_elim
+        (λ e. let p = coordinates c.v0 d.v0 e.0 in let q = coordinates c.v1 d.v1 e.1 in record { x = omega arith; y = omega arith })
+        (λ e. let p = coordinates c.v0 d.v1 e.0 in let q = coordinates c.v1 d.v0 e.1 in record { x = omega arith; y = omega arith })
+        ends
+
+AreHalves-ends : (step : ℕ) (c d : Corners) → AreHalves c d → SameEnds (scaled step c) (scaled step d)
+AreHalves-ends step c d h =
+    inr (same_point (step * c.v0.x) (step * c.v0.y) (step * d.v1.x) (step * d.v1.y) (ap (λ k. step * k) (sym h.v1_x)) (ap (λ k. step * k) (sym h.v1_y)),
+         same_point (step * c.v1.x) (step * c.v1.y) (step * d.v0.x) (step * d.v0.y) (ap (λ k. step * k) (sym h.v0_x)) (ap (λ k. step * k) (sym h.v0_y)))
+
+-- a pair is a triangle and its mate
+pub IsMate-pair : (n a b : ℕ) → 2 ≤ a → level_of a ≤ 2 * n → IsPair (level_of a) a b → IsMate n a b
+IsMate-pair n a b low fits pair =
+    let at : IsAtLevel (level_of a) b = IsAtLevel-pair (level_of a) a b (IsAtLevel-level_of a low) pair in
+    let level : level_of b ≡ level_of a = level_of-at (level_of a) b at in
+    let deepest : 2 ^ (level_of a + 2) ≤ 2 ^ (2 * n + 2) = pow_mono (omega arith) in
+    let lowest : 1 ≤ level_of a + 1 = omega arith in
+    let first : 2 ^ 1 ≤ 2 ^ (level_of a + 1) = pow_mono lowest in
+    let halves : AreHalves (lattice (level_of a) a) (lattice (level_of a) b) = AreHalves-lattice (level_of a) a b (AreHalves-pair (level_of a) a b pair) in
+    record {
+        address = record { low = omega arith; high = omega arith };
+        other = pair_differs (level_of a) a b pair;
+        level = level;
+        base = rw (corners_of-lattice n a fits, corners_of-lattice n b (rw level fits), level) (AreHalves-ends (step_of n (level_of a)) (lattice (level_of a) a) (lattice (level_of a) b) halves);
+    }
+
+same_sum_cases : (n a b : ℕ) → 2 ≤ a → 2 ≤ b → level_of a ≤ 2 * n → level_of b ≡ level_of a → SameSum (corners_of n a) (corners_of n b) → (b ≡ a) ⊎ IsPair (level_of a) a b
+same_sum_cases n a b low least fits level same =
+    let first : corners_of n a ≡ scaled (step_of n (level_of a)) (lattice (level_of a) a) = corners_of-lattice n a fits in
+    let second : corners_of n b ≡ scaled (step_of n (level_of a)) (lattice (level_of a) b) = rw (← level) (corners_of-lattice n b (rw level fits)) in
+    let lattices : SameSum (lattice (level_of a) a) (lattice (level_of a) b) =
+        SameSum-unscaled (step_of n (level_of a)) (lattice (level_of a) a) (lattice (level_of a) b) (step_pos n (level_of a)) (rw (← first, ← second) same) in
+    same_base (level_of a) a b (IsAtLevel-level_of a low) (rw (← level) (IsAtLevel-level_of b least)) (SameSum-frame (level_of a) a b lattices)
+
+-- a triangle and its mate are a pair
+pub pair-IsMate : (n a b : ℕ) → 2 ≤ a → level_of a ≤ 2 * n → IsMate n a b → IsPair (level_of a) a b
+pair-IsMate n a b low fits mate =
+    ⊎_elim (λ same. absurd (mate.other same)) (λ pair. pair)
+        (same_sum_cases n a b low mate.address.low fits mate.level (SameEnds-sum (corners_of n a) (corners_of n b) mate.base))
+
+-- ---- the border
+
+scaled_side : (step m : ℕ) (c : Corners) → IsOnSide m c → IsOnSide (step * m) (scaled step c)
+scaled_side step m c side =
+    let none : step * 0 ≡ 0 = omega arith in
+    ⊎_elim (λ e. inl (ap (λ k. step * k) e.0 ∙ none, ap (λ k. step * k) e.1 ∙ none))
+        (⊎_elim (λ e. inr (inl (ap (λ k. step * k) e.0, ap (λ k. step * k) e.1)))
+            (⊎_elim (λ e. inr (inr (inl (ap (λ k. step * k) e.0 ∙ none, ap (λ k. step * k) e.1 ∙ none))))
+                (λ e. inr (inr (inr (ap (λ k. step * k) e.0, ap (λ k. step * k) e.1)))))) side
+
+unscaled_side : (step m : ℕ) (c : Corners) → 0 < step → IsOnSide (step * m) (scaled step c) → IsOnSide m c
+unscaled_side step m c some side =
+    let none : 0 ≡ step * 0 = omega arith in
+    ⊎_elim (λ e. inl (cancel step c.v0.x 0 some (e.0 ∙ none), cancel step c.v1.x 0 some (e.1 ∙ none)))
+        (⊎_elim (λ e. inr (inl (cancel step c.v0.x m some e.0, cancel step c.v1.x m some e.1)))
+            (⊎_elim (λ e. inr (inr (inl (cancel step c.v0.y 0 some (e.0 ∙ none), cancel step c.v1.y 0 some (e.1 ∙ none)))))
+                (λ e. inr (inr (inr (cancel step c.v0.y m some e.0, cancel step c.v1.y m some e.1)))))) side
+
+-- a triangle without a pair has its base on the border
+pub HasBorderBase-no_pair : (n a : ℕ) → 2 ≤ a → level_of a ≤ 2 * n → ((b : ℕ) → IsPair (level_of a) a b → ⊥) → HasBorderBase n a
+HasBorderBase-no_pair n a low fits none =
+    ⊎_elim
+        (λ side. rw (corners_of-lattice n a fits, size_by_steps n (level_of a) fits) (scaled_side (step_of n (level_of a)) (2 ^ halved (level_of a)) (lattice (level_of a) a) side))
+        (λ pair. absurd (none pair.0 pair.1))
+        (border_or_pair (level_of a) a (IsAtLevel-level_of a low))
+
+-- and a triangle with its base on the border has no pair
+pub no_pair-HasBorderBase : (n a b : ℕ) → level_of a ≤ 2 * n → HasBorderBase n a → IsPair (level_of a) a b → ⊥
+no_pair-HasBorderBase n a b fits border pair =
+    pair_off_border (level_of a) a b pair
+        (unscaled_side (step_of n (level_of a)) (2 ^ halved (level_of a)) (lattice (level_of a) a) (step_pos n (level_of a))
+            (let side : IsOnSide (2 ^ n) (corners_of n a) = border in rw (corners_of-lattice n a fits, size_by_steps n (level_of a) fits) at side))
