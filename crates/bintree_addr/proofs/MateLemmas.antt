@@ -8,11 +8,12 @@ use Rattle.mesh_defs.specs.declared.point.Point.{Point}
 use Rattle.mesh_defs.specs.declared.point.Corners.{Corners}
 use Rattle.mesh_defs.specs.Triangle.{level_of, base_triangle, child, corners_of, midpoint, IsAddress, IsSplittable, SameEnds, IsMate, OnOneSide, HasBorderBase}
 use Rattle.bintree_addr.specs.Corners.{IsWithin}
+use Rattle.bintree_addr.specs.Pair.{IsInner, IsOuter, IsPair}
 use Rattle.bintree_addr.proofs.LevelLemmas.{IsAtLevel, IsAtLevel-level_of, level_of-at}
 use Rattle.bintree_addr.proofs.CornerLemmas.{IsWithin-base, IsWithin-child}
 use Rattle.bintree_addr.proofs.LatticeLemmas.{at, three, same_point, multiple, sum_of, scaled, grandchild, lattice, halved, halved-half, step_of, step_pos, size_by_steps, corners_of-lattice}
 use Rattle.bintree_addr.proofs.FrameLemmas.{quarter, frame, IsHalf, IsSomeHalf, IsHalf-frame, SameSum, AreHalves}
-use Rattle.bintree_addr.proofs.PairLemmas.{IsInner, IsOuter, IsPair, IsAtLevel-quarter, IsAtLevel-pair, pair_differs, pair_unique, AreHalves-pair, same_base}
+use Rattle.bintree_addr.proofs.PairLemmas.{IsAtLevel-quarter, IsAtLevel-pair, pair_differs, pair_unique, AreHalves-pair, same_base}
 
 -- ---- from the frame of a level to its lattice
 

@@ -1,33 +1,14 @@
--- Pairs of addresses whose triangles have one base, told by the addresses alone: what 4a and 4a + 3 are to
--- each other, and 4a + 1 and 4b + 2 where a and b are a pair.
-use Rattle.std.proofs.Common.{◌≡◌, sym, ◌∙◌, ◌≢◌, ◌⊎◌, ℕ, zero, suc, ◌+◌, ◌*◌, ◌/◌, ◌%◌, ◌^◌, ◌<◌, ◌≤◌, refl, arith, inl, inr, ⊎_elim, add-one}
+-- Pairs of addresses: a pair is of one level and one base, and triangles of one level and base are a pair.
+use Rattle.std.proofs.Common.{◌≡◌, ◌↔◌, ◌-◌, ap, Option, Some, None, sym, ◌∙◌, ◌≢◌, ◌⊎◌, ℕ, zero, suc, ◌+◌, ◌*◌, ◌/◌, ◌%◌, ◌^◌, ◌<◌, ◌≤◌, refl, arith, inl, inr, ⊎_elim, add-one}
 use Rattle.std.proofs.lemmas.Bool.{cases_eq}
+use Rattle.std.proofs.Math.Pow.{pow_mono}
 use Rattle.mesh_defs.specs.declared.point.Point.{Point}
 use Rattle.mesh_defs.specs.declared.point.Corners.{Corners}
-use Rattle.mesh_defs.specs.Triangle.{base_triangle}
-use Rattle.bintree_addr.proofs.LevelLemmas.{IsAtLevel, IsAtLevel-half, pow_next, pow_after}
+use Rattle.mesh_defs.specs.Triangle.{level_of, base_triangle}
+use Rattle.bintree_addr.specs.Pair.{IsInner, IsOuter, IsPair}
+use Rattle.bintree_addr.proofs.LevelLemmas.{IsAtLevel, IsAtLevel-half, IsAtLevel-level_of, level_of-at, level_of-parent, level_of-below, pow_next, pow_after}
 use Rattle.bintree_addr.proofs.LatticeLemmas.{grandchild}
 use Rattle.bintree_addr.proofs.FrameLemmas.{quarter, frame, IsHalf, IsSomeHalf, IsHalf-frame, SameSum, AreHalves, pivot, SamePivot, SamePivot-above}
-
--- which grandchildren of a are a pair with one of a itself: the first and the last
-abbrev pub IsInner : ℕ → Type 0
-IsInner zero = Unit {0}
-IsInner (suc zero) = ⊥
-IsInner (suc (suc zero)) = ⊥
-IsInner (suc (suc (suc _))) = Unit {0}
-
--- which are a pair with one of the other triangle at the base of a: the second and the third
-abbrev pub IsOuter : ℕ → Type 0
-IsOuter zero = ⊥
-IsOuter (suc zero) = Unit {0}
-IsOuter (suc (suc zero)) = Unit {0}
-IsOuter (suc (suc (suc _))) = ⊥
-
--- a and b, of this level, are a pair
-abbrev pub IsPair : ℕ → ℕ → ℕ → Type 0
-IsPair zero a b = a + b ≡ 5
-IsPair (suc zero) a b = ⊥
-IsPair (suc (suc level)) a b = (a % 4 + b % 4 ≡ 3) × ((IsInner (a % 4) × (a / 4 ≡ b / 4)) ⊎ (IsOuter (a % 4) × IsPair level (a / 4) (b / 4)))
 
 -- ---- levels of grandchildren
 
@@ -201,3 +182,71 @@ same_base (suc (suc level)) a b p q same =
                 pivot_across (a % 4) (b % 4) half.0 half.1 (frame level (a / 4)) (frame level (b / 4)) (omega arith) (omega arith) half.2 (AreHalves-pair level (a / 4) (b / 4) pair) pivots.x pivots.y in
             inr (across.0, inr (across.1, pair)))
         (same_base level (a / 4) (b / 4) (IsAtLevel-quarter level a p) (IsAtLevel-quarter level b q) pivots.above)
+
+-- ---- the address across the base, as the code finds it
+
+level_of-deep : (a : ℕ) → 8 ≤ a → level_of a ≡ suc (suc (level_of (a / 4)))
+level_of-deep a low =
+    let half : a / 2 / 2 ≡ a / 4 = omega arith in
+    let parent : level_of a ≡ level_of (a / 2) + 1 = level_of-parent a (omega arith) in
+    let above : level_of (a / 2) ≡ level_of (a / 4) + 1 = rw half at (level_of-parent (a / 2) (omega arith)) in
+    omega arith
+
+level_of-root : (a : ℕ) → 2 ≤ a → a < 4 → level_of a ≡ 0
+level_of-root a low high = level_of-at 0 a (record { low = low; high = high })
+
+level_of-first : (a : ℕ) → 4 ≤ a → a < 8 → level_of a ≡ 1
+level_of-first a low high = level_of-at 1 a (record { low = low; high = high })
+
+pub IsPair-root : (a : ℕ) → 2 ≤ a → a < 4 → IsPair (level_of a) a (5 - a)
+IsPair-root a low high = rw (level_of-root a low high) (omega arith)
+
+pub no_pair-first : (a c : ℕ) → 4 ≤ a → a < 8 → IsPair (level_of a) a c → ⊥
+no_pair-first a c low high pair = rw (level_of-first a low high) at pair
+
+pub IsPair-inner_first : (a : ℕ) → 8 ≤ a → a % 4 ≡ 0 → IsPair (level_of a) a (a + 3)
+IsPair-inner_first a low first =
+    rw (level_of-deep a low) (omega arith, inl (rw first tt, omega arith))
+
+pub IsPair-inner_last : (a : ℕ) → 8 ≤ a → a % 4 ≡ 3 → IsPair (level_of a) a (a - 3)
+IsPair-inner_last a low last =
+    rw (level_of-deep a low) (omega arith, inl (rw last tt, omega arith))
+
+is_outer : (which : ℕ) → which < 4 → (which ≡ 0 → ⊥) → (which ≡ 3 → ⊥) → IsOuter which
+is_outer zero low first last = first refl
+is_outer (suc zero) low first last = tt
+is_outer (suc (suc zero)) low first last = tt
+is_outer (suc (suc (suc zero))) low first last = last refl
+is_outer (suc (suc (suc (suc _)))) low first last = absurd (omega (arith, low))
+
+is_not_inner : (which : ℕ) → which < 4 → (which ≡ 0 → ⊥) → (which ≡ 3 → ⊥) → IsInner which → ⊥
+is_not_inner which low first last inner = never_both which inner (is_outer which low first last)
+
+pub IsPair-outer : (a above : ℕ) → 8 ≤ a → (a % 4 ≡ 0 → ⊥) → (a % 4 ≡ 3 → ⊥) → IsPair (level_of (a / 4)) (a / 4) above → IsPair (level_of a) a (4 * above + 3 - a % 4)
+IsPair-outer a above low first last pair =
+    let up : (4 * above + 3 - a % 4) / 4 ≡ above = omega arith in
+    rw (level_of-deep a low) (omega arith, inr (is_outer (a % 4) (omega arith) first last, rw up pair))
+
+pub no_pair-outer : (a c : ℕ) → 8 ≤ a → (a % 4 ≡ 0 → ⊥) → (a % 4 ≡ 3 → ⊥) → ((b : ℕ) → IsPair (level_of (a / 4)) (a / 4) b → ⊥) → IsPair (level_of a) a c → ⊥
+no_pair-outer a c low first last none pair =
+    let deep : IsPair (suc (suc (level_of (a / 4)))) a c = rw (level_of-deep a low) at pair in
+    ⊎_elim (λ inner. is_not_inner (a % 4) (omega arith) first last inner.0) (λ outer. none (c / 4) outer.1) deep.1
+
+-- the one answer
+pub pair_answer : (a v : ℕ) → IsPair (level_of a) a v → (c : ℕ) → (Some v ≡ Some c) ↔ IsPair (level_of a) a c
+pair_answer a v pair c =
+    ((λ e. let same : v ≡ c = cc in rw same at pair), (λ other. ap (λ k. Some k) (pair_unique (level_of a) a v c pair other)))
+
+pub pair_no_answer : (a : ℕ) → ((c : ℕ) → IsPair (level_of a) a c → ⊥) → (c : ℕ) → (◌≡◌ {A = Option ℕ} None (Some c)) ↔ IsPair (level_of a) a c
+pair_no_answer a none c = ((λ e. cc), (λ pair. absurd (none c pair)))
+
+-- a pair of an address is an address
+pub pair_range : (a b : ℕ) → 2 ≤ a → a < 2 ^ 24 → IsPair (level_of a) a b → (2 ≤ b) × (b < 2 ^ 24)
+pair_range a b low high pair =
+    let at : IsAtLevel (level_of a) b = IsAtLevel-pair (level_of a) a b (IsAtLevel-level_of a low) pair in
+    let level : level_of a < 23 = (level_of-below a 23 low).1 high in
+    let shallow : level_of a + 2 ≤ 24 = omega arith in
+    let deepest : 2 ^ (level_of a + 2) ≤ 2 ^ 24 = pow_mono shallow in
+    let lowest : 1 ≤ level_of a + 1 = omega arith in
+    let first : 2 ^ 1 ≤ 2 ^ (level_of a + 1) = pow_mono lowest in
+    (omega arith, omega arith)

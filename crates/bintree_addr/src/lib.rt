@@ -8,6 +8,7 @@
 #![tactic(auto)]
 
 mod laws;
+mod pair;
 mod shape;
 mod tri;
 

@@ -1,9 +1,10 @@
 //! The address of a triangle, with what follows from it alone.
 
-ghost use Rattle.std.specs.Prelude.{◌≡◌, ℕ, ◌+◌, ◌*◌, ◌^◌, ◌<◌, ◌≤◌, ◌↔◌, IsSome, IfSome};
-ghost use Rattle.mesh_defs.specs.Triangle.{level_of, corners_of, child, midpoint};
+ghost use Rattle.std.specs.Prelude.{◌≡◌, ℕ, ◌+◌, ◌*◌, ◌^◌, ◌<◌, ◌≤◌, ◌/◌, ◌↔◌, IsSome, IsNone, IfSome};
+ghost use Rattle.mesh_defs.specs.Triangle.{level_of, corners_of, child, midpoint, IsMate, HasBorderBase};
 ghost use Rattle.bintree_addr.specs.Corners.{IsWithin, HasEvenBase};
 
+use crate::pair::address_across;
 use crate::shape::{child_corners, half_square, point_between};
 use crate::{Corners, Point};
 use std::marker::Model;
@@ -82,6 +83,37 @@ impl Tri {
     {
         Tri {
             number: 2 * self.number + 1,
+        }
+    }
+
+    /// The triangle of which this is a child.
+    pub fn parent(self) -> Option<Self>
+        ensures base { IsNone result ↔ (self < 4) }
+        ensures half { IfSome result (λ p. p ≡ self / 2) }
+        ensures level { IfSome result (λ p. level_of self ≡ level_of p + 1) }
+    {
+        if self.number < 4 {
+            None
+        } else {
+            Some(Tri {
+                number: self.number / 2,
+            })
+        }
+    }
+
+    /// The other triangle of the level with the same base; the two are a diamond.
+    ///
+    /// The mate of an address is the same in every grid that has it.
+    /// Cost (not proved): a step for two levels at most, and two steps on average.
+    pub fn mate(self, n: u32) -> Option<Self>
+        requires in_grid { (1 ≤ n) × (n ≤ 11) }
+        requires level { level_of self ≤ 2 * n }
+        ensures mate { (c : ℕ) → ((result ≡ Some c) ↔ IsMate n self c) }
+        ensures border { IsNone result ↔ HasBorderBase n self }
+    {
+        match address_across(self.number) {
+            Some(number) => Some(Tri { number }),
+            None => None,
         }
     }
 
