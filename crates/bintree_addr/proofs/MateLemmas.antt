@@ -1,5 +1,5 @@
 -- Mates: the pairs of addresses are exactly the mates, and a triangle in no pair has its base on the border.
-use Rattle.std.proofs.Common.{◌≡◌, ◌≢◌, ◌⊎◌, ◌↔◌, sym, ◌∙◌, ap, ℕ, zero, suc, ◌+◌, ◌-◌, ◌*◌, ◌/◌, ◌%◌, ◌^◌, ◌<◌, ◌≤◌, refl, arith, inl, inr, ⊎_elim, add-one}
+use Rattle.std.proofs.Common.{◌≡◌, Option, Some, None, true, false, ◌≢◌, ◌⊎◌, ◌↔◌, sym, ◌∙◌, ap, ℕ, zero, suc, ◌+◌, ◌-◌, ◌*◌, ◌/◌, ◌%◌, ◌^◌, ◌<◌, ◌≤◌, refl, arith, inl, inr, ⊎_elim, add-one}
 use Rattle.std.proofs.Math.Nat.{mul-div_cancel_left, mul-add, pow-succ'}
 use Rattle.std.proofs.Math.Pow.{pow_mono}
 use Rattle.std.proofs.lemmas.Bool.{cases_eq}
@@ -13,7 +13,7 @@ use Rattle.bintree_addr.proofs.LevelLemmas.{IsAtLevel, IsAtLevel-level_of, level
 use Rattle.bintree_addr.proofs.CornerLemmas.{IsWithin-base, IsWithin-child}
 use Rattle.bintree_addr.proofs.LatticeLemmas.{at, three, same_point, multiple, sum_of, scaled, grandchild, lattice, halved, halved-half, step_of, step_pos, size_by_steps, corners_of-lattice}
 use Rattle.bintree_addr.proofs.FrameLemmas.{quarter, frame, IsHalf, IsSomeHalf, IsHalf-frame, SameSum, AreHalves}
-use Rattle.bintree_addr.proofs.PairLemmas.{IsAtLevel-quarter, IsAtLevel-pair, pair_differs, pair_unique, AreHalves-pair, same_base}
+use Rattle.bintree_addr.proofs.PairLemmas.{IsAtLevel-quarter, IsAtLevel-pair, pair_differs, pair_unique, AreHalves-pair, same_base, pair_answer}
 
 -- ---- from the frame of a level to its lattice
 
@@ -278,3 +278,18 @@ no_pair-HasBorderBase n a b fits border pair =
     pair_off_border (level_of a) a b pair
         (unscaled_side (step_of n (level_of a)) (2 ^ halved (level_of a)) (lattice (level_of a) a) (step_pos n (level_of a))
             (let side : IsOnSide (2 ^ n) (corners_of n a) = border in rw (corners_of-lattice n a fits, size_by_steps n (level_of a) fits) at side))
+
+-- ---- what `mate` answers
+
+pub mate_answer : (n a v : ℕ) → 2 ≤ a → level_of a ≤ 2 * n → IsPair (level_of a) a v → (c : ℕ) → (Some v ≡ Some c) ↔ IsMate n a c
+mate_answer n a v low fits pair c =
+    ((λ e. IsMate-pair n a c low fits ((pair_answer a v pair c).0 e)), (λ mate. (pair_answer a v pair c).1 (pair-IsMate n a c low fits mate)))
+
+pub mate_no_answer : (n a : ℕ) → 2 ≤ a → level_of a ≤ 2 * n → ((c : ℕ) → IsPair (level_of a) a c → ⊥) → (c : ℕ) → (◌≡◌ {A = Option ℕ} None (Some c)) ↔ IsMate n a c
+mate_no_answer n a low fits none c = ((λ e. cc), (λ mate. absurd (none c (pair-IsMate n a c low fits mate))))
+
+pub answer_off_border : (n a v : ℕ) → level_of a ≤ 2 * n → IsPair (level_of a) a v → (true ≡ false) ↔ HasBorderBase n a
+answer_off_border n a v fits pair = ((λ e. cc), (λ border. absurd (no_pair-HasBorderBase n a v fits border pair)))
+
+pub no_answer_on_border : (n a : ℕ) → 2 ≤ a → level_of a ≤ 2 * n → ((c : ℕ) → IsPair (level_of a) a c → ⊥) → (false ≡ false) ↔ HasBorderBase n a
+no_answer_on_border n a low fits none = ((λ e. HasBorderBase-no_pair n a low fits none), (λ border. refl))
