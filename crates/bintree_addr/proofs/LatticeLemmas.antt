@@ -133,6 +133,10 @@ HasEvenBase-doubled step c = record { x = omega arith; y = omega arith }
 pub step_of : ℕ → ℕ → ℕ
 step_of n level = 2 ^ (n - halved level)
 
+pub step_of-power : (n level k : ℕ) → n - halved level ≡ k → step_of n level ≡ 2 ^ k
+unfolding step_of
+step_of-power n level k e = ap (λ j. 2 ^ j) e
+
 pub step_pos : (n level : ℕ) → 0 < step_of n level
 unfolding step_of
 step_pos n level = pow_pos (n - halved level)

@@ -4,3 +4,4 @@ pub mod LatticeLemmas
 pub mod FrameLemmas
 pub mod PairLemmas
 pub mod MateLemmas
+pub mod CentreLemmas

@@ -18,22 +18,22 @@ use Rattle.bintree_addr.proofs.PairLemmas.{IsAtLevel-quarter, IsAtLevel-pair, pa
 -- ---- from the frame of a level to its lattice
 
 -- how far the turned frame is moved
-abbrev spread : ℕ → ℕ
+abbrev pub spread : ℕ → ℕ
 spread zero = 0
 spread (suc zero) = 1
 spread (suc (suc level)) = 2 * spread level
 
 -- a point of the lattice and what it is in the turned frame
-record IsTurned (k : ℕ) (p q : Point) : Type 0 where
-  across : p.x + k ≡ q.x + q.y
-  along : p.y + q.y ≡ q.x + k
+pub record IsTurned (k : ℕ) (p q : Point) : Type 0 where
+  pub across : p.x + k ≡ q.x + q.y
+  pub along : p.y + q.y ≡ q.x + k
 
-record AllTurned (k : ℕ) (c d : Corners) : Type 0 where
-  apex : IsTurned k c.apex d.apex
-  v0 : IsTurned k c.v0 d.v0
-  v1 : IsTurned k c.v1 d.v1
+pub record AllTurned (k : ℕ) (c d : Corners) : Type 0 where
+  pub apex : IsTurned k c.apex d.apex
+  pub v0 : IsTurned k c.v0 d.v0
+  pub v1 : IsTurned k c.v1 d.v1
 
-lattice-frame : (level a : ℕ) → level % 2 ≡ 0 → lattice level a ≡ frame level a
+pub lattice-frame : (level a : ℕ) → level % 2 ≡ 0 → lattice level a ≡ frame level a
 lattice-frame zero a even = refl
 lattice-frame (suc zero) a even = absurd (omega (arith, even))
 lattice-frame (suc (suc level)) a even =
@@ -66,13 +66,13 @@ AllTurned-grandchild (suc (suc zero)) k c d t =
 AllTurned-grandchild (suc (suc (suc _))) k c d t =
     record { apex = IsTurned-sum_of k c.v1 c.apex d.v1 d.apex t.v1 t.apex; v0 = IsTurned-double k c.apex d.apex t.apex; v1 = IsTurned-sum_of k c.v0 c.v1 d.v0 d.v1 t.v0 t.v1 }
 
-AllTurned-frame : (level a : ℕ) → level % 2 ≡ 1 → AllTurned (spread level) (lattice level a) (frame level a)
+pub AllTurned-frame : (level a : ℕ) → level % 2 ≡ 1 → AllTurned (spread level) (lattice level a) (frame level a)
 AllTurned-frame zero a odd = absurd (omega (arith, odd))
 AllTurned-frame (suc zero) a odd = AllTurned-quarter (a % 4) (a / 2 % 2) (a % 2) (omega arith) (omega arith) (omega arith)
 AllTurned-frame (suc (suc level)) a odd =
     AllTurned-grandchild (a % 4) (spread level) (lattice level (a / 4)) (frame level (a / 4)) (AllTurned-frame level (a / 4) (omega arith))
 
-parity : (level : ℕ) → (level % 2 ≡ 0) ⊎ (level % 2 ≡ 1)
+pub parity : (level : ℕ) → (level % 2 ≡ 0) ⊎ (level % 2 ≡ 1)
 parity level = ⊎_elim (λ e. inl e) (λ other. inr (omega arith)) (cases_eq (level % 2) 0)
 
 -- ---- what the frame says of the lattice
@@ -191,7 +191,7 @@ pair_off_border level a b pair side =
 
 -- ---- from the lattice to the grid
 
-cancel : (step i j : ℕ) → 0 < step → step * i ≡ step * j → i ≡ j
+pub cancel : (step i j : ℕ) → 0 < step → step * i ≡ step * j → i ≡ j
 cancel step i j some e = sym (mul-div_cancel_left i some) ∙ ap (λ k. k / step) e ∙ mul-div_cancel_left j some
 
 cancel_sum : (step i j k l : ℕ) → 0 < step → step * i + step * j ≡ step * k + step * l → i + j ≡ k + l
@@ -201,7 +201,7 @@ SameSum-unscaled : (step : ℕ) (c d : Corners) → 0 < step → SameSum (scaled
 SameSum-unscaled step c d some same =
     record { x = cancel_sum step c.v0.x c.v1.x d.v0.x d.v1.x some same.x; y = cancel_sum step c.v0.y c.v1.y d.v0.y d.v1.y some same.y }
 
-coordinates : (p q : Point) → p ≡ q → (p.x ≡ q.x) × (p.y ≡ q.y)
+pub coordinates : (p q : Point) → p ≡ q → (p.x ≡ q.x) × (p.y ≡ q.y)
 coordinates p q e = (ap (λ (r : Point). r.x) e, ap (λ (r : Point). r.y) e)
 
 SameEnds-sum : (c d : Corners) → SameEnds c d → SameSum c d
@@ -232,7 +232,7 @@ IsMate-pair n a b low fits pair =
         base = rw (corners_of-lattice n a fits, corners_of-lattice n b (rw level fits), level) (AreHalves-ends (step_of n (level_of a)) (lattice (level_of a) a) (lattice (level_of a) b) halves);
     }
 
-same_sum_cases : (n a b : ℕ) → 2 ≤ a → 2 ≤ b → level_of a ≤ 2 * n → level_of b ≡ level_of a → SameSum (corners_of n a) (corners_of n b) → (b ≡ a) ⊎ IsPair (level_of a) a b
+pub same_sum_cases : (n a b : ℕ) → 2 ≤ a → 2 ≤ b → level_of a ≤ 2 * n → level_of b ≡ level_of a → SameSum (corners_of n a) (corners_of n b) → (b ≡ a) ⊎ IsPair (level_of a) a b
 same_sum_cases n a b low least fits level same =
     let first : corners_of n a ≡ scaled (step_of n (level_of a)) (lattice (level_of a) a) = corners_of-lattice n a fits in
     let second : corners_of n b ≡ scaled (step_of n (level_of a)) (lattice (level_of a) b) = rw (← level) (corners_of-lattice n b (rw level fits)) in
