@@ -6,11 +6,13 @@ use Rattle.std.proofs.lemmas.Bool.{cases_order}
 use Rattle.std.proofs.lemmas.Nat.{pow_pos, pow-add}
 use Rattle.mesh_defs.specs.declared.point.Point.{Point}
 use Rattle.mesh_defs.specs.declared.point.Corners.{Corners}
-use Rattle.mesh_defs.specs.Triangle.{level_of, corners_of, midpoint, IsSplittable, IsMate}
+use Rattle.mesh_defs.specs.Triangle.{level_of, corners_of, midpoint, IsAddress, IsSplittable, IsMate, HasBorderBase}
 use Rattle.bintree_addr.specs.Corners.{HasEvenBase}
 use Rattle.bintree_addr.proofs.LatticeLemmas.{scaled, lattice, halved, halved-half, step_of, step_of-power, corners_of-lattice, HasEvenBase-corners_of}
 use Rattle.bintree_addr.proofs.FrameLemmas.{frame, IsHalf, IsSomeHalf, IsHalf-frame, SameSum}
-use Rattle.bintree_addr.proofs.MateLemmas.{cancel, coordinates, parity, lattice-frame, AllTurned, AllTurned-frame, spread, same_sum_cases, IsMate-pair}
+use Rattle.bintree_addr.proofs.MateLemmas.{cancel, coordinates, parity, lattice-frame, AllTurned, AllTurned-frame, spread, same_sum_cases, IsMate-pair, pair-IsMate, border_or_has_pair, no_pair-HasBorderBase}
+use Rattle.bintree_addr.proofs.PairLemmas.{pair_unique}
+use Rattle.bintree_addr.proofs.LevelLemmas.{level_of-below}
 
 -- ---- the midpoint as a power of 2 times a point with an odd coordinate
 
@@ -107,3 +109,41 @@ same_centre n a b p q same =
     let sums : SameSum (corners_of n a) (corners_of n b) = exact_sums (corners_of n a) (corners_of n b) (HasEvenBase-corners_of n a p.coarse) (HasEvenBase-corners_of n b q.coarse) same in
     let fits : level_of a ≤ 2 * n = (let g = p.coarse in omega arith) in
     ⊎_elim (λ equal. inl equal) (λ pair. inr (IsMate-pair n a b p.low fits pair)) (same_sum_cases n a b p.low q.low fits level sums)
+
+-- ---- laws of mates
+
+fits-address : (n a : ℕ) → IsAddress n a → level_of a ≤ 2 * n
+fits-address n a address =
+    let more : 2 * n + 2 ≡ (2 * n + 1) + 1 = omega arith in
+    let high : a < 2 ^ (2 * n + 2) = address.high in
+    let below : level_of a < 2 * n + 1 = (level_of-below a (2 * n + 1) address.low).1 (rw more at high) in
+    omega arith
+
+-- a triangle has one mate at most
+pub mate_unique : (n a b c : ℕ) → IsAddress n a → IsMate n a b → IsMate n a c → b ≡ c
+mate_unique n a b c address p q =
+    let fits : level_of a ≤ 2 * n = fits-address n a address in
+    pair_unique (level_of a) a b c (pair-IsMate n a b address.low fits p) (pair-IsMate n a c address.low fits q)
+
+-- a triangle is the mate of its mate
+pub mate_symmetric : (n a b : ℕ) → IsAddress n a → IsMate n a b → IsMate n b a
+mate_symmetric n a b address mate =
+    record {
+        address = address;
+        other = (λ e. mate.other (sym e));
+        level = sym mate.level;
+        base = ⊎_elim (λ e. inl (sym e.0, sym e.1)) (λ e. inr (sym e.1, sym e.0)) mate.base;
+    }
+
+-- a triangle has its base on the border or has a mate
+pub border_or_mate : (n a : ℕ) → IsAddress n a → HasBorderBase n a ⊎ ((b : ℕ) × IsMate n a b)
+border_or_mate n a address =
+    let fits : level_of a ≤ 2 * n = fits-address n a address in
+    ⊎_elim (λ border. inl border) (λ pair. inr (pair.0, IsMate-pair n a pair.0 address.low fits pair.1)) (border_or_has_pair n a address.low fits)
+
+-- and not both
+pub not_border_and_mate : (n a b : ℕ) → IsAddress n a → HasBorderBase n a → IsMate n a b → ⊥
+not_border_and_mate n a b address border mate =
+    let fits : level_of a ≤ 2 * n = fits-address n a address in no_pair-HasBorderBase n a b fits border (pair-IsMate n a b address.low fits mate)
+
+pub ruleset mate_facts = (same_centre, mate_unique, mate_symmetric, border_or_mate, not_border_and_mate)

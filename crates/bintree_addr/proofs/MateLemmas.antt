@@ -160,7 +160,7 @@ inner_or_outer (suc zero) low = inr tt
 inner_or_outer (suc (suc zero)) low = inr tt
 inner_or_outer (suc (suc (suc _))) low = inl tt
 
-abbrev HasPair : ℕ → ℕ → Type 0
+abbrev pub HasPair : ℕ → ℕ → Type 0
 HasPair level a = (b : ℕ) × IsPair level a b
 
 pair_from_parts : (level a above : ℕ) → (IsInner (a % 4) × (a / 4 ≡ above)) ⊎ (IsOuter (a % 4) × IsPair level (a / 4) above) → HasPair (suc (suc level)) a
@@ -264,13 +264,18 @@ unscaled_side step m c some side =
             (⊎_elim (λ e. inr (inr (inl (cancel step c.v0.y 0 some (e.0 ∙ none), cancel step c.v1.y 0 some (e.1 ∙ none)))))
                 (λ e. inr (inr (inr (cancel step c.v0.y m some e.0, cancel step c.v1.y m some e.1)))))) side
 
+-- a triangle has its base on the border or is in a pair
+pub border_or_has_pair : (n a : ℕ) → 2 ≤ a → level_of a ≤ 2 * n → HasBorderBase n a ⊎ HasPair (level_of a) a
+border_or_has_pair n a low fits =
+    ⊎_elim
+        (λ side. inl (rw (corners_of-lattice n a fits, size_by_steps n (level_of a) fits) (scaled_side (step_of n (level_of a)) (2 ^ halved (level_of a)) (lattice (level_of a) a) side)))
+        (λ pair. inr pair)
+        (border_or_pair (level_of a) a (IsAtLevel-level_of a low))
+
 -- a triangle without a pair has its base on the border
 pub HasBorderBase-no_pair : (n a : ℕ) → 2 ≤ a → level_of a ≤ 2 * n → ((b : ℕ) → IsPair (level_of a) a b → ⊥) → HasBorderBase n a
 HasBorderBase-no_pair n a low fits none =
-    ⊎_elim
-        (λ side. rw (corners_of-lattice n a fits, size_by_steps n (level_of a) fits) (scaled_side (step_of n (level_of a)) (2 ^ halved (level_of a)) (lattice (level_of a) a) side))
-        (λ pair. absurd (none pair.0 pair.1))
-        (border_or_pair (level_of a) a (IsAtLevel-level_of a low))
+    ⊎_elim (λ border. border) (λ pair. absurd (none pair.0 pair.1)) (border_or_has_pair n a low fits)
 
 -- and a triangle with its base on the border has no pair
 pub no_pair-HasBorderBase : (n a b : ℕ) → level_of a ≤ 2 * n → HasBorderBase n a → IsPair (level_of a) a b → ⊥

@@ -12,6 +12,6 @@ mod pair;
 mod shape;
 mod tri;
 
-pub use laws::{corner_laws, level_laws};
+pub use laws::{corner_laws, level_laws, mate_laws};
 pub use mesh_defs::{Corners, Point};
 pub use tri::Tri;
