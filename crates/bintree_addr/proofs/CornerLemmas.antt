@@ -87,3 +87,7 @@ corners_at-end level below n number none same =
     let all : level - 0 ≡ level = omega arith in
     let whole : number / 2 ^ 0 ≡ number = omega arith in
     rw (zeroth, all, whole, same) refl
+
+-- the largest side; the first part shows `grind` the power to match
+pub side_small : (n : ℕ) → n ≤ 11 → (2 ^ n ≡ 2 ^ n) × (2 ^ n ≤ 2048)
+side_small n small = (refl, pow_mono small)

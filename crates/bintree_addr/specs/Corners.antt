@@ -1,5 +1,6 @@
 -- Where the corners of a triangle lie: within the square, and with a base whose midpoint is a grid point.
 use Rattle.std.specs.Prelude.{◌≡◌, ℕ, ◌+◌, ◌%◌, ◌≤◌}
+use Rattle.mesh_defs.specs.declared.point.Point.{Point}
 use Rattle.mesh_defs.specs.declared.point.Corners.{Corners}
 
 -- every coordinate of the three corners is at most m
@@ -15,3 +16,8 @@ pub record IsWithin (m : ℕ) (c : Corners) : Type 0 where
 pub record HasEvenBase (c : Corners) : Type 0 where
   pub x : (c.v0.x + c.v1.x) % 2 ≡ 0
   pub y : (c.v0.y + c.v1.y) % 2 ≡ 0
+
+-- both coordinates of the point are at most m
+pub record IsInSquare (m : ℕ) (p : Point) : Type 0 where
+  pub x : p.x ≤ m
+  pub y : p.y ≤ m

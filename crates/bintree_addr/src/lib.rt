@@ -7,11 +7,19 @@
 
 #![tactic(auto)]
 
+mod blocked;
+mod cuboid;
 mod laws;
 mod pair;
+mod rank;
 mod shape;
+mod slot;
 mod tri;
 
+pub use blocked::Blocked;
+pub use cuboid::Cuboid;
 pub use laws::{corner_laws, level_laws, mate_laws};
 pub use mesh_defs::{Corners, Point};
+pub use rank::Rank;
+pub use slot::Slot;
 pub use tri::Tri;

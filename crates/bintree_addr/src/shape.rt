@@ -2,7 +2,8 @@
 
 ghost use Rattle.std.specs.Prelude.{◌≡◌, ◌+◌, ◌<◌, ◌^◌, if◌then◌else◌};
 ghost use Rattle.mesh_defs.specs.Triangle.{midpoint, base_triangle, child};
-ghost use Rattle.bintree_addr.specs.Corners.{IsWithin};
+ghost use Rattle.bintree_addr.specs.Corners.{IsWithin, IsInSquare};
+ghost use Rattle.mesh_defs.specs.BoundingBox.{is_left_or_on};
 
 use crate::{Corners, Point};
 
@@ -59,4 +60,16 @@ pub fn child_corners(corners: Corners, right: bool) -> Corners
             v1: corners.v0,
         }
     }
+}
+
+/// Whether r lies left of the line from p to q, or on it.
+pub fn is_left(r: Point, p: Point, q: Point) -> bool
+    requires r_in_square { IsInSquare (2 ^ 11) r }
+    requires p_in_square { IsInSquare (2 ^ 11) p }
+    requires q_in_square { IsInSquare (2 ^ 11) q }
+    ensures { result ≡ is_left_or_on r p q }
+{
+    let right_side = p.y * q.x + q.y * r.x + r.y * p.x;
+    let left_side = p.x * q.y + q.x * r.y + r.x * p.y;
+    right_side <= left_side
 }

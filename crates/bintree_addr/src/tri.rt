@@ -2,10 +2,11 @@
 
 ghost use Rattle.std.specs.Prelude.{◌≡◌, ℕ, ◌+◌, ◌*◌, ◌^◌, ◌<◌, ◌≤◌, ◌/◌, ◌↔◌, IsSome, IsNone, IfSome};
 ghost use Rattle.mesh_defs.specs.Triangle.{level_of, corners_of, child, midpoint, IsMate, HasBorderBase};
+ghost use Rattle.mesh_defs.specs.BoundingBox.{holds_point, point};
 ghost use Rattle.bintree_addr.specs.Corners.{IsWithin, HasEvenBase};
 
 use crate::pair::address_across;
-use crate::shape::{child_corners, half_square, point_between};
+use crate::shape::{child_corners, half_square, is_left, point_between};
 use crate::{Corners, Point};
 use std::marker::Model;
 
@@ -145,6 +146,24 @@ impl Tri {
     {
         let corners = self.corners(n);
         point_between(corners.v0, corners.v1)
+    }
+
+    /// Whether the grid point (x, y) lies in the closed triangle, its border included.
+    ///
+    /// Cost (not proved): that of `corners`.
+    #[tactic(auto, using(crate::proofs::CornerLemmas::side_small))]
+    pub fn holds_point(self, n: u32, x: u32, y: u32) -> bool
+        requires in_grid { (1 ≤ n) × (n ≤ 11) }
+        requires level { level_of self ≤ 2 * n }
+        requires x_in_grid { x ≤ 2 ^ n }
+        requires y_in_grid { y ≤ 2 ^ n }
+        ensures { result ≡ holds_point n self (point x y) }
+    {
+        let corners = self.corners(n);
+        let grid_point = Point { x, y };
+        is_left(grid_point, corners.apex, corners.v0)
+            && is_left(grid_point, corners.v0, corners.v1)
+            && is_left(grid_point, corners.v1, corners.apex)
     }
 }
 
