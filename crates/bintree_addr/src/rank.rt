@@ -1,10 +1,11 @@
 //! The order in which triangles deserve to be split.
 
-ghost use Rattle.std.specs.Prelude.{false};
+ghost use Rattle.std.specs.Prelude.{◌↔◌, IsTrue};
 ghost use Rattle.std.proofs.Common.{rules};
 ghost use Rattle.std.specs.Cmp.{partial_order_from_own_ties};
 ghost use Rattle.std.specs.Cmp.Rules.{comparing};
-ghost use Rattle.std.specs.Ordering.{nat_cmp, on, flip_args, then_cmp, as_partial_cmp};
+ghost use Rattle.std.specs.Ordering.{as_partial_cmp};
+ghost use Rattle.bintree_addr.specs.RankOrder.{rank_cmp, ComesFirst};
 
 use crate::Tri;
 use std::cmp::Ordering;
@@ -19,8 +20,17 @@ pub struct Rank {
     pub tri: Tri,
 }
 
+impl Rank {
+    /// Whether this triangle is to be split before the other.
+    pub fn ranks_before(&self, other: &Rank) -> bool
+        ensures { IsTrue result ↔ ComesFirst self.now other.now }
+    {
+        self < other
+    }
+}
+
 impl Ord for Rank {
-    ghost cmp = { then_cmp (flip_args (on (λ r. r.p) nat_cmp)) (on (λ r. r.tri) nat_cmp) };
+    ghost cmp = { rank_cmp };
 
     ghost total = { Prim.search (comparing, rules) };
 
@@ -34,7 +44,7 @@ impl Ord for Rank {
 }
 
 impl PartialOrd for Rank {
-    ghost partial_cmp = { as_partial_cmp (then_cmp (flip_args (on (λ r. r.p) nat_cmp)) (on (λ r. r.tri) nat_cmp)) };
+    ghost partial_cmp = { as_partial_cmp rank_cmp };
 
     ghost laws = { partial_order_from_own_ties (Prim.search (comparing, rules)) (Prim.search (comparing, rules)) };
 
