@@ -5,3 +5,4 @@ pub mod FrameLemmas
 pub mod PairLemmas
 pub mod MateLemmas
 pub mod CentreLemmas
+pub mod RankLemmas

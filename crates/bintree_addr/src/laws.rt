@@ -4,6 +4,9 @@
 
 ghost use Rattle.std.specs.Prelude.{◌≡◌, ℕ, ◌+◌, ◌*◌, ◌/◌, ◌^◌, ◌<◌, ◌≤◌, ◌↔◌, ◌⊎◌};
 ghost use Rattle.mesh_defs.specs.Triangle.{level_of, corners_of, child, midpoint, IsAddress, IsSplittable, IsMate, HasBorderBase};
+ghost use Rattle.std.specs.Ordering.{MatchOrdering};
+ghost use Rattle.bintree_addr.specs.declared.rank.Rank.{Rank};
+ghost use Rattle.bintree_addr.specs.RankOrder.{rank_cmp, ComesFirst};
 ghost use Rattle.bintree_addr.specs.Corners.{IsWithin, HasEvenBase};
 
 /// The level of an address by powers of 2, by its children and by its parent.
@@ -37,5 +40,12 @@ pub fn mate_laws()
         (n a b : ℕ) → IsSplittable n a → IsSplittable n b →
         midpoint (corners_of n a).v0 (corners_of n a).v1 ≡ midpoint (corners_of n b).v0 (corners_of n b).v1 →
         ((b ≡ a) ⊎ IsMate n a b)
+    }
+{}
+
+/// The comparison of ranks: less where the first comes first, and equal only for one rank.
+pub fn rank_laws()
+    ensures {
+        (r s : Rank) → MatchOrdering (rank_cmp r s) (ComesFirst r s) (r ≡ s) (ComesFirst s r)
     }
 {}
