@@ -1,6 +1,6 @@
 -- The midpoint of a base tells the level: how often 2 divides its coordinates. So two splittable triangles
 -- with one midpoint are equal or mates.
-use Rattle.std.proofs.Common.{◌≡◌, ◌⊎◌, sym, ◌∙◌, ap, ℕ, zero, suc, ◌+◌, ◌-◌, ◌*◌, ◌/◌, ◌%◌, ◌^◌, ◌<◌, ◌≤◌, refl, arith, inl, inr, ⊎_elim}
+use Rattle.std.proofs.Common.{◌≡◌, ◌⊎◌, sym, ◌∙◌, ap, ℕ, suc, ◌+◌, ◌-◌, ◌*◌, ◌/◌, ◌%◌, ◌^◌, ◌<◌, ◌≤◌, arith, inl, inr, ⊎_elim}
 use Rattle.std.proofs.Math.Nat.{mul_assoc, mul-add, pow-succ'}
 use Rattle.std.proofs.lemmas.Bool.{cases_order}
 use Rattle.std.proofs.lemmas.Nat.{pow_pos, pow-add}
@@ -8,7 +8,7 @@ use Rattle.mesh_defs.specs.declared.point.Point.{Point}
 use Rattle.mesh_defs.specs.declared.point.Corners.{Corners}
 use Rattle.mesh_defs.specs.Triangle.{level_of, corners_of, midpoint, IsAddress, IsSplittable, IsMate, HasBorderBase}
 use Rattle.bintree_addr.specs.Corners.{HasEvenBase}
-use Rattle.bintree_addr.proofs.LatticeLemmas.{scaled, lattice, halved, halved-half, step_of, step_of-power, corners_of-lattice, HasEvenBase-corners_of}
+use Rattle.bintree_addr.proofs.LatticeLemmas.{lattice, halved-half, step_of, step_of-power, corners_of-lattice, HasEvenBase-corners_of}
 use Rattle.bintree_addr.proofs.FrameLemmas.{frame, IsHalf, IsSomeHalf, IsHalf-frame, SameSum}
 use Rattle.bintree_addr.proofs.MateLemmas.{cancel, coordinates, parity, lattice-frame, AllTurned, AllTurned-frame, spread, same_sum_cases, IsMate-pair, pair-IsMate, border_or_has_pair, no_pair-HasBorderBase}
 use Rattle.bintree_addr.proofs.PairLemmas.{pair_unique}
@@ -52,20 +52,20 @@ IsCentre-corners_of : (n a : ℕ) → level_of a < 2 * n → IsCentre (shift n (
 IsCentre-corners_of n a coarse =
     let half : IsSomeHalf (frame (level_of a) a) = IsHalf-frame (level_of a) a in
     ⊎_elim
-        (λ even.
-            let step : step_of n (level_of a) ≡ 2 * 2 ^ shift n (level_of a) = step_of-power n (level_of a) (suc (shift n (level_of a))) (omega (arith, halved-half (level_of a))) ∙ pow-succ' 2 (shift n (level_of a)) in
-            let same : lattice (level_of a) a ≡ frame (level_of a) a = lattice-frame (level_of a) a even in
-            let parts = even_centre (2 ^ shift n (level_of a)) (level_of a) half.0 half.1 (frame (level_of a) a) even half.2 in
-            rw (corners_of-lattice n a (omega arith), step, same)
-                ((frame (level_of a) a).v0.x + (frame (level_of a) a).v1.x, (frame (level_of a) a).v0.y + (frame (level_of a) a).v1.y, record { x = parts.0; y = parts.1; one_odd = inl parts.2; kind = parts.3 ∙ sym even }))
-        (λ odd.
-            let step : step_of n (level_of a) ≡ 2 ^ shift n (level_of a) = step_of-power n (level_of a) (shift n (level_of a)) (omega (arith, halved-half (level_of a))) in
-            let sums = odd_sums (spread (level_of a)) half.0 half.1 (lattice (level_of a) a) (frame (level_of a) a) (AllTurned-frame (level_of a) a odd) half.2 in
-            let p : ℕ = ((lattice (level_of a) a).v0.x + (lattice (level_of a) a).v1.x) / 2 in
-            let q : ℕ = ((lattice (level_of a) a).v0.y + (lattice (level_of a) a).v1.y) / 2 in
-            rw (corners_of-lattice n a (omega arith), step)
-                (p, q, record { x = half_multiple (2 ^ shift n (level_of a)) (lattice (level_of a) a).v0.x (lattice (level_of a) a).v1.x sums.0; y = half_multiple (2 ^ shift n (level_of a)) (lattice (level_of a) a).v0.y (lattice (level_of a) a).v1.y sums.1; one_odd = one_is_odd p q sums.2; kind = sums.2 ∙ sym odd }))
-        (parity (level_of a))
+    (λ even.
+    let step : step_of n (level_of a) ≡ 2 * 2 ^ shift n (level_of a) = step_of-power n (level_of a) (suc (shift n (level_of a))) (omega (arith, halved-half (level_of a))) ∙ pow-succ' 2 (shift n (level_of a)) in
+    let same : lattice (level_of a) a ≡ frame (level_of a) a = lattice-frame (level_of a) a even in
+    let parts = even_centre (2 ^ shift n (level_of a)) (level_of a) half.0 half.1 (frame (level_of a) a) even half.2 in
+    rw (corners_of-lattice n a (omega arith), step, same)
+    ((frame (level_of a) a).v0.x + (frame (level_of a) a).v1.x, (frame (level_of a) a).v0.y + (frame (level_of a) a).v1.y, record { x = parts.0; y = parts.1; one_odd = inl parts.2; kind = parts.3 ∙ sym even }))
+    (λ odd.
+    let step : step_of n (level_of a) ≡ 2 ^ shift n (level_of a) = step_of-power n (level_of a) (shift n (level_of a)) (omega (arith, halved-half (level_of a))) in
+    let sums = odd_sums (spread (level_of a)) half.0 half.1 (lattice (level_of a) a) (frame (level_of a) a) (AllTurned-frame (level_of a) a odd) half.2 in
+    let p : ℕ = ((lattice (level_of a) a).v0.x + (lattice (level_of a) a).v1.x) / 2 in
+    let q : ℕ = ((lattice (level_of a) a).v0.y + (lattice (level_of a) a).v1.y) / 2 in
+    rw (corners_of-lattice n a (omega arith), step)
+    (p, q, record { x = half_multiple (2 ^ shift n (level_of a)) (lattice (level_of a) a).v0.x (lattice (level_of a) a).v1.x sums.0; y = half_multiple (2 ^ shift n (level_of a)) (lattice (level_of a) a).v0.y (lattice (level_of a) a).v1.y sums.1; one_odd = one_is_odd p q sums.2; kind = sums.2 ∙ sym odd }))
+    (parity (level_of a))
 
 -- ---- the power is determined
 
@@ -103,8 +103,8 @@ exact_sums c d p q same =
 pub same_centre : (n a b : ℕ) → IsSplittable n a → IsSplittable n b → midpoint (corners_of n a).v0 (corners_of n a).v1 ≡ midpoint (corners_of n b).v0 (corners_of n b).v1 → (b ≡ a) ⊎ IsMate n a b
 same_centre n a b p q same =
     let powers : (shift n (level_of a) ≡ shift n (level_of b)) × (level_of a % 2 ≡ level_of b % 2) =
-        same_power (shift n (level_of a)) (shift n (level_of b)) (level_of a) (level_of b) (midpoint (corners_of n a).v0 (corners_of n a).v1)
-            (IsCentre-corners_of n a p.coarse) (rw same (IsCentre-corners_of n b q.coarse)) in
+    same_power (shift n (level_of a)) (shift n (level_of b)) (level_of a) (level_of b) (midpoint (corners_of n a).v0 (corners_of n a).v1)
+    (IsCentre-corners_of n a p.coarse) (rw same (IsCentre-corners_of n b q.coarse)) in
     let level : level_of b ≡ level_of a = (let s = powers.0 in let r = powers.1 in let g = p.coarse in let h = q.coarse in omega arith) in
     let sums : SameSum (corners_of n a) (corners_of n b) = exact_sums (corners_of n a) (corners_of n b) (HasEvenBase-corners_of n a p.coarse) (HasEvenBase-corners_of n b q.coarse) same in
     let fits : level_of a ≤ 2 * n = (let g = p.coarse in omega arith) in
@@ -129,10 +129,10 @@ mate_unique n a b c address p q =
 pub mate_symmetric : (n a b : ℕ) → IsAddress n a → IsMate n a b → IsMate n b a
 mate_symmetric n a b address mate =
     record {
-        address = address;
-        other = (λ e. mate.other (sym e));
-        level = sym mate.level;
-        base = ⊎_elim (λ e. inl (sym e.0, sym e.1)) (λ e. inr (sym e.1, sym e.0)) mate.base;
+      address = address;
+      other = (λ e. mate.other (sym e));
+      level = sym mate.level;
+      base = ⊎_elim (λ e. inl (sym e.0, sym e.1)) (λ e. inr (sym e.1, sym e.0)) mate.base;
     }
 
 -- a triangle has its base on the border or has a mate

@@ -1,9 +1,9 @@
 -- Corners of addresses: those of a child, and that all lie within the square.
-use Rattle.std.proofs.Common.{◌≡◌, ◌-◌, ◌∙◌, ap, if◌then◌else◌, nat_eq, bit_and, ℕ, zero, suc, ◌+◌, ◌*◌, ◌/◌, ◌%◌, ◌^◌, ◌<◌, ◌≤◌, refl, arith, add-one, inl, inr, ⊎_elim}
+use Rattle.std.proofs.Common.{◌≡◌, ◌-◌, ◌∙◌, ap, if◌then◌else◌, nat_eq, bit_and, ℕ, zero, suc, ◌+◌, ◌*◌, ◌/◌, ◌%◌, ◌^◌, ◌<◌, ◌≤◌, refl, arith, add-one}
 use Rattle.std.proofs.Math.Pow.{pow_mono}
 use Rattle.std.proofs.lemmas.Nat.{and_mask, one_shl, shr-shr}
 use Rattle.mesh_defs.specs.declared.point.Corners.{Corners}
-use Rattle.mesh_defs.specs.Triangle.{level_of, midpoint, base_triangle, child, corners_at, corners_of}
+use Rattle.mesh_defs.specs.Triangle.{level_of, base_triangle, child, corners_at, corners_of}
 use Rattle.bintree_addr.specs.Corners.{IsWithin}
 use Rattle.bintree_addr.proofs.LevelLemmas.{level_of-left, level_of-right}
 

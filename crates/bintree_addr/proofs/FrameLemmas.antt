@@ -1,10 +1,10 @@
 -- Every triangle of a level as half of a unit square. At even levels the unit squares are those of the
 -- lattice; at odd levels they are turned by an eighth of a turn, so that one argument serves both.
-use Rattle.std.proofs.Common.{◌≡◌, ◌≢◌, ◌⊎◌, ℕ, zero, suc, ◌+◌, ◌*◌, ◌/◌, ◌%◌, ◌<◌, ◌≤◌, refl, arith, inl, inr, ⊎_elim}
+use Rattle.std.proofs.Common.{◌≡◌, ◌⊎◌, ℕ, zero, suc, ◌+◌, ◌*◌, ◌/◌, ◌%◌, ◌≤◌, refl, arith, inl, inr, ⊎_elim}
 use Rattle.mesh_defs.specs.declared.point.Point.{Point}
 use Rattle.mesh_defs.specs.declared.point.Corners.{Corners}
-use Rattle.mesh_defs.specs.Triangle.{base_triangle, child}
-use Rattle.bintree_addr.proofs.LatticeLemmas.{at, three, sum_of, multiple, grandchild, lattice}
+use Rattle.mesh_defs.specs.Triangle.{base_triangle}
+use Rattle.bintree_addr.proofs.LatticeLemmas.{at, three, grandchild}
 
 -- the four triangles of level 1
 abbrev pub quarter : ℕ → Corners

@@ -1,6 +1,6 @@
 -- Corners in lattice steps: the corners of a level are whole multiples of one step, and going down two
 -- levels halves the step and doubles the numbers, so that no midpoint is rounded.
-use Rattle.std.proofs.Common.{◌≡◌, ℕ, zero, suc, ap, ◌-◌, ◌+◌, ◌*◌, ◌/◌, ◌%◌, ◌^◌, ◌<◌, ◌≤◌, refl, sym, ◌∙◌, arith, inl, inr, ⊎_elim}
+use Rattle.std.proofs.Common.{◌≡◌, ℕ, zero, suc, ap, ◌-◌, ◌+◌, ◌*◌, ◌/◌, ◌%◌, ◌^◌, ◌<◌, ◌≤◌, refl, sym, ◌∙◌, arith, ⊎_elim}
 use Rattle.std.proofs.Math.Nat.{pow-succ', mul-add}
 use Rattle.std.proofs.lemmas.Bool.{cases_lt}
 use Rattle.std.proofs.lemmas.Nat.{pow-add, pow_pos}
@@ -9,7 +9,7 @@ use Rattle.bintree_addr.proofs.LevelLemmas.{levels}
 use Rattle.bintree_addr.proofs.CornerLemmas.{corners_of-left, corners_of-right, IsWithin-corners_of}
 use Rattle.mesh_defs.specs.declared.point.Point.{Point}
 use Rattle.mesh_defs.specs.declared.point.Corners.{Corners}
-use Rattle.mesh_defs.specs.Triangle.{level_of, midpoint, base_triangle, child, corners_at, corners_of}
+use Rattle.mesh_defs.specs.Triangle.{level_of, base_triangle, child, corners_at, corners_of}
 
 -- ---- points and corners by their coordinates
 

@@ -1,19 +1,18 @@
 -- Mates: the pairs of addresses are exactly the mates, and a triangle in no pair has its base on the border.
-use Rattle.std.proofs.Common.{◌≡◌, Option, Some, None, true, false, ◌≢◌, ◌⊎◌, ◌↔◌, sym, ◌∙◌, ap, ℕ, zero, suc, ◌+◌, ◌-◌, ◌*◌, ◌/◌, ◌%◌, ◌^◌, ◌<◌, ◌≤◌, refl, arith, inl, inr, ⊎_elim, add-one}
+use Rattle.std.proofs.Common.{◌≡◌, Option, Some, None, true, false, ◌⊎◌, ◌↔◌, sym, ◌∙◌, ap, ℕ, zero, suc, ◌+◌, ◌-◌, ◌*◌, ◌/◌, ◌%◌, ◌^◌, ◌<◌, ◌≤◌, refl, arith, inl, inr, ⊎_elim}
 use Rattle.std.proofs.Math.Nat.{mul-div_cancel_left, mul-add, pow-succ'}
 use Rattle.std.proofs.Math.Pow.{pow_mono}
 use Rattle.std.proofs.lemmas.Bool.{cases_eq}
-use Rattle.std.proofs.lemmas.Nat.{pow_pos}
 use Rattle.mesh_defs.specs.declared.point.Point.{Point}
 use Rattle.mesh_defs.specs.declared.point.Corners.{Corners}
-use Rattle.mesh_defs.specs.Triangle.{level_of, base_triangle, child, corners_of, midpoint, IsAddress, IsSplittable, SameEnds, IsMate, OnOneSide, HasBorderBase}
+use Rattle.mesh_defs.specs.Triangle.{level_of, base_triangle, child, corners_of, SameEnds, IsMate, OnOneSide, HasBorderBase}
 use Rattle.bintree_addr.specs.Corners.{IsWithin}
 use Rattle.bintree_addr.specs.Pair.{IsInner, IsOuter, IsPair}
 use Rattle.bintree_addr.proofs.LevelLemmas.{IsAtLevel, IsAtLevel-level_of, level_of-at}
 use Rattle.bintree_addr.proofs.CornerLemmas.{IsWithin-base, IsWithin-child}
-use Rattle.bintree_addr.proofs.LatticeLemmas.{at, three, same_point, multiple, sum_of, scaled, grandchild, lattice, halved, halved-half, step_of, step_pos, size_by_steps, corners_of-lattice}
+use Rattle.bintree_addr.proofs.LatticeLemmas.{at, same_point, multiple, sum_of, scaled, grandchild, lattice, halved, step_of, step_pos, size_by_steps, corners_of-lattice}
 use Rattle.bintree_addr.proofs.FrameLemmas.{quarter, frame, IsHalf, IsSomeHalf, IsHalf-frame, SameSum, AreHalves}
-use Rattle.bintree_addr.proofs.PairLemmas.{IsAtLevel-quarter, IsAtLevel-pair, pair_differs, pair_unique, AreHalves-pair, same_base, pair_answer}
+use Rattle.bintree_addr.proofs.PairLemmas.{IsAtLevel-quarter, IsAtLevel-pair, pair_differs, AreHalves-pair, same_base, pair_answer}
 
 -- ---- from the frame of a level to its lattice
 
@@ -84,9 +83,9 @@ turned_sums k c d e f t u same =
 SameSum-frame : (level a b : ℕ) → SameSum (lattice level a) (lattice level b) → SameSum (frame level a) (frame level b)
 SameSum-frame level a b same =
     ⊎_elim
-        (λ even. rw (← lattice-frame level a even, ← lattice-frame level b even) same)
-        (λ odd. turned_sums (spread level) (lattice level a) (lattice level b) (frame level a) (frame level b) (AllTurned-frame level a odd) (AllTurned-frame level b odd) same)
-        (parity level)
+    (λ even. rw (← lattice-frame level a even, ← lattice-frame level b even) same)
+    (λ odd. turned_sums (spread level) (lattice level a) (lattice level b) (frame level a) (frame level b) (AllTurned-frame level a odd) (AllTurned-frame level b odd) same)
+    (parity level)
 
 turned_halves : (k : ℕ) (c d e f : Corners) → AllTurned k c e → AllTurned k d f → AreHalves e f → AreHalves c d
 turned_halves k c d e f t u halves =
@@ -96,9 +95,9 @@ turned_halves k c d e f t u halves =
 AreHalves-lattice : (level a b : ℕ) → AreHalves (frame level a) (frame level b) → AreHalves (lattice level a) (lattice level b)
 AreHalves-lattice level a b halves =
     ⊎_elim
-        (λ even. rw (lattice-frame level a even, lattice-frame level b even) halves)
-        (λ odd. turned_halves (spread level) (lattice level a) (lattice level b) (frame level a) (frame level b) (AllTurned-frame level a odd) (AllTurned-frame level b odd) halves)
-        (parity level)
+    (λ even. rw (lattice-frame level a even, lattice-frame level b even) halves)
+    (λ odd. turned_halves (spread level) (lattice level a) (lattice level b) (frame level a) (frame level b) (AllTurned-frame level a odd) (AllTurned-frame level b odd) halves)
+    (parity level)
 
 -- ---- no triangle is flat
 
@@ -114,9 +113,9 @@ lattice_not_flat : (level a : ℕ) → (((lattice level a).v0.x ≡ (lattice lev
 lattice_not_flat level a =
     let half : IsSomeHalf (frame level a) = IsHalf-frame level a in
     ⊎_elim
-        (λ even. rw (lattice-frame level a even) (let apart = half_not_flat half.0 half.1 (frame level a) half.2 in ((λ e f. apart.0 e), (λ e f. apart.1 e))))
-        (λ odd. turned_not_flat (spread level) half.0 half.1 (lattice level a) (frame level a) (AllTurned-frame level a odd) half.2)
-        (parity level)
+    (λ even. rw (lattice-frame level a even) (let apart = half_not_flat half.0 half.1 (frame level a) half.2 in ((λ e f. apart.0 e), (λ e f. apart.1 e))))
+    (λ odd. turned_not_flat (spread level) half.0 half.1 (lattice level a) (frame level a) (AllTurned-frame level a odd) half.2)
+    (parity level)
 
 -- ---- the lattice lies within the square
 
@@ -173,12 +172,12 @@ border_or_pair zero a at = inr (5 - a, (let high = at.high in omega arith))
 border_or_pair (suc zero) a at = inl (IsOnSide-quarter (a / 2 % 2) (a % 2) (omega arith) (omega arith))
 border_or_pair (suc (suc level)) a at =
     ⊎_elim
-        (λ inner. inr (pair_from_parts level a (a / 4) (inl (inner, refl))))
-        (λ outer. ⊎_elim
-            (λ side. inl (rw (pow-succ' 2 (halved level)) (IsOnSide-grandchild (a % 4) (2 ^ halved level) (lattice level (a / 4)) outer side)))
-            (λ pair. inr (pair_from_parts level a pair.0 (inr (outer, pair.1))))
-            (border_or_pair level (a / 4) (IsAtLevel-quarter level a at)))
-        (inner_or_outer (a % 4) (omega arith))
+    (λ inner. inr (pair_from_parts level a (a / 4) (inl (inner, refl))))
+    (λ outer. ⊎_elim
+    (λ side. inl (rw (pow-succ' 2 (halved level)) (IsOnSide-grandchild (a % 4) (2 ^ halved level) (lattice level (a / 4)) outer side)))
+    (λ pair. inr (pair_from_parts level a pair.0 (inr (outer, pair.1))))
+    (border_or_pair level (a / 4) (IsAtLevel-quarter level a at)))
+    (inner_or_outer (a % 4) (omega arith))
 
 halves_off_border : (m : ℕ) (c d : Corners) → IsWithin m c → IsWithin m d → AreHalves c d → ((c.v0.x ≡ c.v1.x) → (c.apex.x ≡ c.v0.x) → ⊥) → ((c.v0.y ≡ c.v1.y) → (c.apex.y ≡ c.v0.y) → ⊥) → IsOnSide m c → ⊥
 halves_off_border m c d w u halves flat_x flat_y side =
@@ -207,14 +206,16 @@ coordinates p q e = (ap (λ (r : Point). r.x) e, ap (λ (r : Point). r.y) e)
 SameEnds-sum : (c d : Corners) → SameEnds c d → SameSum c d
 SameEnds-sum c d ends =
     ⊎_elim
-        (λ e. let p = coordinates c.v0 d.v0 e.0 in let q = coordinates c.v1 d.v1 e.1 in record { x = omega arith; y = omega arith })
-        (λ e. let p = coordinates c.v0 d.v1 e.0 in let q = coordinates c.v1 d.v0 e.1 in record { x = omega arith; y = omega arith })
-        ends
+    (λ e. let p = coordinates c.v0 d.v0 e.0 in let q = coordinates c.v1 d.v1 e.1 in record { x = omega arith; y = omega arith })
+    (λ e. let p = coordinates c.v0 d.v1 e.0 in let q = coordinates c.v1 d.v0 e.1 in record { x = omega arith; y = omega arith })
+    ends
 
 AreHalves-ends : (step : ℕ) (c d : Corners) → AreHalves c d → SameEnds (scaled step c) (scaled step d)
 AreHalves-ends step c d h =
-    inr (same_point (step * c.v0.x) (step * c.v0.y) (step * d.v1.x) (step * d.v1.y) (ap (λ k. step * k) (sym h.v1_x)) (ap (λ k. step * k) (sym h.v1_y)),
-         same_point (step * c.v1.x) (step * c.v1.y) (step * d.v0.x) (step * d.v0.y) (ap (λ k. step * k) (sym h.v0_x)) (ap (λ k. step * k) (sym h.v0_y)))
+    inr (
+      same_point (step * c.v0.x) (step * c.v0.y) (step * d.v1.x) (step * d.v1.y) (ap (λ k. step * k) (sym h.v1_x)) (ap (λ k. step * k) (sym h.v1_y)),
+      same_point (step * c.v1.x) (step * c.v1.y) (step * d.v0.x) (step * d.v0.y) (ap (λ k. step * k) (sym h.v0_x)) (ap (λ k. step * k) (sym h.v0_y)),
+    )
 
 -- a pair is a triangle and its mate
 pub IsMate-pair : (n a b : ℕ) → 2 ≤ a → level_of a ≤ 2 * n → IsPair (level_of a) a b → IsMate n a b
@@ -226,10 +227,10 @@ IsMate-pair n a b low fits pair =
     let first : 2 ^ 1 ≤ 2 ^ (level_of a + 1) = pow_mono lowest in
     let halves : AreHalves (lattice (level_of a) a) (lattice (level_of a) b) = AreHalves-lattice (level_of a) a b (AreHalves-pair (level_of a) a b pair) in
     record {
-        address = record { low = omega arith; high = omega arith };
-        other = pair_differs (level_of a) a b pair;
-        level = level;
-        base = rw (corners_of-lattice n a fits, corners_of-lattice n b (rw level fits), level) (AreHalves-ends (step_of n (level_of a)) (lattice (level_of a) a) (lattice (level_of a) b) halves);
+      address = record { low = omega arith; high = omega arith };
+      other = pair_differs (level_of a) a b pair;
+      level = level;
+      base = rw (corners_of-lattice n a fits, corners_of-lattice n b (rw level fits), level) (AreHalves-ends (step_of n (level_of a)) (lattice (level_of a) a) (lattice (level_of a) b) halves);
     }
 
 pub same_sum_cases : (n a b : ℕ) → 2 ≤ a → 2 ≤ b → level_of a ≤ 2 * n → level_of b ≡ level_of a → SameSum (corners_of n a) (corners_of n b) → (b ≡ a) ⊎ IsPair (level_of a) a b
@@ -237,14 +238,14 @@ same_sum_cases n a b low least fits level same =
     let first : corners_of n a ≡ scaled (step_of n (level_of a)) (lattice (level_of a) a) = corners_of-lattice n a fits in
     let second : corners_of n b ≡ scaled (step_of n (level_of a)) (lattice (level_of a) b) = rw (← level) (corners_of-lattice n b (rw level fits)) in
     let lattices : SameSum (lattice (level_of a) a) (lattice (level_of a) b) =
-        SameSum-unscaled (step_of n (level_of a)) (lattice (level_of a) a) (lattice (level_of a) b) (step_pos n (level_of a)) (rw (← first, ← second) same) in
+    SameSum-unscaled (step_of n (level_of a)) (lattice (level_of a) a) (lattice (level_of a) b) (step_pos n (level_of a)) (rw (← first, ← second) same) in
     same_base (level_of a) a b (IsAtLevel-level_of a low) (rw (← level) (IsAtLevel-level_of b least)) (SameSum-frame (level_of a) a b lattices)
 
 -- a triangle and its mate are a pair
 pub pair-IsMate : (n a b : ℕ) → 2 ≤ a → level_of a ≤ 2 * n → IsMate n a b → IsPair (level_of a) a b
 pair-IsMate n a b low fits mate =
     ⊎_elim (λ same. absurd (mate.other same)) (λ pair. pair)
-        (same_sum_cases n a b low mate.address.low fits mate.level (SameEnds-sum (corners_of n a) (corners_of n b) mate.base))
+    (same_sum_cases n a b low mate.address.low fits mate.level (SameEnds-sum (corners_of n a) (corners_of n b) mate.base))
 
 -- ---- the border
 
@@ -252,25 +253,25 @@ scaled_side : (step m : ℕ) (c : Corners) → IsOnSide m c → IsOnSide (step *
 scaled_side step m c side =
     let none : step * 0 ≡ 0 = omega arith in
     ⊎_elim (λ e. inl (ap (λ k. step * k) e.0 ∙ none, ap (λ k. step * k) e.1 ∙ none))
-        (⊎_elim (λ e. inr (inl (ap (λ k. step * k) e.0, ap (λ k. step * k) e.1)))
-            (⊎_elim (λ e. inr (inr (inl (ap (λ k. step * k) e.0 ∙ none, ap (λ k. step * k) e.1 ∙ none))))
-                (λ e. inr (inr (inr (ap (λ k. step * k) e.0, ap (λ k. step * k) e.1)))))) side
+    (⊎_elim (λ e. inr (inl (ap (λ k. step * k) e.0, ap (λ k. step * k) e.1)))
+    (⊎_elim (λ e. inr (inr (inl (ap (λ k. step * k) e.0 ∙ none, ap (λ k. step * k) e.1 ∙ none))))
+    (λ e. inr (inr (inr (ap (λ k. step * k) e.0, ap (λ k. step * k) e.1)))))) side
 
 unscaled_side : (step m : ℕ) (c : Corners) → 0 < step → IsOnSide (step * m) (scaled step c) → IsOnSide m c
 unscaled_side step m c some side =
     let none : 0 ≡ step * 0 = omega arith in
     ⊎_elim (λ e. inl (cancel step c.v0.x 0 some (e.0 ∙ none), cancel step c.v1.x 0 some (e.1 ∙ none)))
-        (⊎_elim (λ e. inr (inl (cancel step c.v0.x m some e.0, cancel step c.v1.x m some e.1)))
-            (⊎_elim (λ e. inr (inr (inl (cancel step c.v0.y 0 some (e.0 ∙ none), cancel step c.v1.y 0 some (e.1 ∙ none)))))
-                (λ e. inr (inr (inr (cancel step c.v0.y m some e.0, cancel step c.v1.y m some e.1)))))) side
+    (⊎_elim (λ e. inr (inl (cancel step c.v0.x m some e.0, cancel step c.v1.x m some e.1)))
+    (⊎_elim (λ e. inr (inr (inl (cancel step c.v0.y 0 some (e.0 ∙ none), cancel step c.v1.y 0 some (e.1 ∙ none)))))
+    (λ e. inr (inr (inr (cancel step c.v0.y m some e.0, cancel step c.v1.y m some e.1)))))) side
 
 -- a triangle has its base on the border or is in a pair
 pub border_or_has_pair : (n a : ℕ) → 2 ≤ a → level_of a ≤ 2 * n → HasBorderBase n a ⊎ HasPair (level_of a) a
 border_or_has_pair n a low fits =
     ⊎_elim
-        (λ side. inl (rw (corners_of-lattice n a fits, size_by_steps n (level_of a) fits) (scaled_side (step_of n (level_of a)) (2 ^ halved (level_of a)) (lattice (level_of a) a) side)))
-        (λ pair. inr pair)
-        (border_or_pair (level_of a) a (IsAtLevel-level_of a low))
+    (λ side. inl (rw (corners_of-lattice n a fits, size_by_steps n (level_of a) fits) (scaled_side (step_of n (level_of a)) (2 ^ halved (level_of a)) (lattice (level_of a) a) side)))
+    (λ pair. inr pair)
+    (border_or_pair (level_of a) a (IsAtLevel-level_of a low))
 
 -- a triangle without a pair has its base on the border
 pub HasBorderBase-no_pair : (n a : ℕ) → 2 ≤ a → level_of a ≤ 2 * n → ((b : ℕ) → IsPair (level_of a) a b → ⊥) → HasBorderBase n a
@@ -281,8 +282,8 @@ HasBorderBase-no_pair n a low fits none =
 pub no_pair-HasBorderBase : (n a b : ℕ) → level_of a ≤ 2 * n → HasBorderBase n a → IsPair (level_of a) a b → ⊥
 no_pair-HasBorderBase n a b fits border pair =
     pair_off_border (level_of a) a b pair
-        (unscaled_side (step_of n (level_of a)) (2 ^ halved (level_of a)) (lattice (level_of a) a) (step_pos n (level_of a))
-            (let side : IsOnSide (2 ^ n) (corners_of n a) = border in rw (corners_of-lattice n a fits, size_by_steps n (level_of a) fits) at side))
+    (unscaled_side (step_of n (level_of a)) (2 ^ halved (level_of a)) (lattice (level_of a) a) (step_pos n (level_of a))
+    (let side : IsOnSide (2 ^ n) (corners_of n a) = border in rw (corners_of-lattice n a fits, size_by_steps n (level_of a) fits) at side))
 
 -- ---- what `mate` answers
 

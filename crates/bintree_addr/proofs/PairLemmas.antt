@@ -1,8 +1,7 @@
 -- Pairs of addresses: a pair is of one level and one base, and triangles of one level and base are a pair.
-use Rattle.std.proofs.Common.{◌≡◌, ◌↔◌, ◌-◌, ap, Option, Some, None, sym, ◌∙◌, ◌≢◌, ◌⊎◌, ℕ, zero, suc, ◌+◌, ◌*◌, ◌/◌, ◌%◌, ◌^◌, ◌<◌, ◌≤◌, refl, arith, inl, inr, ⊎_elim, add-one}
+use Rattle.std.proofs.Common.{◌≡◌, ◌↔◌, ◌-◌, ap, Option, Some, None, sym, ◌∙◌, ◌≢◌, ◌⊎◌, ℕ, zero, suc, ◌+◌, ◌*◌, ◌/◌, ◌%◌, ◌^◌, ◌<◌, ◌≤◌, refl, arith, inl, inr, ⊎_elim}
 use Rattle.std.proofs.lemmas.Bool.{cases_eq}
 use Rattle.std.proofs.Math.Pow.{pow_mono}
-use Rattle.mesh_defs.specs.declared.point.Point.{Point}
 use Rattle.mesh_defs.specs.declared.point.Corners.{Corners}
 use Rattle.mesh_defs.specs.Triangle.{level_of, base_triangle}
 use Rattle.bintree_addr.specs.Pair.{IsInner, IsOuter, IsPair}
@@ -15,13 +14,13 @@ use Rattle.bintree_addr.proofs.FrameLemmas.{quarter, frame, IsHalf, IsSomeHalf, 
 pub IsAtLevel-quarter : (level a : ℕ) → IsAtLevel (suc (suc level)) a → IsAtLevel level (a / 4)
 IsAtLevel-quarter level a deep =
     let low : 2 ^ (suc (suc level) + 1) ≡ 4 * 2 ^ (level + 1) =
-        let e : suc (suc level) + 1 ≡ (level + 1) + 2 = omega arith in
-        let f : 2 ^ ((level + 1) + 2) ≡ 2 * 2 ^ ((level + 1) + 1) = pow_after (level + 1) in
-        let g : 2 ^ ((level + 1) + 1) ≡ 2 * 2 ^ (level + 1) = pow_next (level + 1) in rw e (omega arith) in
+    let e : suc (suc level) + 1 ≡ (level + 1) + 2 = omega arith in
+    let f : 2 ^ ((level + 1) + 2) ≡ 2 * 2 ^ ((level + 1) + 1) = pow_after (level + 1) in
+    let g : 2 ^ ((level + 1) + 1) ≡ 2 * 2 ^ (level + 1) = pow_next (level + 1) in rw e (omega arith) in
     let high : 2 ^ (suc (suc level) + 2) ≡ 4 * 2 ^ (level + 2) =
-        let e : suc (suc level) + 2 ≡ (level + 2) + 2 = omega arith in
-        let f : 2 ^ ((level + 2) + 2) ≡ 2 * 2 ^ ((level + 2) + 1) = pow_after (level + 2) in
-        let g : 2 ^ ((level + 2) + 1) ≡ 2 * 2 ^ (level + 2) = pow_next (level + 2) in rw e (omega arith) in
+    let e : suc (suc level) + 2 ≡ (level + 2) + 2 = omega arith in
+    let f : 2 ^ ((level + 2) + 2) ≡ 2 * 2 ^ ((level + 2) + 1) = pow_after (level + 2) in
+    let g : 2 ^ ((level + 2) + 1) ≡ 2 * 2 ^ (level + 2) = pow_next (level + 2) in rw e (omega arith) in
     record { low = omega arith; high = omega arith }
 
 pub IsAtLevel-grandchild : (level a : ℕ) → IsAtLevel level (a / 4) → IsAtLevel (suc (suc level)) a
@@ -38,7 +37,7 @@ IsAtLevel-pair (suc zero) a b at pair = absurd pair
 IsAtLevel-pair (suc (suc level)) a b at pair =
     let above : IsAtLevel level (a / 4) = IsAtLevel-quarter level a at in
     IsAtLevel-grandchild level b
-        (⊎_elim (λ inner. rw inner.1 at above) (λ outer. IsAtLevel-pair level (a / 4) (b / 4) above outer.1) pair.1)
+    (⊎_elim (λ inner. rw inner.1 at above) (λ outer. IsAtLevel-pair level (a / 4) (b / 4) above outer.1) pair.1)
 
 pub pair_differs : (level a b : ℕ) → IsPair level a b → b ≢ a
 pair_differs zero a b pair = omega arith
@@ -61,10 +60,10 @@ pair_unique (suc (suc level)) a b c p q =
     let sum = p.0 in let other = q.0 in
     let last : b % 4 ≡ c % 4 = omega arith in
     let above : b / 4 ≡ c / 4 =
-        ⊎_elim
-            (λ inner. ⊎_elim (λ also. sym inner.1 ∙ also.1) (λ outer. absurd (never_both (a % 4) inner.0 outer.0)) q.1)
-            (λ outer. ⊎_elim (λ inner. absurd (never_both (a % 4) inner.0 outer.0)) (λ also. pair_unique level (a / 4) (b / 4) (c / 4) outer.1 also.1) q.1)
-            p.1 in
+    ⊎_elim
+    (λ inner. ⊎_elim (λ also. sym inner.1 ∙ also.1) (λ outer. absurd (never_both (a % 4) inner.0 outer.0)) q.1)
+    (λ outer. ⊎_elim (λ inner. absurd (never_both (a % 4) inner.0 outer.0)) (λ also. pair_unique level (a / 4) (b / 4) (c / 4) outer.1 also.1) q.1)
+    p.1 in
     same_from_parts b c above last
 
 -- ---- a pair has one base, with its ends exchanged
@@ -101,9 +100,9 @@ AreHalves-pair zero a b pair = AreHalves-base (a % 2) (b % 2) (omega arith)
 AreHalves-pair (suc zero) a b pair = absurd pair
 AreHalves-pair (suc (suc level)) a b pair =
     ⊎_elim
-        (λ inner. rw (← inner.1) (AreHalves-inner (a % 4) (b % 4) (frame level (a / 4)) (omega arith) pair.0 inner.0))
-        (λ outer. AreHalves-outer (a % 4) (b % 4) (frame level (a / 4)) (frame level (b / 4)) pair.0 outer.0 (AreHalves-pair level (a / 4) (b / 4) outer.1))
-        pair.1
+    (λ inner. rw (← inner.1) (AreHalves-inner (a % 4) (b % 4) (frame level (a / 4)) (omega arith) pair.0 inner.0))
+    (λ outer. AreHalves-outer (a % 4) (b % 4) (frame level (a / 4)) (frame level (b / 4)) pair.0 outer.0 (AreHalves-pair level (a / 4) (b / 4) outer.1))
+    pair.1
 
 -- ---- triangles of one level with one base sum are equal or a pair
 
@@ -171,17 +170,17 @@ same_base (suc zero) a b p q same =
 same_base (suc (suc level)) a b p q same =
     let half : IsSomeHalf (frame level (a / 4)) = IsHalf-frame level (a / 4) in
     let pivots : SamePivot (a % 4) (b % 4) (frame level (a / 4)) (frame level (b / 4)) =
-        SamePivot-above (a % 4) (b % 4) (frame level (a / 4)) (frame level (b / 4)) half (IsHalf-frame level (b / 4)) same in
+    SamePivot-above (a % 4) (b % 4) (frame level (a / 4)) (frame level (b / 4)) half (IsHalf-frame level (b / 4)) same in
     ⊎_elim
-        (λ one. ⊎_elim
-            (λ last. inl (same_from_parts b a one last))
-            (λ inner. inr (inner.0, inl (inner.1, sym one)))
-            (pivot_unique (a % 4) (b % 4) half.0 half.1 (frame level (a / 4)) (omega arith) (omega arith) half.2 (rw one at pivots.x) (rw one at pivots.y)))
-        (λ pair.
-            let across : (a % 4 + b % 4 ≡ 3) × IsOuter (a % 4) =
-                pivot_across (a % 4) (b % 4) half.0 half.1 (frame level (a / 4)) (frame level (b / 4)) (omega arith) (omega arith) half.2 (AreHalves-pair level (a / 4) (b / 4) pair) pivots.x pivots.y in
-            inr (across.0, inr (across.1, pair)))
-        (same_base level (a / 4) (b / 4) (IsAtLevel-quarter level a p) (IsAtLevel-quarter level b q) pivots.above)
+    (λ one. ⊎_elim
+    (λ last. inl (same_from_parts b a one last))
+    (λ inner. inr (inner.0, inl (inner.1, sym one)))
+    (pivot_unique (a % 4) (b % 4) half.0 half.1 (frame level (a / 4)) (omega arith) (omega arith) half.2 (rw one at pivots.x) (rw one at pivots.y)))
+    (λ pair.
+    let across : (a % 4 + b % 4 ≡ 3) × IsOuter (a % 4) =
+    pivot_across (a % 4) (b % 4) half.0 half.1 (frame level (a / 4)) (frame level (b / 4)) (omega arith) (omega arith) half.2 (AreHalves-pair level (a / 4) (b / 4) pair) pivots.x pivots.y in
+    inr (across.0, inr (across.1, pair)))
+    (same_base level (a / 4) (b / 4) (IsAtLevel-quarter level a p) (IsAtLevel-quarter level b q) pivots.above)
 
 -- ---- the address across the base, as the code finds it
 

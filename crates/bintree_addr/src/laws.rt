@@ -36,16 +36,12 @@ pub fn mate_laws()
     ensures border { (n a b : ℕ) → IsAddress n a → HasBorderBase n a → IsMate n a b → ⊥ }
 
     // Two splittable triangles with one midpoint of the base are equal or mates.
-    ensures midpoint {
-        (n a b : ℕ) → IsSplittable n a → IsSplittable n b →
+    ensures midpoint { (n a b : ℕ) → IsSplittable n a → IsSplittable n b →
         midpoint (corners_of n a).v0 (corners_of n a).v1 ≡ midpoint (corners_of n b).v0 (corners_of n b).v1 →
-        ((b ≡ a) ⊎ IsMate n a b)
-    }
+        ((b ≡ a) ⊎ IsMate n a b) }
 {}
 
 /// The comparison of ranks: less where the first comes first, and equal only for one rank.
 pub fn rank_laws()
-    ensures {
-        (r s : Rank) → MatchOrdering (rank_cmp r s) (ComesFirst r s) (r ≡ s) (ComesFirst s r)
-    }
+    ensures { (r s : Rank) → MatchOrdering (rank_cmp r s) (ComesFirst r s) (r ≡ s) (ComesFirst s r) }
 {}

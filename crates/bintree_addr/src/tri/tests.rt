@@ -129,3 +129,78 @@ fn centres_are_midpoints_of_bases(rt: HostRuntime) -> Result<(), Fail> {
     }
     Ok(())
 }
+
+#[test]
+fn base_triangles_have_no_parent(rt: HostRuntime) -> Result<(), Fail> {
+    let cases = [
+        (2, None),
+        (3, None),
+        (4, Some(2)),
+        (7, Some(3)),
+        (17, Some(8)),
+    ];
+    for (number, parent) in cases {
+        let tri = Tri::new(number).ok_or("an address")?;
+        assert_eq!(rt; tri.parent().map(Tri::number), parent, "{number}");
+    }
+    Ok(())
+}
+
+#[test]
+fn mates_in_the_grid_of_side_four(rt: HostRuntime) -> Result<(), Fail> {
+    let cases = [
+        (2, Some(3)),
+        (3, Some(2)),
+        (4, None),
+        (5, None),
+        (6, None),
+        (7, None),
+        (8, Some(11)),
+        (9, Some(14)),
+        (10, Some(13)),
+        (11, Some(8)),
+        (12, Some(15)),
+        (13, Some(10)),
+        (14, Some(9)),
+        (15, Some(12)),
+        (17, None),
+    ];
+    for (number, mate) in cases {
+        let tri = Tri::new(number).ok_or("an address")?;
+        assert!(rt; tri.level() <= 4);
+        assert_eq!(rt; tri.mate(2).map(Tri::number), mate, "{number}");
+    }
+    Ok(())
+}
+
+#[test]
+fn grid_points_held_in_the_grid_of_side_two(rt: HostRuntime) -> Result<(), Fail> {
+    // A digit for each grid point: the rows from y = 2 down to y = 0, and in each row from x = 2 to x = 0.
+    let cases: [(u32, u32); 14] = [
+        (2, 0b001_011_111),
+        (3, 0b111_110_100),
+        (4, 0b000_010_111),
+        (5, 0b001_011_001),
+        (6, 0b111_010_000),
+        (7, 0b100_110_100),
+        (8, 0b000_010_011),
+        (9, 0b000_010_110),
+        (10, 0b001_011_000),
+        (11, 0b000_011_001),
+        (12, 0b110_010_000),
+        (13, 0b011_010_000),
+        (14, 0b000_110_100),
+        (15, 0b100_110_000),
+    ];
+    for (number, held) in cases {
+        let tri = Tri::new(number).ok_or("an address")?;
+        assert!(rt; tri.level() <= 2);
+        for y in 0..3 {
+            for x in 0..3 {
+                let is_held = held >> (3 * y + x) & 1 == 1;
+                assert_eq!(rt; tri.holds_point(1, x, y), is_held, "{number} at ({x}, {y})");
+            }
+        }
+    }
+    Ok(())
+}

@@ -1,4 +1,4 @@
-use Rattle.std.proofs.Common.{◌≡◌, ℕ, ◌+◌, ◌-◌, ◌*◌, ◌/◌, ◌%◌, ◌≤◌, Option, Some, None, refl, arith}
+use Rattle.std.proofs.Common.{◌≡◌, ℕ, ◌+◌, ◌-◌, ◌*◌, ◌%◌, Option, Some, None, refl, arith}
 use Rattle.mesh_defs.specs.Triangle.{level_of}
 use Rattle.bintree_addr.specs.Pair.{IsPair}
 use Rattle.bintree_addr.proofs.PairLemmas.{IsPair-root, no_pair-first, IsPair-inner_first, IsPair-inner_last, IsPair-outer, no_pair-outer, pair_answer, pair_no_answer, pair_range}
@@ -24,15 +24,15 @@ returns-in-3-clause-pair t c k =
 pub returns-in_err-above-in_default-2-clause-pair : goal.returns-in_err-above-in_default-2-clause-pair
 returns-in_err-above-in_default-2-clause-pair t c k =
     rw c.from_residual.ensures
-        (pair_no_answer c.args.number
-            (λ b. no_pair-outer c.args.number b (omega arith) (λ (first : c.args.number % 4 ≡ 0). omega arith) (λ (last : c.args.number % 4 ≡ 3). omega arith)
-                (λ d pair. let none : ◌≡◌ {A = Option ℕ} None (Some d) = (c.in_err-above-in_default-2.ensures.pair d).1 pair in cc))
-            k)
+    (pair_no_answer c.args.number
+    (λ b. no_pair-outer c.args.number b (omega arith) (λ (first : c.args.number % 4 ≡ 0). omega arith) (λ (last : c.args.number % 4 ≡ 3). omega arith)
+    (λ d pair. let none : ◌≡◌ {A = Option ℕ} None (Some d) = (c.in_err-above-in_default-2.ensures.pair d).1 pair in cc))
+    k)
 
 is_pair : (t : ℕ) (c : In_ok-above-in_default-2 t) → IsPair (level_of c.args.number) c.args.number (4 * c.in_ok-above-in_default-2.above + 3 - c.args.number % 4)
 is_pair t c =
     IsPair-outer c.args.number c.in_ok-above-in_default-2.above (omega arith) (λ (first : c.args.number % 4 ≡ 0). omega arith) (λ (last : c.args.number % 4 ≡ 3). omega arith)
-        ((c.in_ok-above-in_default-2.ensures.pair c.in_ok-above-in_default-2.above).0 refl)
+    ((c.in_ok-above-in_default-2.ensures.pair c.in_ok-above-in_default-2.above).0 refl)
 
 pub returns-in_ok-above-in_default-2-clause-pair : goal.returns-in_ok-above-in_default-2-clause-pair
 returns-in_ok-above-in_default-2-clause-pair t c k =

@@ -1,6 +1,5 @@
 use Rattle.std.proofs.Common.{◌-◌, ◌/◌, ◌^◌, ◌∙◌, ap, arith}
 use Rattle.mesh_defs.specs.Triangle.{corners_of}
-use Rattle.bintree_addr.specs.Corners.{IsWithin}
 use Rattle.bintree_addr.proofs.CornerLemmas.{IsWithin-reached, IsWithin-corners_at, corners_at-start, corners_at-next, corners_at-end}
 use Rattle.bintree_addr.proofs.tri.Tri.corners.Goals as goal
 

@@ -1,4 +1,4 @@
-use Rattle.std.proofs.Common.{◌≡◌, ℕ, ◌*◌, ◌≤◌, Option, Some, None, refl, sym, arith}
+use Rattle.std.proofs.Common.{◌≡◌, ℕ, Option, Some, None, refl, arith}
 use Rattle.mesh_defs.specs.Triangle.{level_of}
 use Rattle.bintree_addr.specs.Pair.{IsPair}
 use Rattle.bintree_addr.proofs.MateLemmas.{mate_answer, mate_no_answer, answer_off_border, no_answer_on_border}
