@@ -26,9 +26,11 @@ same_corners : (a p q b r s : Point) → a ≡ b → p ≡ r → q ≡ s → thr
 same_corners a p q b r s apex v0 v1 = rw (apex, v0, v1) refl
 
 -- corners are equal if their six coordinates are
-pub same_by_coordinates : (c d : Corners) → c.apex.x ≡ d.apex.x → c.apex.y ≡ d.apex.y → c.v0.x ≡ d.v0.x → c.v0.y ≡ d.v0.y → c.v1.x ≡ d.v1.x → c.v1.y ≡ d.v1.y → c ≡ d
+pub same_by_coordinates : (c d : Corners) → c.apex.x ≡ d.apex.x → c.apex.y ≡ d.apex.y → c.v0.x ≡ d.v0.x →
+    c.v0.y ≡ d.v0.y → c.v1.x ≡ d.v1.x → c.v1.y ≡ d.v1.y → c ≡ d
 same_by_coordinates c d ax ay px py qx qy =
-    same_corners c.apex c.v0 c.v1 d.apex d.v0 d.v1 (same_point c.apex.x c.apex.y d.apex.x d.apex.y ax ay) (same_point c.v0.x c.v0.y d.v0.x d.v0.y px py) (same_point c.v1.x c.v1.y d.v1.x d.v1.y qx qy)
+    same_corners c.apex c.v0 c.v1 d.apex d.v0 d.v1 (same_point c.apex.x c.apex.y d.apex.x d.apex.y ax ay)
+    (same_point c.v0.x c.v0.y d.v0.x d.v0.y px py) (same_point c.v1.x c.v1.y d.v1.x d.v1.y qx qy)
 
 -- ---- lattice steps
 
@@ -61,32 +63,51 @@ halved (suc zero) = 1
 halved (suc (suc level)) = suc (halved level)
 
 scaled-base : (step half : ℕ) → base_triangle step half ≡ scaled step (base_triangle 1 half)
-scaled-base step zero = same_by_coordinates (base_triangle step 0) (scaled step (base_triangle 1 0)) (omega arith) (omega arith) (omega arith) (omega arith) (omega arith) (omega arith)
-scaled-base step (suc h) = same_by_coordinates (base_triangle step (suc h)) (scaled step (base_triangle 1 (suc h))) (omega arith) (omega arith) (omega arith) (omega arith) (omega arith) (omega arith)
+scaled-base step zero = same_by_coordinates (base_triangle step 0) (scaled step (base_triangle 1 0)) (omega arith)
+    (omega arith) (omega arith) (omega arith) (omega arith) (omega arith)
+scaled-base step (suc h) = same_by_coordinates (base_triangle step (suc h)) (scaled step (base_triangle 1 (suc h)))
+    (omega arith) (omega arith) (omega arith) (omega arith) (omega arith) (omega arith)
 
-scaled-child_of_base : (step side half : ℕ) → child side (base_triangle (2 * step) half) ≡ scaled step (child side (base_triangle 2 half))
-scaled-child_of_base step zero zero = same_by_coordinates (child 0 (base_triangle (2 * step) 0)) (scaled step (child 0 (base_triangle 2 0))) (omega arith) (omega arith) (omega arith) (omega arith) (omega arith) (omega arith)
-scaled-child_of_base step zero (suc h) = same_by_coordinates (child 0 (base_triangle (2 * step) (suc h))) (scaled step (child 0 (base_triangle 2 (suc h)))) (omega arith) (omega arith) (omega arith) (omega arith) (omega arith) (omega arith)
-scaled-child_of_base step (suc s) zero = same_by_coordinates (child (suc s) (base_triangle (2 * step) 0)) (scaled step (child (suc s) (base_triangle 2 0))) (omega arith) (omega arith) (omega arith) (omega arith) (omega arith) (omega arith)
-scaled-child_of_base step (suc s) (suc h) = same_by_coordinates (child (suc s) (base_triangle (2 * step) (suc h))) (scaled step (child (suc s) (base_triangle 2 (suc h)))) (omega arith) (omega arith) (omega arith) (omega arith) (omega arith) (omega arith)
+scaled-child_of_base : (step side half : ℕ) → child side (base_triangle (2 * step) half) ≡ scaled step
+    (child side (base_triangle 2 half))
+scaled-child_of_base step zero zero = same_by_coordinates (child 0 (base_triangle (2 * step) 0))
+    (scaled step (child 0 (base_triangle 2 0))) (omega arith) (omega arith) (omega arith) (omega arith) (omega arith)
+    (omega arith)
+scaled-child_of_base step zero (suc h) = same_by_coordinates (child 0 (base_triangle (2 * step) (suc h)))
+    (scaled step (child 0 (base_triangle 2 (suc h)))) (omega arith) (omega arith) (omega arith) (omega arith)
+    (omega arith) (omega arith)
+scaled-child_of_base step (suc s) zero = same_by_coordinates (child (suc s) (base_triangle (2 * step) 0))
+    (scaled step (child (suc s) (base_triangle 2 0))) (omega arith) (omega arith) (omega arith) (omega arith)
+    (omega arith) (omega arith)
+scaled-child_of_base step (suc s) (suc h) = same_by_coordinates (child (suc s) (base_triangle (2 * step) (suc h)))
+    (scaled step (child (suc s) (base_triangle 2 (suc h)))) (omega arith) (omega arith) (omega arith) (omega arith)
+    (omega arith) (omega arith)
 
-child_of_child : (step half side : ℕ) (c : Corners) → half < 2 → side < 2 → child side (child half (scaled (2 * step) c)) ≡ scaled step (grandchild (2 * half + side) c)
-child_of_child step zero zero c _ _ = same_by_coordinates (child 0 (child 0 (scaled (2 * step) c))) (scaled step (grandchild 0 c)) (omega arith) (omega arith) (omega arith) (omega arith) (omega arith) (omega arith)
-child_of_child step zero (suc zero) c _ _ = same_by_coordinates (child 1 (child 0 (scaled (2 * step) c))) (scaled step (grandchild 1 c)) (omega arith) (omega arith) (omega arith) (omega arith) (omega arith) (omega arith)
-child_of_child step (suc zero) zero c _ _ = same_by_coordinates (child 0 (child 1 (scaled (2 * step) c))) (scaled step (grandchild 2 c)) (omega arith) (omega arith) (omega arith) (omega arith) (omega arith) (omega arith)
-child_of_child step (suc zero) (suc zero) c _ _ = same_by_coordinates (child 1 (child 1 (scaled (2 * step) c))) (scaled step (grandchild 3 c)) (omega arith) (omega arith) (omega arith) (omega arith) (omega arith) (omega arith)
+child_of_child : (step half side : ℕ) (c : Corners) → half < 2 → side < 2 → child side
+    (child half (scaled (2 * step) c)) ≡ scaled step (grandchild (2 * half + side) c)
+child_of_child step zero zero c _ _ = same_by_coordinates (child 0 (child 0 (scaled (2 * step) c)))
+    (scaled step (grandchild 0 c)) (omega arith) (omega arith) (omega arith) (omega arith) (omega arith) (omega arith)
+child_of_child step zero (suc zero) c _ _ = same_by_coordinates (child 1 (child 0 (scaled (2 * step) c)))
+    (scaled step (grandchild 1 c)) (omega arith) (omega arith) (omega arith) (omega arith) (omega arith) (omega arith)
+child_of_child step (suc zero) zero c _ _ = same_by_coordinates (child 0 (child 1 (scaled (2 * step) c)))
+    (scaled step (grandchild 2 c)) (omega arith) (omega arith) (omega arith) (omega arith) (omega arith) (omega arith)
+child_of_child step (suc zero) (suc zero) c _ _ = same_by_coordinates (child 1 (child 1 (scaled (2 * step) c)))
+    (scaled step (grandchild 3 c)) (omega arith) (omega arith) (omega arith) (omega arith) (omega arith) (omega arith)
 child_of_child step (suc (suc _)) _ c low _ = absurd (omega (arith, low))
 child_of_child step _ (suc (suc _)) c _ low = absurd (omega (arith, low))
 
 -- the corners of a level are those in its steps
-pub corners_at-lattice : (level step m a : ℕ) → m ≡ step * 2 ^ halved level → corners_at level m a ≡ scaled step (lattice level a)
+pub corners_at-lattice : (level step m a : ℕ) → m ≡ step * 2 ^ halved level → corners_at level m a ≡ scaled step
+    (lattice level a)
 corners_at-lattice zero step m a size =
     let same : m ≡ step = omega arith in rw same (scaled-base step (a % 2))
 corners_at-lattice (suc zero) step m a size =
     let same : m ≡ 2 * step = omega arith in rw same (scaled-child_of_base step (a % 2) (a / 2 % 2))
 corners_at-lattice (suc (suc level)) step m a size =
-    let twice : m ≡ 2 * step * 2 ^ halved level = size ∙ (let e : 2 ^ suc (halved level) ≡ 2 * 2 ^ halved level = pow-succ' 2 (halved level) in rw e (omega arith)) in
-    let above : corners_at level m (a / 4) ≡ scaled (2 * step) (lattice level (a / 4)) = corners_at-lattice level (2 * step) m (a / 4) twice in
+    let twice : m ≡ 2 * step * 2 ^ halved level = size ∙
+    (let e : 2 ^ suc (halved level) ≡ 2 * 2 ^ halved level = pow-succ' 2 (halved level) in rw e (omega arith)) in
+    let above : corners_at level m (a / 4) ≡ scaled (2 * step) (lattice level (a / 4)) = corners_at-lattice level
+    (2 * step) m (a / 4) twice in
     let quarter : a / 2 / 2 ≡ a / 4 = omega arith in
     let rest : 2 * (a / 2 % 2) + a % 2 ≡ a % 4 = omega arith in
     let four = child_of_child step (a / 2 % 2) (a % 2) (lattice level (a / 4)) (omega arith) (omega arith) in
@@ -115,16 +136,21 @@ HasEvenBase-grandchild (suc (suc (suc _))) c even = record { x = omega arith; y 
 pub HasEvenBase-lattice : (level a : ℕ) → level % 2 ≡ 1 → HasEvenBase (lattice level a)
 HasEvenBase-lattice zero a odd = absurd (omega arith)
 HasEvenBase-lattice (suc zero) a odd = HasEvenBase-quarter (a / 2 % 2) (a % 2)
-HasEvenBase-lattice (suc (suc level)) a odd = HasEvenBase-grandchild (a % 4) (lattice level (a / 4)) (HasEvenBase-lattice level (a / 4) (omega arith))
+HasEvenBase-lattice (suc (suc level)) a odd = HasEvenBase-grandchild (a % 4) (lattice level (a / 4))
+    (HasEvenBase-lattice level (a / 4) (omega arith))
 
 even_multiple : (step i j : ℕ) → (i + j) % 2 ≡ 0 → (step * i + step * j) % 2 ≡ 0
 even_multiple step i j even =
     let half : i + j ≡ 2 * ((i + j) / 2) = omega arith in
-    let all : step * i + step * j ≡ 2 * (step * ((i + j) / 2)) = sym (mul-add step i j) ∙ ap (λ k. step * k) half ∙ omega arith in
+    let all : step * i + step * j ≡ 2 * (step * ((i + j) / 2)) = sym (mul-add step i j) ∙ ap (λ k. step * k) half
+    ∙ omega arith in
     omega arith
 
 HasEvenBase-scaled : (step : ℕ) (c : Corners) → HasEvenBase c → HasEvenBase (scaled step c)
-HasEvenBase-scaled step c even = record { x = even_multiple step c.v0.x c.v1.x even.x; y = even_multiple step c.v0.y c.v1.y even.y }
+HasEvenBase-scaled step c even = record {
+  x = even_multiple step c.v0.x c.v1.x even.x;
+  y = even_multiple step c.v0.y c.v1.y even.y;
+}
 
 HasEvenBase-doubled : (step : ℕ) (c : Corners) → HasEvenBase (scaled (2 * step) c)
 HasEvenBase-doubled step c = record { x = omega arith; y = omega arith }
@@ -148,13 +174,16 @@ size_by_steps n level fits =
     let all : n ≡ (n - halved level) + halved level = omega arith in
     ap (λ k. 2 ^ k) all ∙ pow-add 2 (n - halved level) (halved level)
 
-pub corners_of-lattice : (n a : ℕ) → level_of a ≤ 2 * n → corners_of n a ≡ scaled (step_of n (level_of a)) (lattice (level_of a) a)
+pub corners_of-lattice : (n a : ℕ) → level_of a ≤ 2 * n → corners_of n a ≡ scaled (step_of n (level_of a))
+    (lattice (level_of a) a)
 unfolding corners_of
-corners_of-lattice n a fits = corners_at-lattice (level_of a) (step_of n (level_of a)) (2 ^ n) a (size_by_steps n (level_of a) fits)
+corners_of-lattice n a fits = corners_at-lattice (level_of a) (step_of n (level_of a)) (2 ^ n) a
+    (size_by_steps n (level_of a) fits)
 
 step_is_even : (n level : ℕ) → halved level < n → (half : ℕ) × (step_of n level ≡ 2 * half)
 unfolding step_of
-step_is_even n level room = let next : n - halved level ≡ suc (n - halved level - 1) = omega arith in (2 ^ (n - halved level - 1), ap (λ k. 2 ^ k) next ∙ pow-succ' 2 (n - halved level - 1))
+step_is_even n level room = let next : n - halved level ≡ suc (n - halved level - 1) = omega arith in
+    (2 ^ (n - halved level - 1), ap (λ k. 2 ^ k) next ∙ pow-succ' 2 (n - halved level - 1))
 
 -- below the finest level the midpoint of the base is a grid point
 pub HasEvenBase-corners_of : (n a : ℕ) → level_of a < 2 * n → HasEvenBase (corners_of n a)
@@ -162,8 +191,10 @@ HasEvenBase-corners_of n a coarse =
     let half : halved (level_of a) ≡ (level_of a + 1) / 2 = halved-half (level_of a) in
     rw (corners_of-lattice n a (omega arith))
     (⊎_elim
-    (λ room. let even : (h : ℕ) × (step_of n (level_of a) ≡ 2 * h) = step_is_even n (level_of a) room in rw even.1 (HasEvenBase-doubled even.0 (lattice (level_of a) a)))
-    (λ none. HasEvenBase-scaled (step_of n (level_of a)) (lattice (level_of a) a) (HasEvenBase-lattice (level_of a) a (omega arith)))
+    (λ room. let even : (h : ℕ) × (step_of n (level_of a) ≡ 2 * h) = step_is_even n (level_of a) room in rw even.1
+    (HasEvenBase-doubled even.0 (lattice (level_of a) a)))
+    (λ none. HasEvenBase-scaled (step_of n (level_of a)) (lattice (level_of a) a)
+    (HasEvenBase-lattice (level_of a) a (omega arith)))
     (cases_lt (halved (level_of a)) n))
 
 pub ruleset corner_facts = (levels, corners_of-left, corners_of-right, IsWithin-corners_of, HasEvenBase-corners_of)

@@ -32,7 +32,8 @@ IsAtLevel-grandchild level a at =
 -- ---- a pair is of one level, of two addresses, and the one determines the other
 
 pub IsAtLevel-pair : (level a b : ℕ) → IsAtLevel level a → IsPair level a b → IsAtLevel level b
-IsAtLevel-pair zero a b at pair = let low = at.low in let high = at.high in record { low = omega arith; high = omega arith }
+IsAtLevel-pair zero a b at pair = let low = at.low in let high = at.high in
+    record { low = omega arith; high = omega arith }
 IsAtLevel-pair (suc zero) a b at pair = absurd pair
 IsAtLevel-pair (suc (suc level)) a b at pair =
     let above : IsAtLevel level (a / 4) = IsAtLevel-quarter level a at in
@@ -62,7 +63,8 @@ pair_unique (suc (suc level)) a b c p q =
     let above : b / 4 ≡ c / 4 =
     ⊎_elim
     (λ inner. ⊎_elim (λ also. sym inner.1 ∙ also.1) (λ outer. absurd (never_both (a % 4) inner.0 outer.0)) q.1)
-    (λ outer. ⊎_elim (λ inner. absurd (never_both (a % 4) inner.0 outer.0)) (λ also. pair_unique level (a / 4) (b / 4) (c / 4) outer.1 also.1) q.1)
+    (λ outer. ⊎_elim (λ inner. absurd (never_both (a % 4) inner.0 outer.0))
+    (λ also. pair_unique level (a / 4) (b / 4) (c / 4) outer.1 also.1) q.1)
     p.1 in
     same_from_parts b c above last
 
@@ -70,11 +72,26 @@ pair_unique (suc (suc level)) a b c p q =
 
 AreHalves-base : (half other : ℕ) → half + other ≡ 1 → AreHalves (base_triangle 1 half) (base_triangle 1 other)
 AreHalves-base zero zero sum = absurd (omega (arith, sum))
-AreHalves-base zero (suc _) sum = record { v0_x = refl; v0_y = refl; v1_x = refl; v1_y = refl; apex_x = refl; apex_y = refl }
-AreHalves-base (suc _) zero sum = record { v0_x = refl; v0_y = refl; v1_x = refl; v1_y = refl; apex_x = refl; apex_y = refl }
+AreHalves-base zero (suc _) sum = record {
+  v0_x = refl;
+  v0_y = refl;
+  v1_x = refl;
+  v1_y = refl;
+  apex_x = refl;
+  apex_y = refl;
+}
+AreHalves-base (suc _) zero sum = record {
+  v0_x = refl;
+  v0_y = refl;
+  v1_x = refl;
+  v1_y = refl;
+  apex_x = refl;
+  apex_y = refl;
+}
 AreHalves-base (suc _) (suc _) sum = absurd (omega (arith, sum))
 
-AreHalves-inner : (which other : ℕ) (c : Corners) → which < 4 → which + other ≡ 3 → IsInner which → AreHalves (grandchild which c) (grandchild other c)
+AreHalves-inner : (which other : ℕ) (c : Corners) → which < 4 → which + other ≡ 3 → IsInner which → AreHalves
+    (grandchild which c) (grandchild other c)
 AreHalves-inner zero other c low sum inner =
     let last : other ≡ 3 = omega arith in
     rw last (record { v0_x = refl; v0_y = refl; v1_x = refl; v1_y = refl; apex_x = omega arith; apex_y = omega arith })
@@ -85,14 +102,29 @@ AreHalves-inner (suc (suc (suc zero))) other c low sum inner =
     rw first (record { v0_x = refl; v0_y = refl; v1_x = refl; v1_y = refl; apex_x = omega arith; apex_y = omega arith })
 AreHalves-inner (suc (suc (suc (suc _)))) other c low sum inner = absurd (omega (arith, low))
 
-AreHalves-outer : (which other : ℕ) (c d : Corners) → which + other ≡ 3 → IsOuter which → AreHalves c d → AreHalves (grandchild which c) (grandchild other d)
+AreHalves-outer : (which other : ℕ) (c d : Corners) → which + other ≡ 3 → IsOuter which → AreHalves c d → AreHalves
+    (grandchild which c) (grandchild other d)
 AreHalves-outer zero other c d sum outer halves = absurd outer
 AreHalves-outer (suc zero) other c d sum outer halves =
     let third : other ≡ 2 = omega (arith, sum) in
-    rw third (record { v0_x = omega arith; v0_y = omega arith; v1_x = omega arith; v1_y = omega arith; apex_x = omega arith; apex_y = omega arith })
+    rw third (record {
+      v0_x = omega arith;
+      v0_y = omega arith;
+      v1_x = omega arith;
+      v1_y = omega arith;
+      apex_x = omega arith;
+      apex_y = omega arith;
+    })
 AreHalves-outer (suc (suc zero)) other c d sum outer halves =
     let second : other ≡ 1 = omega (arith, sum) in
-    rw second (record { v0_x = omega arith; v0_y = omega arith; v1_x = omega arith; v1_y = omega arith; apex_x = omega arith; apex_y = omega arith })
+    rw second (record {
+      v0_x = omega arith;
+      v0_y = omega arith;
+      v1_x = omega arith;
+      v1_y = omega arith;
+      apex_x = omega arith;
+      apex_y = omega arith;
+    })
 AreHalves-outer (suc (suc (suc _))) other c d sum outer halves = absurd outer
 
 pub AreHalves-pair : (level a b : ℕ) → IsPair level a b → AreHalves (frame level a) (frame level b)
@@ -101,15 +133,20 @@ AreHalves-pair (suc zero) a b pair = absurd pair
 AreHalves-pair (suc (suc level)) a b pair =
     ⊎_elim
     (λ inner. rw (← inner.1) (AreHalves-inner (a % 4) (b % 4) (frame level (a / 4)) (omega arith) pair.0 inner.0))
-    (λ outer. AreHalves-outer (a % 4) (b % 4) (frame level (a / 4)) (frame level (b / 4)) pair.0 outer.0 (AreHalves-pair level (a / 4) (b / 4) outer.1))
+    (λ outer. AreHalves-outer (a % 4) (b % 4) (frame level (a / 4)) (frame level (b / 4)) pair.0 outer.0
+    (AreHalves-pair level (a / 4) (b / 4) outer.1))
     pair.1
 
 -- ---- triangles of one level with one base sum are equal or a pair
 
-quarter_sums : (which : ℕ) → which < 4 → (which ≡ 0) × ((quarter which).v0.x + (quarter which).v1.x ≡ 1) × ((quarter which).v0.y + (quarter which).v1.y ≡ 3)
-    ⊎ ((which ≡ 1) × ((quarter which).v0.x + (quarter which).v1.x ≡ 1) × ((quarter which).v0.y + (quarter which).v1.y ≡ 1)
-    ⊎ ((which ≡ 2) × ((quarter which).v0.x + (quarter which).v1.x ≡ 3) × ((quarter which).v0.y + (quarter which).v1.y ≡ 1)
-    ⊎ (which ≡ 3) × ((quarter which).v0.x + (quarter which).v1.x ≡ 3) × ((quarter which).v0.y + (quarter which).v1.y ≡ 3)))
+quarter_sums : (which : ℕ) → which < 4 → (which ≡ 0) × ((quarter which).v0.x + (quarter which).v1.x ≡ 1) ×
+    ((quarter which).v0.y + (quarter which).v1.y ≡ 3)
+    ⊎ ((which ≡ 1) × ((quarter which).v0.x + (quarter which).v1.x ≡ 1) ×
+    ((quarter which).v0.y + (quarter which).v1.y ≡ 1)
+    ⊎ ((which ≡ 2) × ((quarter which).v0.x + (quarter which).v1.x ≡ 3) ×
+    ((quarter which).v0.y + (quarter which).v1.y ≡ 1)
+    ⊎ (which ≡ 3) × ((quarter which).v0.x + (quarter which).v1.x ≡ 3) ×
+    ((quarter which).v0.y + (quarter which).v1.y ≡ 3)))
 quarter_sums zero low = inl (refl, refl, refl)
 quarter_sums (suc zero) low = inr (inl (refl, refl, refl))
 quarter_sums (suc (suc zero)) low = inr (inr (inl (refl, refl, refl)))
@@ -121,7 +158,8 @@ quarter_unique which other low less same =
     let p = quarter_sums which low in let q = quarter_sums other less in let x = same.x in let y = same.y in omega arith
 
 -- where a grandchild lies tells which it is, but for the first and the last
-pivot_unique : (which other i j : ℕ) (c : Corners) → which < 4 → other < 4 → IsHalf i j c → (pivot which c).x ≡ (pivot other c).x → (pivot which c).y ≡ (pivot other c).y → (other ≡ which) ⊎ ((which + other ≡ 3) × IsInner which)
+pivot_unique : (which other i j : ℕ) (c : Corners) → which < 4 → other < 4 → IsHalf i j c → (pivot which c).x ≡
+    (pivot other c).x → (pivot which c).y ≡ (pivot other c).y → (other ≡ which) ⊎ ((which + other ≡ 3) × IsInner which)
 pivot_unique zero zero i j c low less half x y = inl refl
 pivot_unique zero (suc zero) i j c low less half x y = let right = half.right in absurd (omega arith)
 pivot_unique zero (suc (suc zero)) i j c low less half x y = let right = half.right in absurd (omega arith)
@@ -133,52 +171,68 @@ pivot_unique (suc zero) (suc (suc (suc zero))) i j c low less half x y = let rig
 pivot_unique (suc (suc zero)) zero i j c low less half x y = let right = half.right in absurd (omega arith)
 pivot_unique (suc (suc zero)) (suc zero) i j c low less half x y = let right = half.right in absurd (omega arith)
 pivot_unique (suc (suc zero)) (suc (suc zero)) i j c low less half x y = inl refl
-pivot_unique (suc (suc zero)) (suc (suc (suc zero))) i j c low less half x y = let right = half.right in absurd (omega arith)
+pivot_unique (suc (suc zero)) (suc (suc (suc zero))) i j c low less half x y = let right = half.right in absurd
+    (omega arith)
 pivot_unique (suc (suc (suc zero))) zero i j c low less half x y = inr (refl, tt)
 pivot_unique (suc (suc (suc zero))) (suc zero) i j c low less half x y = let right = half.right in absurd (omega arith)
-pivot_unique (suc (suc (suc zero))) (suc (suc zero)) i j c low less half x y = let right = half.right in absurd (omega arith)
+pivot_unique (suc (suc (suc zero))) (suc (suc zero)) i j c low less half x y = let right = half.right in absurd
+    (omega arith)
 pivot_unique (suc (suc (suc zero))) (suc (suc (suc zero))) i j c low less half x y = inl refl
 pivot_unique (suc (suc (suc (suc _)))) _ i j c low less half x y = absurd (omega (arith, low))
 pivot_unique _ (suc (suc (suc (suc _)))) i j c low less half x y = absurd (omega (arith, less))
 
 -- grandchildren of a pair with one pivot are the second of one and the third of the other
-pivot_across : (which other i j : ℕ) (c d : Corners) → which < 4 → other < 4 → IsHalf i j c → AreHalves c d → (pivot which c).x ≡ (pivot other d).x → (pivot which c).y ≡ (pivot other d).y → (which + other ≡ 3) × IsOuter which
+pivot_across : (which other i j : ℕ) (c d : Corners) → which < 4 → other < 4 → IsHalf i j c → AreHalves c d →
+    (pivot which c).x ≡ (pivot other d).x → (pivot which c).y ≡ (pivot other d).y → (which + other ≡ 3) × IsOuter which
 pivot_across zero zero i j c d low less half halves x y = let right = half.right in absurd (omega arith)
 pivot_across zero (suc zero) i j c d low less half halves x y = let right = half.right in absurd (omega arith)
 pivot_across zero (suc (suc zero)) i j c d low less half halves x y = let right = half.right in absurd (omega arith)
-pivot_across zero (suc (suc (suc zero))) i j c d low less half halves x y = let right = half.right in absurd (omega arith)
+pivot_across zero (suc (suc (suc zero))) i j c d low less half halves x y = let right = half.right in absurd
+    (omega arith)
 pivot_across (suc zero) zero i j c d low less half halves x y = let right = half.right in absurd (omega arith)
 pivot_across (suc zero) (suc zero) i j c d low less half halves x y = let right = half.right in absurd (omega arith)
 pivot_across (suc zero) (suc (suc zero)) i j c d low less half halves x y = (refl, tt)
-pivot_across (suc zero) (suc (suc (suc zero))) i j c d low less half halves x y = let right = half.right in absurd (omega arith)
+pivot_across (suc zero) (suc (suc (suc zero))) i j c d low less half halves x y = let right = half.right in absurd
+    (omega arith)
 pivot_across (suc (suc zero)) zero i j c d low less half halves x y = let right = half.right in absurd (omega arith)
 pivot_across (suc (suc zero)) (suc zero) i j c d low less half halves x y = (refl, tt)
-pivot_across (suc (suc zero)) (suc (suc zero)) i j c d low less half halves x y = let right = half.right in absurd (omega arith)
-pivot_across (suc (suc zero)) (suc (suc (suc zero))) i j c d low less half halves x y = let right = half.right in absurd (omega arith)
-pivot_across (suc (suc (suc zero))) zero i j c d low less half halves x y = let right = half.right in absurd (omega arith)
-pivot_across (suc (suc (suc zero))) (suc zero) i j c d low less half halves x y = let right = half.right in absurd (omega arith)
-pivot_across (suc (suc (suc zero))) (suc (suc zero)) i j c d low less half halves x y = let right = half.right in absurd (omega arith)
-pivot_across (suc (suc (suc zero))) (suc (suc (suc zero))) i j c d low less half halves x y = let right = half.right in absurd (omega arith)
+pivot_across (suc (suc zero)) (suc (suc zero)) i j c d low less half halves x y = let right = half.right in absurd
+    (omega arith)
+pivot_across (suc (suc zero)) (suc (suc (suc zero))) i j c d low less half halves x y = let right = half.right in
+    absurd (omega arith)
+pivot_across (suc (suc (suc zero))) zero i j c d low less half halves x y = let right = half.right in absurd
+    (omega arith)
+pivot_across (suc (suc (suc zero))) (suc zero) i j c d low less half halves x y = let right = half.right in absurd
+    (omega arith)
+pivot_across (suc (suc (suc zero))) (suc (suc zero)) i j c d low less half halves x y = let right = half.right in
+    absurd (omega arith)
+pivot_across (suc (suc (suc zero))) (suc (suc (suc zero))) i j c d low less half halves x y = let right = half.right in
+    absurd (omega arith)
 pivot_across (suc (suc (suc (suc _)))) _ i j c d low less half halves x y = absurd (omega (arith, low))
 pivot_across _ (suc (suc (suc (suc _)))) i j c d low less half halves x y = absurd (omega (arith, less))
 
-pub same_base : (level a b : ℕ) → IsAtLevel level a → IsAtLevel level b → SameSum (frame level a) (frame level b) → (b ≡ a) ⊎ IsPair level a b
-same_base zero a b p q same = ⊎_elim (λ e. inl e) (λ differ. inr (let l = p.low in let h = p.high in let m = q.low in let k = q.high in omega arith)) (cases_eq b a)
+pub same_base : (level a b : ℕ) → IsAtLevel level a → IsAtLevel level b → SameSum (frame level a) (frame level b) →
+    (b ≡ a) ⊎ IsPair level a b
+same_base zero a b p q same = ⊎_elim (λ e. inl e) (λ differ. inr (let l = p.low in let h = p.high in let m = q.low in
+    let k = q.high in omega arith)) (cases_eq b a)
 same_base (suc zero) a b p q same =
     let last : a % 4 ≡ b % 4 = quarter_unique (a % 4) (b % 4) (omega arith) (omega arith) same in
     inl (let l = p.low in let h = p.high in let m = q.low in let k = q.high in omega arith)
 same_base (suc (suc level)) a b p q same =
     let half : IsSomeHalf (frame level (a / 4)) = IsHalf-frame level (a / 4) in
     let pivots : SamePivot (a % 4) (b % 4) (frame level (a / 4)) (frame level (b / 4)) =
-    SamePivot-above (a % 4) (b % 4) (frame level (a / 4)) (frame level (b / 4)) half (IsHalf-frame level (b / 4)) same in
+    SamePivot-above (a % 4) (b % 4) (frame level (a / 4)) (frame level (b / 4)) half
+    (IsHalf-frame level (b / 4)) same in
     ⊎_elim
     (λ one. ⊎_elim
     (λ last. inl (same_from_parts b a one last))
     (λ inner. inr (inner.0, inl (inner.1, sym one)))
-    (pivot_unique (a % 4) (b % 4) half.0 half.1 (frame level (a / 4)) (omega arith) (omega arith) half.2 (rw one at pivots.x) (rw one at pivots.y)))
+    (pivot_unique (a % 4) (b % 4) half.0 half.1 (frame level (a / 4)) (omega arith) (omega arith) half.2
+    (rw one at pivots.x) (rw one at pivots.y)))
     (λ pair.
     let across : (a % 4 + b % 4 ≡ 3) × IsOuter (a % 4) =
-    pivot_across (a % 4) (b % 4) half.0 half.1 (frame level (a / 4)) (frame level (b / 4)) (omega arith) (omega arith) half.2 (AreHalves-pair level (a / 4) (b / 4) pair) pivots.x pivots.y in
+    pivot_across (a % 4) (b % 4) half.0 half.1 (frame level (a / 4)) (frame level (b / 4)) (omega arith)
+    (omega arith) half.2 (AreHalves-pair level (a / 4) (b / 4) pair) pivots.x pivots.y in
     inr (across.0, inr (across.1, pair)))
     (same_base level (a / 4) (b / 4) (IsAtLevel-quarter level a p) (IsAtLevel-quarter level b q) pivots.above)
 
@@ -221,22 +275,28 @@ is_outer (suc (suc (suc (suc _)))) low first last = absurd (omega (arith, low))
 is_not_inner : (which : ℕ) → which < 4 → (which ≡ 0 → ⊥) → (which ≡ 3 → ⊥) → IsInner which → ⊥
 is_not_inner which low first last inner = never_both which inner (is_outer which low first last)
 
-pub IsPair-outer : (a above : ℕ) → 8 ≤ a → (a % 4 ≡ 0 → ⊥) → (a % 4 ≡ 3 → ⊥) → IsPair (level_of (a / 4)) (a / 4) above → IsPair (level_of a) a (4 * above + 3 - a % 4)
+pub IsPair-outer : (a above : ℕ) → 8 ≤ a → (a % 4 ≡ 0 → ⊥) → (a % 4 ≡ 3 → ⊥) → IsPair (level_of (a / 4))
+    (a / 4) above → IsPair (level_of a) a (4 * above + 3 - a % 4)
 IsPair-outer a above low first last pair =
     let up : (4 * above + 3 - a % 4) / 4 ≡ above = omega arith in
     rw (level_of-deep a low) (omega arith, inr (is_outer (a % 4) (omega arith) first last, rw up pair))
 
-pub no_pair-outer : (a c : ℕ) → 8 ≤ a → (a % 4 ≡ 0 → ⊥) → (a % 4 ≡ 3 → ⊥) → ((b : ℕ) → IsPair (level_of (a / 4)) (a / 4) b → ⊥) → IsPair (level_of a) a c → ⊥
+pub no_pair-outer : (a c : ℕ) → 8 ≤ a → (a % 4 ≡ 0 → ⊥) → (a % 4 ≡ 3 → ⊥) →
+    ((b : ℕ) → IsPair (level_of (a / 4)) (a / 4) b → ⊥) → IsPair (level_of a) a c → ⊥
 no_pair-outer a c low first last none pair =
     let deep : IsPair (suc (suc (level_of (a / 4)))) a c = rw (level_of-deep a low) at pair in
     ⊎_elim (λ inner. is_not_inner (a % 4) (omega arith) first last inner.0) (λ outer. none (c / 4) outer.1) deep.1
 
 -- the one answer
 pub pair_answer : (a v : ℕ) → IsPair (level_of a) a v → (c : ℕ) → (Some v ≡ Some c) ↔ IsPair (level_of a) a c
-pair_answer a v pair c =
-    ((λ e. let same : v ≡ c = cc in rw same at pair), (λ other. ap (λ k. Some k) (pair_unique (level_of a) a v c pair other)))
+pair_answer a v pair c = (
+  (λ e. let same : v ≡ c = cc in rw same at pair),
+  (λ other. ap (λ k. Some k)
+      (pair_unique (level_of a) a v c pair other)),
+)
 
-pub pair_no_answer : (a : ℕ) → ((c : ℕ) → IsPair (level_of a) a c → ⊥) → (c : ℕ) → (◌≡◌ {A = Option ℕ} None (Some c)) ↔ IsPair (level_of a) a c
+pub pair_no_answer : (a : ℕ) → ((c : ℕ) → IsPair (level_of a) a c → ⊥) → (c : ℕ) →
+    (◌≡◌ {A = Option ℕ} None (Some c)) ↔ IsPair (level_of a) a c
 pair_no_answer a none c = ((λ e. cc), (λ pair. absurd (none c pair)))
 
 -- a pair of an address is an address

@@ -1,6 +1,4 @@
-//! Laws of the definitions, for callers that reason about addresses which no `Tri` holds.
-//!
-//! Each function does nothing: its clauses are the laws.
+//! Laws of the definitions, each a clause of a function with an empty body.
 
 ghost use Rattle.std.specs.Prelude.{◌≡◌, ℕ, ◌+◌, ◌*◌, ◌/◌, ◌^◌, ◌<◌, ◌≤◌, ◌↔◌, ◌⊎◌};
 ghost use Rattle.mesh_defs.specs.Triangle.{level_of, corners_of, child, midpoint, IsAddress, IsSplittable, IsMate, HasBorderBase};

@@ -1,4 +1,4 @@
-//! Corners by a step down the bintree.
+//! Corners by a step down the bintree, and the side of a line on which a point lies.
 
 ghost use Rattle.std.specs.Prelude.{◌≡◌, ◌+◌, ◌<◌, ◌^◌, if◌then◌else◌};
 ghost use Rattle.mesh_defs.specs.Triangle.{midpoint, base_triangle, child};

@@ -60,6 +60,7 @@ impl Tri {
         ensures value { result ≡ level_of self }
         ensures high { result ≤ 22 }
     {
+        // An address of level l has l + 2 binary digits.
         30 - self.number.leading_zeros()
     }
 
@@ -102,7 +103,7 @@ impl Tri {
         }
     }
 
-    /// The other triangle of the level with the same base; the two are a diamond.
+    /// The other triangle of the level with the same base; a splittable triangle and its mate are a diamond.
     ///
     /// The mate of an address is the same in every grid that has it.
     /// Cost (not proved): a step for two levels at most, and two steps on average.

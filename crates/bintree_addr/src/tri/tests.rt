@@ -204,3 +204,14 @@ fn grid_points_held_in_the_grid_of_side_two(rt: HostRuntime) -> Result<(), Fail>
     }
     Ok(())
 }
+
+#[test]
+fn a_diamond_of_the_grid_of_side_four(rt: HostRuntime) -> Result<(), Fail> {
+    // The base of the triangle 9 runs from (4, 0) to (2, 2).
+    let tri = Tri::new(9).ok_or("an address")?;
+    assert!(rt; tri.level() < 4);
+    assert_eq!(rt; tri.mate(2).map(Tri::number), Some(14));
+    assert_eq!(rt; tri.centre(2), Point { x: 3, y: 1 });
+    assert_eq!(rt; tri.left().number(), 18);
+    Ok(())
+}

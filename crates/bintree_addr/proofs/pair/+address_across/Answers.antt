@@ -25,13 +25,16 @@ pub returns-in_err-above-in_default-2-clause-pair : goal.returns-in_err-above-in
 returns-in_err-above-in_default-2-clause-pair t c k =
     rw c.from_residual.ensures
     (pair_no_answer c.args.number
-    (λ b. no_pair-outer c.args.number b (omega arith) (λ (first : c.args.number % 4 ≡ 0). omega arith) (λ (last : c.args.number % 4 ≡ 3). omega arith)
+    (λ b. no_pair-outer c.args.number b (omega arith) (λ (first : c.args.number % 4 ≡ 0). omega arith)
+    (λ (last : c.args.number % 4 ≡ 3). omega arith)
     (λ d pair. let none : ◌≡◌ {A = Option ℕ} None (Some d) = (c.in_err-above-in_default-2.ensures.pair d).1 pair in cc))
     k)
 
-is_pair : (t : ℕ) (c : In_ok-above-in_default-2 t) → IsPair (level_of c.args.number) c.args.number (4 * c.in_ok-above-in_default-2.above + 3 - c.args.number % 4)
+is_pair : (t : ℕ) (c : In_ok-above-in_default-2 t) → IsPair (level_of c.args.number) c.args.number
+    (4 * c.in_ok-above-in_default-2.above + 3 - c.args.number % 4)
 is_pair t c =
-    IsPair-outer c.args.number c.in_ok-above-in_default-2.above (omega arith) (λ (first : c.args.number % 4 ≡ 0). omega arith) (λ (last : c.args.number % 4 ≡ 3). omega arith)
+    IsPair-outer c.args.number c.in_ok-above-in_default-2.above (omega arith)
+    (λ (first : c.args.number % 4 ≡ 0). omega arith) (λ (last : c.args.number % 4 ≡ 3). omega arith)
     ((c.in_ok-above-in_default-2.ensures.pair c.in_ok-above-in_default-2.above).0 refl)
 
 pub returns-in_ok-above-in_default-2-clause-pair : goal.returns-in_ok-above-in_default-2-clause-pair
@@ -40,4 +43,5 @@ returns-in_ok-above-in_default-2-clause-pair t c k =
 
 pub returns-in_ok-above-in_default-2-clause-range : goal.returns-in_ok-above-in_default-2-clause-range
 returns-in_ok-above-in_default-2-clause-range t c =
-    pair_range c.args.number (4 * c.in_ok-above-in_default-2.above + 3 - c.args.number % 4) (omega arith) (omega arith) (is_pair t c)
+    pair_range c.args.number (4 * c.in_ok-above-in_default-2.above + 3 - c.args.number % 4) (omega arith) (omega arith)
+    (is_pair t c)

@@ -14,7 +14,8 @@ has_no_pair c b pair =
     let none : ◌≡◌ {A = Option ℕ} None (Some b) = (c.in-None.ensures.pair b).1 inside in cc
 
 pub returns-in-Some-clause-mate : goal.returns-in-Some-clause-mate
-returns-in-Some-clause-mate c k = mate_answer c.args.n c.args.self c.in-Some.number (omega arith) (omega arith) (is_pair c) k
+returns-in-Some-clause-mate c k = mate_answer c.args.n c.args.self c.in-Some.number (omega arith) (omega arith)
+    (is_pair c) k
 
 pub returns-in-Some-clause-border : goal.returns-in-Some-clause-border
 returns-in-Some-clause-border c = answer_off_border c.args.n c.args.self c.in-Some.number (omega arith) (is_pair c)
