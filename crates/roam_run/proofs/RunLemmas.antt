@@ -27,13 +27,13 @@ abbrev pub shown_by : MeshCommand → List ℕ → Shown
 shown_by command bytes = record { prefix = command.prefix; text = bytes }
 
 -- a read of the script failed
-pub read-fault : (before now : Told) (command : MeshCommand) (files : List NamedFile) (grid : HeightField) (text : List ℕ)
-    → text ≡ frame_text grid → grid_of (bytes_of files command.grid) ≡ Ok grid
-    → StandsForRead before now (shown_by command text) (bytes_of files command.script)
-    → CommandReadFault before now command files
-read-fault before now command files grid text is found stands =
-    let P : List ℕ → Type 0 = λ t. StandsForRead before now (shown_by command t) (bytes_of files command.script) in
-    record { left = inr (grid, found, subst P is stands) }
+pub read-fault : (before now : Told) (opens opens' : ℕ) (rest : Option (List ℕ)) (command : MeshCommand) (files : List NamedFile) (grid : HeightField) (text : List ℕ)
+    → opens' ≡ opens + 2 → text ≡ frame_text grid → grid_of (bytes_of files command.grid) ≡ Ok grid
+    → StandsForRead before now rest (shown_by command text) (bytes_of files command.script)
+    → CommandReadFault before now opens opens' rest command files
+read-fault before now opens opens' rest command files grid text twice is found stands =
+    let P : List ℕ → Type 0 = λ t. StandsForRead before now rest (shown_by command t) (bytes_of files command.script) in
+    inr (twice, grid, found, subst P is stands)
 
 -- the script ended
 pub script-ends : (before now : Told) (command : MeshCommand) (files : List NamedFile) (grid : HeightField) (text : List ℕ) (status : Status)
@@ -161,11 +161,11 @@ module _ (words : List (List ℕ)) (files : List NamedFile) (command : MeshComma
         part-best cut.done cut.next (frames-front words files 1 (meshes_of cut.done) (meshes_of (cut.next ∷ cut.owed)) frames) cut.standing
 
     -- whatever the end of a script is, its meshes are best frames
-    pub run-best : (script : List ℕ) (status : Status) → IsRunEnd status
+    pub run-best : (rest : Option (List ℕ)) (script : List ℕ) (status : Status) → IsRunEnd status
         → EndsAs before now (left_outcome (shown_by command text) (place 0 []) script) status
-        → (status ≡ ReadFault → StandsForRead before now (shown_by command text) script)
+        → (status ≡ ReadFault → StandsForRead before now rest (shown_by command text) script)
         → KeepsBestMeshes words files all now.meshes
-    run-best script status (inl e) ends fault = (let left = fault e in stands-best left.lines left.stands)
-    run-best script status (inr (inl e)) ends fault = stands-best script (ends.complete (rw e refl)).0
-    run-best script status (inr (inr (inl e))) ends fault = stands-best script (ends.complete (rw e refl)).0
-    run-best script status (inr (inr (inr e))) ends fault = cut-best script (ends.cut_short e)
+    run-best rest script status (inl e) ends fault = (let left = fault e in stands-best left.lines left.stands)
+    run-best rest script status (inr (inl e)) ends fault = stands-best script (ends.complete (rw e refl)).0
+    run-best rest script status (inr (inr (inl e))) ends fault = stands-best script (ends.complete (rw e refl)).0
+    run-best rest script status (inr (inr (inr e))) ends fault = cut-best script (ends.cut_short e)

@@ -1,5 +1,5 @@
 -- A script that is read from a shelf, piece by piece.
-use Rattle.std.proofs.Common.{rules, inl, Ok, Err, ◌≡◌, ◌≢◌, ℕ, ◌≤◌, List, [], ◌∷◌, ◌++◌, length, take, drop, Option, Some, refl, sym, ◌∙◌, ap, subst, append_assoc, append-nil, arith}
+use Rattle.std.proofs.Common.{inr, rules, inl, Ok, Err, ◌≡◌, ◌≢◌, ℕ, ◌≤◌, List, [], ◌∷◌, ◌++◌, length, take, drop, Option, Some, refl, sym, ◌∙◌, ap, subst, append_assoc, append-nil, arith}
 use Rattle.std.proofs.lemmas.List.{take-append-drop}
 use Rattle.roam_edge.specs.Shelf.{NamedFile, bytes_of}
 use Rattle.roam_run.specs.declared.status.Status.{Status}
@@ -114,10 +114,10 @@ module _ (before middle now : Told) (shown : Shown) (here : Place) (files : Opti
       })
 
   -- a read of the script failed
-  pub carried-fault : length here.part ≤ 5 → IsOneLine here.part
+  pub carried-fault : (rest' : Option (List ℕ)) → rest' ≡ rest → length here.part ≤ 5 → IsOneLine here.part
       → (all : List NamedFile) → files ≡ Some all
-      → StandsForRead before middle shown (bytes_of all name)
-  carried-fault short one all is =
+      → StandsForRead before middle rest' shown (bytes_of all name)
+  carried-fault rest' same short one all is =
       let there = so_far.told_script all is in
       let at_end = ap (script_outcome shown.prefix shown.text 0) (sym (append-nil so_far.carried.lines)) ∙ so_far.carried.goes_on [] in
       record {
@@ -125,6 +125,7 @@ module _ (before middle now : Told) (shown : Shown) (here : Place) (files : Opti
         begun = here.part;
         unread = there.0;
         cut = there.2 ∙ ap (λ m. m ++ there.0) so_far.carried.cut ∙ append_assoc so_far.carried.lines here.part there.0;
+        left = inl (same ∙ there.1);
         whole = so_far.carried.whole;
         short = short;
         one_line = one;
@@ -134,13 +135,14 @@ module _ (before middle now : Told) (shown : Shown) (here : Place) (files : Opti
       }
 
 -- opening the script failed
-pub fault-open : (before : Told) (shown : Shown) (script : List ℕ) → StandsForRead before before shown script
+pub fault-open : (before : Told) (rest : Option (List ℕ)) (shown : Shown) (script : List ℕ) → StandsForRead before before rest shown script
 unfolding script_outcome
-fault-open before shown script = record {
+fault-open before rest shown script = record {
   lines = [];
   begun = [];
   unread = script;
   cut = refl;
+  left = inr (refl, refl);
   whole = inl refl;
   short = omega arith;
   one_line = search rules;

@@ -49,22 +49,27 @@ pub record EndsAs (before now : Told) (end : Outcome) (status : Status) : Type 0
   pub cut_short : status ≡ WriteFault → IsCutShort before now end.acts
 
 -- A read failed: what the whole lines among the bytes that were read do stands, and nothing else.
--- The lines that were read are all accepted, and the one that has begun has at most five bytes.
-pub record StandsForRead (before now : Told) (shown : Shown) (script : List ℕ) : Type 0 where
+-- The lines that were read are all accepted, and the one that has begun has at most five bytes. The
+-- bytes that are left are those that the shelf still has unread, unless opening failed and none was read.
+pub record StandsForRead (before now : Told) (rest : Option (List ℕ)) (shown : Shown) (script : List ℕ) : Type 0 where
   pub lines : List ℕ
   pub begun : List ℕ
   pub unread : List ℕ
   pub cut : script ≡ lines ++ (begun ++ unread)
+  pub left : (rest ≡ Some unread) ⊎ ((lines ≡ []) × (begun ≡ []))
   pub whole : (lines ≡ []) ⊎ AreWhole lines
   pub short : length begun ≤ 5
   pub one_line : IsOneLine begun
   pub accepted : (script_outcome shown.prefix shown.text 0 lines).status ≡ Done
   pub stands : Stands before now (script_outcome shown.prefix shown.text 0 lines).acts
 
--- A command's read failed: at the grid nothing was done, and at the script what its whole lines do.
-pub record CommandReadFault (before now : Told) (command : MeshCommand) (files : List NamedFile) : Type 0 where
-  pub left : Stands before now [] ⊎ ((grid : HeightField) × (grid_of (bytes_of files command.grid) ≡ Ok grid)
-      × StandsForRead before now (record { prefix = command.prefix; text = frame_text grid }) (bytes_of files command.script))
+-- A command's read failed: at the grid, the one file that was opened, nothing was done; at the script,
+-- the second file, what the whole lines do that were read.
+abbrev pub CommandReadFault : Told → Told → ℕ → ℕ → Option (List ℕ) → MeshCommand → List NamedFile → Type 0
+CommandReadFault before now opens opens' rest command files =
+    ((opens' ≡ opens + 1) × Stands before now [])
+    ⊎ ((opens' ≡ opens + 2) × (grid : HeightField) × (grid_of (bytes_of files command.grid) ≡ Ok grid)
+    × StandsForRead before now rest (record { prefix = command.prefix; text = frame_text grid }) (bytes_of files command.script))
 
 -- the bytes are a whole header of an accepted grid: behind them each raster of its size is read
 pub record IsWholeHeader (bytes : List ℕ) : Type 0 where
@@ -83,8 +88,9 @@ pub record CommandNoMemory (before now : Told) (command : MeshCommand) (files : 
   pub header : BeginsWithHeader (bytes_of files command.grid)
 
 -- Only words of a command read files, and what stands then is that of the command.
-pub record LeavesAtReadFault (before now : Told) (words : List (List ℕ)) (files : List NamedFile) : Type 0 where
-  pub of_command : (command : MeshCommand) × (command_of words ≡ Some command) × CommandReadFault before now command files
+pub record LeavesAtReadFault (before now : Told) (opens opens' : ℕ) (rest : Option (List ℕ)) (words : List (List ℕ)) (files : List NamedFile) : Type 0 where
+  pub of_command : (command : MeshCommand) × (command_of words ≡ Some command)
+      × CommandReadFault before now opens opens' rest command files
 
 pub record LeavesAtNoMemory (before now : Told) (words : List (List ℕ)) (files : List NamedFile) : Type 0 where
   pub of_command : (command : MeshCommand) × (command_of words ≡ Some command) × CommandNoMemory before now command files

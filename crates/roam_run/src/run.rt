@@ -47,7 +47,8 @@ pub fn roam<F: Shelf, M: MeshSink, R: Sink>(
         (outcome_of (map string_bytes words.now) files) result.status }
     ensures read_fault { result.status ≡ Status.ReadFault → (files : List NamedFile) → F.files shelf.old ≡ Some files →
         LeavesAtReadFault (told (M.meshes meshes.old) (R.contents report.old))
-        (told (M.meshes meshes.new) (R.contents report.new)) (map string_bytes words.now) files }
+        (told (M.meshes meshes.new) (R.contents report.new)) (F.opens shelf.old) (F.opens shelf.new)
+        (F.rest shelf.new) (map string_bytes words.now) files }
     ensures no_memory { result.status ≡ Status.NoMemory → (files : List NamedFile) → F.files shelf.old ≡ Some files →
         LeavesAtNoMemory (told (M.meshes meshes.old) (R.contents report.old))
         (told (M.meshes meshes.new) (R.contents report.new)) (map string_bytes words.now) files }
@@ -95,7 +96,8 @@ fn run_mesh<F: Shelf, M: MeshSink, R: Sink>(
         (command_outcome (Some (command_seen command.now)) files) result }
     ensures read_fault { result ≡ Status.ReadFault → (files : List NamedFile) → F.files shelf.old ≡ Some files →
         CommandReadFault (told (M.meshes meshes.old) (R.contents report.old))
-        (told (M.meshes meshes.new) (R.contents report.new)) (command_seen command.now) files }
+        (told (M.meshes meshes.new) (R.contents report.new)) (F.opens shelf.old) (F.opens shelf.new)
+        (F.rest shelf.new) (command_seen command.now) files }
     ensures no_memory { result ≡ Status.NoMemory → (files : List NamedFile) → F.files shelf.old ≡ Some files →
         CommandNoMemory (told (M.meshes meshes.old) (R.contents report.old))
         (told (M.meshes meshes.new) (R.contents report.new)) (command_seen command.now) files }

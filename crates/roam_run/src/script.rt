@@ -237,7 +237,7 @@ pub(crate) fn run_script<F: Shelf, M: MeshSink, R: Sink>(
         (left_outcome (shown scene.now) (place 0 []) (bytes_of files name.now)) result }
     ensures read_fault { result ≡ Status.ReadFault → (files : List NamedFile) → F.files shelf.old ≡ Some files →
         StandsForRead (told (M.meshes meshes.old) (R.contents report.old))
-        (told (M.meshes meshes.new) (R.contents report.new))
+        (told (M.meshes meshes.new) (R.contents report.new)) (F.rest shelf.new)
         (shown scene.now) (bytes_of files name.now) }
     ensures status { IsRunEnd result }
     ensures done { result ≡ Status.Done → HasEnded (F.ended shelf.new) (F.files shelf.old) (F.rest shelf.new) }

@@ -1,4 +1,4 @@
-use Rattle.std.proofs.Common.{Err, ◌∙◌, ap}
+use Rattle.std.proofs.Common.{◌≡◌, ◌+◌, Err, ◌∙◌, ap, arith}
 use Rattle.roam_run.proofs.RunLemmas.{read-fault, refused-ends, refused-cut, run-best}
 use Rattle.roam_run.specs.Act.{told}
 use Rattle.roam_run.specs.WordView.{command_seen}
@@ -6,7 +6,8 @@ use Rattle.roam_run.proofs.run.run_mesh.Goals as goal
 
 pub returns-in-Ok-clause-read_fault : goal.returns-in-Ok-clause-read_fault
 returns-in-Ok-clause-read_fault g c is all told_files =
-    read-fault _ _ (command_seen c.args.command.now) all _ _ (c.as_slice.ensures.value ∙ c.text_of-text.ensures.text) (c.in-Ok.ensures.ok all told_files)
+    let twice : g.F.Shelf.opens c.run_script.new.shelf ≡ g.F.Shelf.opens c.args.shelf.now + 2 = omega (arith, c.run_script.ensures.opens, c.in-Ok.ensures.opens) in
+    read-fault _ _ _ _ _ (command_seen c.args.command.now) all _ _ twice (c.as_slice.ensures.value ∙ c.text_of-text.ensures.text) (c.in-Ok.ensures.ok all told_files)
     (c.run_script.ensures.read_fault is all (c.in-Ok.ensures.files ∙ told_files))
 
 pub returns-in-Ok-clause-best : goal.returns-in-Ok-clause-best
@@ -15,7 +16,7 @@ returns-in-Ok-clause-best g c words all before is_command told_files told_meshes
     (c.as_slice.ensures.value ∙ c.text_of-text.ensures.text) c.text_of-text.ensures.best
     (told (g.M.MeshSink.meshes c.args.meshes.now) (g.R.Sink.contents c.args.report.now))
     (told (g.M.MeshSink.meshes c.run_script.new.meshes) (g.R.Sink.contents c.run_script.new.report))
-    before told_meshes _ c.run_script.result c.run_script.ensures.status
+    before told_meshes _ _ c.run_script.result c.run_script.ensures.status
     (c.run_script.ensures.ends all (c.in-Ok.ensures.files ∙ told_files))
     (λ fault. c.run_script.ensures.read_fault fault all (c.in-Ok.ensures.files ∙ told_files))
 

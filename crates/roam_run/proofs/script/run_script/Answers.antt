@@ -7,7 +7,7 @@ use Rattle.roam_run.specs.Act.{told}
 use Rattle.roam_run.proofs.script.run_script.Goals as goal
 
 pub returns-in_default-clause-read_fault : goal.returns-in_default-clause-read_fault
-returns-in_default-clause-read_fault g c is all told_files = fault-open _ _ _
+returns-in_default-clause-read_fault g c is all told_files = fault-open _ _ _ _
 
 pub pieces-init : goal.pieces-init
 pieces-init g c = record {
@@ -23,7 +23,7 @@ pieces-init g c = record {
 
 pub returns-in_default-read-clause-read_fault : goal.returns-in_default-read-clause-read_fault
 returns-in_default-read-clause-read_fault g c is all told_files =
-    carried-fault _ _ (told (g.M.MeshSink.meshes c.pieces.meshes) (g.R.Sink.contents c.pieces.report)) _ _ _ _ _ c.pieces.invariant.carried c.pieces.invariant.part.short c.pieces.invariant.part.one_line all told_files
+    carried-fault _ _ (told (g.M.MeshSink.meshes c.pieces.meshes) (g.R.Sink.contents c.pieces.report)) _ _ _ _ _ c.pieces.invariant.carried _ c.in_default-read.ensures.bytes.kept c.pieces.invariant.part.short c.pieces.invariant.part.one_line all told_files
 
 pub returns-then-count-eq0-clause-ends : goal.returns-then-count-eq0-clause-ends
 returns-then-count-eq0-clause-ends g c all told_files =
