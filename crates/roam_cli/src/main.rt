@@ -6,6 +6,9 @@
 
 #![tactic(auto)]
 
+ghost use Rattle.std.specs.Prelude.{◌↔◌, IsNone};
+ghost use Rattle.roam_cli.specs.Explanation.{IsTold};
+
 use roam_edge::{FileMeshes, FileShelf, StdSink};
 use roam_run::{Status, roam};
 use std::env::Env;
@@ -51,7 +54,9 @@ fn without_words(rt: &impl Eprint, kind: ErrorKind) -> ExitCode {
 }
 
 /// What happened, where the report does not say it.
-fn explanation(status: Status) -> Option<&'static str> {
+fn explanation(status: Status) -> Option<&'static str>
+    ensures { IsNone result ↔ IsTold status }
+{
     match status {
         Status::NoMemory => Some("roam: out of memory"),
         Status::Usage => {
