@@ -2,6 +2,8 @@
 
 #![tactic(auto)]
 
+#[cfg(test)]
+mod frail_shelf;
 mod frame;
 mod grid_file;
 mod mesh_text;
@@ -10,6 +12,8 @@ mod run;
 mod script;
 mod script_fault;
 mod status;
+#[cfg(test)]
+mod tests;
 mod text;
 mod words;
 
