@@ -1,7 +1,7 @@
 //! From the bytes of a text to its number.
 
-ghost use Rattle.std.specs.Prelude.{◌≡◌, ◌^◌, ◌<◌, ◌≤◌, ◌↔◌, ℤ, Some, IsSome, IfSome, IsTrue, length, unsigned_abs};
-ghost use Rattle.std.specs.Option.{SomeIff};
+ghost use Rattle.std.specs.Prelude.{◌≡◌, ◌^◌, ◌<◌, ◌≤◌, ◌↔◌, ◌≤ℤ◌, ℤ, pos, Some, IsSome, IfSome, IsTrue, length, unsigned_abs};
+ghost use Rattle.std.specs.Option.{SomeIff, option_map};
 ghost use Rattle.std.specs.Str.{all_ascii_digits};
 ghost use Rattle.roam_num.specs.DecText.{value_of, IsDecText, number_in, IsSignedTextOf, signed_in};
 
@@ -33,14 +33,21 @@ pub fn read_signed(bytes: &[u8]) -> Option<i64>
 {
     match bytes {
         [b'-', digits @ ..] => {
-            let size = number_of_digits(digits, SIGNED_DIGITS)?;
-            Some(-(size as i64))
+            let size = number_without_sign(digits)?;
+            Some(-size)
         }
-        _ => {
-            let size = number_of_digits(bytes, SIGNED_DIGITS)?;
-            Some(size as i64)
-        }
+        _ => number_without_sign(bytes),
     }
+}
+
+/// The number that 1 to 18 digits are.
+fn number_without_sign(digits: &[u8]) -> Option<i64>
+    ensures same { result ≡ option_map (λ n. pos n) (number_in 18 digits.now) }
+    ensures low { IfSome result (λ v. pos 0 ≤ℤ v) }
+    ensures bound { IfSome result (λ v. unsigned_abs v < 10 ^ 18) }
+{
+    let size = number_of_digits(digits, SIGNED_DIGITS)?;
+    Some(size as i64)
 }
 
 /// The number that 1 to `longest` digits are.
