@@ -1,5 +1,5 @@
 -- Digits and the number that they are, in this crate's words and in the standard library's.
-use Rattle.std.proofs.Common.{suc, negsuc, [], inl, inr, unsigned_abs, decimal, ◌≡◌, ◌≢◌, ◌↔◌, ℤ, pos, neg_ℤ, Option, Some, None, IsSome, IfSome, IsTrue, take_all, length-take, ◌∷◌, cond, ℕ, ◌+◌, ◌-◌, ◌*◌, ◌^◌, ◌<◌, ◌≤◌, Bool, true, false, List, length, get_or, take, refl, sym, ◌∙◌, ap, subst, arith, rules, lit<, leb, ◌&&◌, All}
+use Rattle.std.proofs.Common.{drop, nat_eq, suc, negsuc, [], inl, inr, unsigned_abs, decimal, ◌≡◌, ◌≢◌, ◌↔◌, ℤ, pos, neg_ℤ, Option, Some, None, IsSome, IfSome, IsTrue, take_all, length-take, ◌∷◌, cond, ℕ, ◌+◌, ◌-◌, ◌*◌, ◌^◌, ◌<◌, ◌≤◌, Bool, true, false, List, length, get_or, take, refl, sym, ◌∙◌, ap, subst, arith, rules, lit<, leb, ◌&&◌, All}
 use Rattle.std.specs.Str.{all_ascii_digits}
 use Rattle.std.specs.Char.{is_ascii_digit, digit_value}
 use Rattle.std.specs.Str.Parse.{AllDigits, digits_value}
@@ -7,6 +7,7 @@ use Rattle.std.proofs.lemmas.Str.Parse.{IsNumeralModel, numerals_by_weight, tell
 use Rattle.std.proofs.lemmas.Int.Digits.{digits_value-lt, digits_value_more, digits_more}
 use Rattle.std.proofs.lemmas.Bool.Decides.{Decides-by_and, eqb_tells}
 use Rattle.std.specs.Bool.{Decides}
+use Rattle.std.specs.Cmp.Lexicographic.{pointwise}
 use Rattle.std.specs.Fmt.{signed_decimal}
 use Rattle.std.proofs.lemmas.List.Elements.{All-get_or}
 use Rattle.std.proofs.lemmas.Fmt.{decimal_nonempty, length-decimal-le, digits_decimal, digits_value-decimal, signed_decimal_injective}
@@ -151,10 +152,6 @@ signed-from bs v (inl h) =
 signed-from bs v (inr h) =
     ap signed_in h.text ∙ signed-minus h.digits ∙ ap (option_map (λ n. neg_ℤ (pos n))) (number-from 18 h.digits h.valid) ∙ ap Some (sym h.value)
 
--- the number of a text is the one of which it is a text
-pub signed-reads : (bs : List ℕ) (v : ℤ) → (signed_in bs ≡ Some v) ↔ IsSignedTextOf bs v
-signed-reads bs v = (signed-to bs v, signed-from bs v)
-
 -- a number of which a text is one is that of each such
 pub one-number : (bs : List ℕ) (v w : ℤ) → IsSignedTextOf bs v → IsSignedTextOf bs w → v ≡ w
 one-number bs v w a b = let e : Some v ≡ Some w = sym (signed-from bs v a) ∙ signed-from bs w b in cc
@@ -185,3 +182,18 @@ signed-back (negsuc n) small =
 pub short-bound : (size longest : ℕ) (result : Option ℕ) → size ≤ longest → IfSome result (λ n. n < 10 ^ size) → IfSome result (λ n. n < 10 ^ longest)
 short-bound size longest None short h = tt
 short-bound size longest (Some n) short h = let top : 10 ^ size ≤ 10 ^ longest = pow-le-pow_right (lit< tt) short in omega (arith, h, top)
+
+-- the same by what the code compares
+pub signed-stripped : (bs : List ℕ) → pointwise nat_eq (take 1 bs) (45 ∷ []) ≡ true → signed_in bs ≡ option_map (λ n. neg_ℤ (pos n)) (number_in 18 (drop 1 bs))
+signed-stripped [] same = absurd (cc)
+signed-stripped (byte ∷ rest) same =
+    elim (eqb_tells byte 45) [ inl p ↦ ap (λ k. signed_in (k ∷ rest)) p.1 ∙ signed-minus rest | inr p ↦ absurd (grind arith) ]
+
+pub signed-kept : (bs : List ℕ) → pointwise nat_eq (take 1 bs) (45 ∷ []) ≡ false → signed_in bs ≡ option_map (λ n. pos n) (number_in 18 bs)
+signed-kept [] other = signed-plain [] (omega arith)
+signed-kept (byte ∷ rest) other =
+    elim (eqb_tells byte 45) [ inl p ↦ absurd (grind arith) | inr p ↦ signed-plain (byte ∷ rest) p.1 ]
+
+-- what is answered is the number of which the bytes are a text
+pub reads-as : (bs : List ℕ) (result : Option ℤ) → result ≡ signed_in bs → (v : ℤ) → (result ≡ Some v) ↔ IsSignedTextOf bs v
+reads-as bs result same v = ((λ h. signed-to bs v (sym same ∙ h)), (λ h. same ∙ signed-from bs v h))

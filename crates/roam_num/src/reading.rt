@@ -1,6 +1,6 @@
 //! From the bytes of a text to its number.
 
-ghost use Rattle.std.specs.Prelude.{◌≡◌, ◌^◌, ◌<◌, ◌≤◌, ◌↔◌, ◌≤ℤ◌, ℤ, pos, Some, IsSome, IfSome, IsTrue, length, unsigned_abs};
+ghost use Rattle.std.specs.Prelude.{◌≡◌, ◌^◌, ◌<◌, ◌≤◌, ◌↔◌, ◌≤ℤ◌, ℤ, pos, neg_ℤ, Some, IsSome, IfSome, IsTrue, length, unsigned_abs};
 ghost use Rattle.std.specs.Option.{SomeIff, option_map};
 ghost use Rattle.std.specs.Str.{all_ascii_digits};
 ghost use Rattle.roam_num.specs.DecText.{value_of, IsDecText, number_in, IsSignedTextOf, signed_in};
@@ -31,13 +31,19 @@ pub fn read_signed(bytes: &[u8]) -> Option<i64>
     ensures bound { IfSome result (λ v. unsigned_abs v < 10 ^ 18) }
     ensures same { result ≡ signed_in bytes.now }
 {
-    match bytes {
-        [b'-', digits @ ..] => {
-            let size = number_without_sign(digits)?;
-            Some(-size)
-        }
-        _ => number_without_sign(bytes),
+    match bytes.strip_prefix(b"-") {
+        Some(digits) => number_behind_minus(digits),
+        None => number_without_sign(bytes),
     }
+}
+
+/// The opposite of the number that 1 to 18 digits are.
+fn number_behind_minus(digits: &[u8]) -> Option<i64>
+    ensures same { result ≡ option_map (λ n. neg_ℤ (pos n)) (number_in 18 digits.now) }
+    ensures bound { IfSome result (λ v. unsigned_abs v < 10 ^ 18) }
+{
+    let size = number_without_sign(digits)?;
+    Some(-size)
 }
 
 /// The number that 1 to 18 digits are.
