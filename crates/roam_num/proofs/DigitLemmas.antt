@@ -1,5 +1,5 @@
 -- Digits and the number that they are, in this crate's words and in the standard library's.
-use Rattle.std.proofs.Common.{drop, nat_eq, suc, negsuc, [], inl, inr, unsigned_abs, decimal, ◌≡◌, ◌≢◌, ◌↔◌, ℤ, pos, neg_ℤ, Option, Some, None, IsSome, IfSome, IsTrue, take_all, length-take, ◌∷◌, cond, ℕ, ◌+◌, ◌-◌, ◌*◌, ◌^◌, ◌<◌, ◌≤◌, Bool, true, false, List, length, get_or, take, refl, sym, ◌∙◌, ap, subst, arith, rules, lit<, leb, ◌&&◌, All}
+use Rattle.std.proofs.Common.{drop, nat_eq, suc, negsuc, [], inl, inr, unsigned_abs, decimal, ◌≡◌, ◌≢◌, ◌↔◌, ℤ, pos, neg_ℤ, Option, Some, None, IsSome, IfSome, IsTrue, take_all, length-take, ◌∷◌, cond, ℕ, ◌+◌, ◌-◌, ◌*◌, ◌^◌, ◌<◌, ◌≤◌, Bool, true, false, List, length, get_or, take, refl, sym, ◌∙◌, ap, subst, arith, rules, lit<, All}
 use Rattle.std.specs.Str.{all_ascii_digits}
 use Rattle.std.specs.Char.{is_ascii_digit, digit_value}
 use Rattle.std.specs.Str.Parse.{AllDigits, digits_value}
@@ -10,7 +10,7 @@ use Rattle.std.specs.Bool.{Decides}
 use Rattle.std.specs.Cmp.Lexicographic.{pointwise}
 use Rattle.std.specs.Fmt.{signed_decimal}
 use Rattle.std.proofs.lemmas.List.Elements.{All-get_or}
-use Rattle.std.proofs.lemmas.Fmt.{decimal_nonempty, length-decimal-le, digits_decimal, digits_value-decimal, signed_decimal_injective}
+use Rattle.std.proofs.lemmas.Fmt.{decimal_nonempty, length-decimal-le, digits_decimal, digits_value-decimal}
 use Rattle.std.proofs.Math.Nat.{pow-le-pow_right}
 use Rattle.roam_num.specs.DecText.{value_of, is_dec_text, IsDigit, number_in, signed_in, IsDecText, IsSignedTextOf}
 use Rattle.std.specs.Option.{SomeIff, option_map}
@@ -63,7 +63,7 @@ text-valid longest bs h =
     record {
       some = grind arith;
       short = grind arith;
-      digits = (digits-decide bs).0 (grind arith)
+      digits = (digits-decide bs).0 (grind arith);
     }
 
 valid-text : (longest : ℕ) (bs : List ℕ) → 1 ≤ length bs → length bs ≤ longest → all_ascii_digits bs ≡ true → is_dec_text longest bs ≡ true
@@ -90,9 +90,10 @@ number-read longest bs (Some v) some short h = rw (valid-text longest bs (omega 
 
 pub number-valid : (longest : ℕ) (bs : List ℕ) → IsSome (number_in longest bs) ↔ IsDecText longest bs
 unfolding number_in
-number-valid longest bs =
-    ((λ h. text-valid longest bs (some-test (is_dec_text longest bs) (value_of bs) h)),
-     (λ h. rw (valid-text longest bs h.some h.short ((digits-decide bs).1 h.digits)) refl))
+number-valid longest bs = (
+  (λ h. text-valid longest bs (some-test (is_dec_text longest bs) (value_of bs) h)),
+  (λ h. rw (valid-text longest bs h.some h.short ((digits-decide bs).1 h.digits)) refl),
+)
 
 pub number-value : (longest : ℕ) (bs : List ℕ) → IfSome (number_in longest bs) (λ n. n ≡ value_of bs)
 unfolding number_in
@@ -162,7 +163,7 @@ decimal-text longest n positive small fits =
     record {
       some = decimal_nonempty n fits;
       short = length-decimal-le longest n positive small fits;
-      digits = (digits-decide (decimal n)).0 (digits_decimal own n fits)
+      digits = (digits-decide (decimal n)).0 (digits_decimal own n fits);
     }
 
 -- the number that these digits are is that of which they are the text

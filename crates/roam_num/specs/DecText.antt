@@ -2,7 +2,7 @@
 -- this project's own: which lengths are accepted, and one optional `-`.
 --
 -- Words: value_of, IsDecText, is_dec_text, number_in, IsPlainText, IsMinusText, IsSignedTextOf, signed_in.
-use Rattle.std.specs.Prelude.{◌≡◌, ℕ, ◌+◌, ◌-◌, ◌*◌, ◌^◌, ◌≤◌, Bool, ◌&&◌, ◌==◌, IsTrue, if◌then◌else◌, List, [], ◌∷◌, length, All, ◌⊎◌, Option, Some, None, ℤ, pos, neg_ℤ, nat_le}
+use Rattle.std.specs.Prelude.{◌≡◌, ℕ, ◌+◌, ◌-◌, ◌*◌, ◌^◌, ◌≤◌, Bool, ◌&&◌, ◌==◌, if◌then◌else◌, List, [], ◌∷◌, length, All, ◌⊎◌, Option, Some, None, ℤ, pos, neg_ℤ, nat_le}
 use Rattle.std.specs.Option.{option_map}
 use Rattle.std.specs.Str.{all_ascii_digits}
 

@@ -1,4 +1,3 @@
-use Rattle.std.proofs.Common.{sym, rules}
 use Rattle.roam_num.proofs.DigitLemmas.{number-valid, number-value}
 use Rattle.roam_num.proofs.reading.read_dec.Goals as goal
 

@@ -1,8 +1,4 @@
-use Rattle.std.proofs.Common.{rules, ◌≡◌, ◌^◌, ◌<◌, ◌≤◌, ◌↔◌, ℤ, Some, IsSome, IfSome, IsTrue, length, unsigned_abs, ℕ, ◌+◌, ◌-◌, ◌*◌, ◌/◌, ◌%◌, Bool, true, false, nat_eq, nat_lt, List, [], ◌∷◌, ◌++◌, slice_index_or, slice_set, bit_and, bit_or, Fits, w8, w32, w64, Bor, MutBor, arith, take, sym, ap, ◌∙◌}
-use Rattle.std.specs.Str.Parse.{AllDigits, digits_value}
-use Rattle.std.specs.Option.{SomeIff}
-use Rattle.std.specs.Str.{all_ascii_digits}
-use Rattle.roam_num.specs.DecText.{value_of, IsDecText, number_in, IsSignedTextOf, signed_in}
+use Rattle.std.proofs.Common.{◌+◌, ◌*◌, arith, sym, ap, ◌∙◌}
 use Rattle.roam_num.proofs.DigitLemmas.{not_digits, small_front, next_value, next_digits, whole}
 use Rattle.roam_num.proofs.reading.value_of_digits.Goals as goal
 
@@ -30,8 +26,8 @@ loop-byte-preserved c =
     record {
       digits = next_digits c.args.bytes.now c.loop-byte.byte-index c.loop-byte-test.true digit c.loop-byte.invariant.digits;
       value =
-        ap (λ d. 10 * c.loop-byte.value + d) c.from.ensures
-        ∙ next_value c.args.bytes.now c.loop-byte.byte-index c.loop-byte.value c.loop-byte-test.true digit c.loop-byte.invariant.value
+          ap (λ d. 10 * c.loop-byte.value + d) c.from.ensures
+          ∙ next_value c.args.bytes.now c.loop-byte.byte-index c.loop-byte.value c.loop-byte-test.true digit c.loop-byte.invariant.value;
     }
 
 pub returns-clause-value : goal.returns-clause-value

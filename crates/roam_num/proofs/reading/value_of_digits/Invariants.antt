@@ -6,5 +6,5 @@ abbrev pub invariant-loop-byte : goal.invariant-loop-byte
 invariant-loop-byte l =
     record {
       digits : AllDigits 10 (take l.byte-index l.bytes);
-      value : l.value ≡ digits_value 10 (take l.byte-index l.bytes)
+      value : l.value ≡ digits_value 10 (take l.byte-index l.bytes);
     }
