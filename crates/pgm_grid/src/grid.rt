@@ -96,7 +96,8 @@ impl Grid {
         requires in_rows { y ≤ 2 ^ self.old.n }
         requires bounded { h ≤ self.old.maxval }
         ensures value { self.new ≡ record self.old {
-            heights = slice_set self.old.heights (place_of self.old.n x y) h } }
+          heights = slice_set self.old.heights (place_of self.old.n x y) h;
+        } }
         ensures valid { IsHeightField self.new }
         ensures there { height_at self.old.n self.new.heights x y ≡ h }
         // Each other point of the grid keeps its height.

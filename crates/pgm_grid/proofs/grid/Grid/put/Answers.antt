@@ -1,4 +1,4 @@
-use Rattle.std.proofs.Common.{◌≡◌, ◌≢◌, ℕ, ◌+◌, ◌-◌, ◌*◌, ◌^◌, ◌<◌, ◌≤◌, sym, ◌∙◌, ap, arith, slice_set, slice_index}
+use Rattle.std.proofs.Common.{◌≡◌, ◌≢◌, ℕ, ◌+◌, ◌-◌, ◌^◌, ◌≤◌, ◌∙◌, ap, arith, slice_index}
 use Rattle.std.proofs.lemmas.Nat.{same_from_place}
 use Rattle.std.proofs.lemmas.List.{get_or-set_other}
 use Rattle.mesh_defs.specs.HeightField.{HeightField, place_of}
@@ -14,7 +14,7 @@ places_differ n x y i j x_in y_in i_in j_in apart same =
 pub returns-clause-others : goal.returns-clause-others
 returns-clause-others c = λ i j i_in j_in apart.
     let differs : place_of c.args.self.now.n i j ≢ c.place-place.result =
-      λ e. places_differ c.args.self.now.n c.args.x c.args.y i j c.requires.in_columns c.requires.in_rows i_in j_in apart (e ∙ c.place-place.ensures.value) in
+    λ e. places_differ c.args.self.now.n c.args.x c.args.y i j c.requires.in_columns c.requires.in_rows i_in j_in apart (e ∙ c.place-place.ensures.value) in
     let place = place_of c.args.self.now.n i j in
     get_or-set_other c.self.inside.heights.items c.place-place.result place c.args.h 0 differs
     ∙ ap (λ (g : HeightField). slice_index g.heights place) c.self.view_is
