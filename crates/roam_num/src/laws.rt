@@ -2,8 +2,8 @@
 
 ghost use Rattle.roam_num.specs.Laws.{NumbersAreReadBack, SignedNumbersAreReadBack, TextsHaveOneNumber, NumbersHaveOwnTexts};
 
-/// States that a number's text is read as the number, and that texts and numbers belong together
-/// one to one but for leading zeros and `-0`. It does nothing.
+/// States that what is written of a number is read as this number, that no text is a text of two
+/// numbers, and that no two numbers are written alike. It does nothing.
 pub fn numbers_and_texts()
     ensures back { NumbersAreReadBack }
     ensures signed_back { SignedNumbersAreReadBack }
