@@ -1,8 +1,11 @@
 //! A grid of heights.
 
-ghost use Rattle.std.specs.Prelude.{◌≡◌, ◌≤◌, ◌^◌, ◌*◌, length};
-ghost use Rattle.mesh_defs.specs.HeightField.{IsHeightField, height_at, side_of};
+ghost use Rattle.std.specs.Prelude.{◌≡◌, ◌<◌, ◌≤◌, ◌^◌, ◌*◌, ℕ, length, replicate, slice_set, IfOk};
+ghost use Rattle.mesh_defs.specs.HeightField.{IsHeightField, height_at, place_of, side_of};
 
+use crate::raster::points_for;
+use roam_edge::NoMemory;
+use std::alloc::Global;
 use std::marker::Model;
 
 /// A square grid of heights, of 2^n + 1 points a side.
@@ -32,6 +35,21 @@ impl Model for Grid {
 }
 
 impl Grid {
+    /// A grid of this level and this bound of heights, whose heights are all 0.
+    ///
+    /// Cost (not proved): one step a point, and two bytes a point. The one error is want of memory.
+    pub fn flat(alloc: Global, n: u32, maxval: u16) -> Result<Grid, NoMemory>
+        requires n_low { 1 ≤ n }
+        requires n_high { n ≤ 11 }
+        requires maxval_low { 1 ≤ maxval }
+        ensures value { IfOk result (λ grid. grid
+            ≡ record { n = n; maxval = maxval; heights = replicate (side_of n * side_of n) 0 }) }
+        ensures valid { IfOk result IsHeightField }
+    {
+        let heights = vec![in alloc; 0; points_for(n)]?;
+        Ok(Grid { n, maxval, heights })
+    }
+
     /// The level of the grid: a side has 2^n + 1 points.
     pub fn n(&self) -> u32
         ensures value { result ≡ self.now.n }
@@ -67,7 +85,37 @@ impl Grid {
         ensures value { result ≡ height_at self.now.n self.now.heights x y }
         ensures bounded { result ≤ self.now.maxval }
     {
+        self.heights[self.place(x, y)]
+    }
+
+    /// Makes `h` the height of the point in column `x` from the left and row `y` from the bottom.
+    ///
+    /// Cost (not proved): a few steps. Takes no memory.
+    pub fn put(&mut self, x: u32, y: u32, h: u16)
+        requires in_columns { x ≤ 2 ^ self.old.n }
+        requires in_rows { y ≤ 2 ^ self.old.n }
+        requires bounded { h ≤ self.old.maxval }
+        ensures value { self.new ≡ record self.old {
+          heights = slice_set self.old.heights (place_of self.old.n x y) h;
+        } }
+        ensures valid { IsHeightField self.new }
+        ensures there { height_at self.old.n self.new.heights x y ≡ h }
+        // Each other point of the grid keeps its height.
+        ensures others { (i j : ℕ) → i ≤ 2 ^ self.old.n → j ≤ 2 ^ self.old.n → (i ≡ x → j ≡ y → ⊥)
+            → height_at self.old.n self.new.heights i j ≡ height_at self.old.n self.old.heights i j }
+    {
+        let place = self.place(x, y);
+        self.heights[place] = h;
+    }
+
+    /// The place of a point's height in file order.
+    fn place(&self, x: u32, y: u32) -> usize
+        requires in_columns { x ≤ 2 ^ self.now.n }
+        requires in_rows { y ≤ 2 ^ self.now.n }
+        ensures value { result ≡ place_of self.now.n x y }
+        ensures within { result < length self.now.heights }
+    {
         let last = 1usize << self.n;
-        self.heights[(last - y as usize) * (last + 1) + x as usize]
+        (last - y as usize) * (last + 1) + x as usize
     }
 }

@@ -35,6 +35,16 @@ fn a_height_stands_at_its_column_and_row(rt: HostRuntime) -> Result<(), Fail> {
 }
 
 #[test]
+fn a_flat_grid_has_the_one_height_that_is_put(rt: HostRuntime) -> Result<(), Fail> {
+    let mut grid = Grid::flat(rt.alloc(), 1, 10)?;
+    grid.put(1, 0, 10);
+    assert_eq!(rt; grid.n(), 1);
+    assert_eq!(rt; grid.maxval(), 10);
+    assert_eq!(rt; grid.heights(), [0, 0, 0, 0, 0, 0, 0, 10, 0].as_slice());
+    Ok(())
+}
+
+#[test]
 fn pieces_of_one_byte_give_the_same_grid(rt: HostRuntime) -> Result<(), Fail> {
     let mut reader = PgmReader::new(rt.alloc());
     for byte in TEXT {

@@ -1,0 +1,21 @@
+-- What reading and writing have to do with one another.
+use Rattle.std.specs.Prelude.{◌≡◌, ℕ, ◌^◌, ◌<◌, List, Some, ℤ, FitsSigned, unsigned_abs, decimal}
+use Rattle.std.specs.Fmt.{signed_decimal}
+use Rattle.std.specs.Int.{w64}
+use Rattle.roam_num.specs.DecText.{number_in, signed_in, IsSignedTextOf}
+
+-- the decimal text of a number of at most 19 digits is read as this number
+abbrev pub NumbersAreReadBack : Type 0
+NumbersAreReadBack = (n : ℕ) → n < 10 ^ 19 → number_in 19 (decimal n) ≡ Some n
+
+-- the decimal text of a signed number of at most 18 digits is read as this number
+abbrev pub SignedNumbersAreReadBack : Type 0
+SignedNumbersAreReadBack = (v : ℤ) → unsigned_abs v < 10 ^ 18 → signed_in (signed_decimal v) ≡ Some v
+
+-- no text is a text of two numbers
+abbrev pub TextsHaveOneNumber : Type 0
+TextsHaveOneNumber = (bytes : List ℕ) (v w : ℤ) → IsSignedTextOf bytes v → IsSignedTextOf bytes w → v ≡ w
+
+-- no two numbers of 64 bits have the same decimal text
+abbrev pub NumbersHaveOwnTexts : Type 0
+NumbersHaveOwnTexts = (v w : ℤ) → FitsSigned w64 v → FitsSigned w64 w → signed_decimal v ≡ signed_decimal w → v ≡ w

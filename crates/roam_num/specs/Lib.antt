@@ -1,0 +1,2 @@
+pub mod DecText
+pub mod Laws

@@ -1,0 +1,18 @@
+//! Numbers as decimal texts: reading and writing them, both exact.
+//!
+//! For every crate that reads words, scripts or certificates, and that writes reports and meshes.
+//! What is read is 1 to 19 digits, or an optional `-` and 1 to 18 digits, so that no value overflows;
+//! what is written has no leading zeros. The texts are bytes: lines and words are cut elsewhere.
+//! No call takes memory.
+
+#![tactic(auto)]
+
+mod laws;
+mod reading;
+#[cfg(test)]
+mod tests;
+mod writing;
+
+pub use laws::numbers_and_texts;
+pub use reading::{read_dec, read_signed};
+pub use writing::{dec, put_dec};

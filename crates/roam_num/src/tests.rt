@@ -1,0 +1,65 @@
+//! Texts and numbers, worked by hand.
+
+use crate::{dec, put_dec, read_dec, read_signed};
+use roam_edge::{Failed, MemSink};
+use std::test::Fail;
+
+#[test]
+fn one_to_nineteen_digits_are_read(rt: HostRuntime) {
+    let cases: [(&[u8], Option<u64>); 9] = [
+        (b"0", Some(0)),
+        (b"2097152", Some(2_097_152)),
+        (b"007", Some(7)),
+        (b"9999999999999999999", Some(9_999_999_999_999_999_999)),
+        (b"00000000000000000001", None),
+        (b"", None),
+        (b"-1", None),
+        (b"12a", None),
+        (b"1 ", None),
+    ];
+    for (text, number) in cases {
+        assert_eq!(rt; read_dec(text), number);
+    }
+}
+
+#[test]
+fn a_minus_and_one_to_eighteen_digits_are_read(rt: HostRuntime) {
+    let cases: [(&[u8], Option<i64>); 10] = [
+        (b"0", Some(0)),
+        (b"-0", Some(0)),
+        (b"-29", Some(-29)),
+        (b"1073741824", Some(1_073_741_824)),
+        (b"999999999999999999", Some(999_999_999_999_999_999)),
+        (b"-999999999999999999", Some(-999_999_999_999_999_999)),
+        (b"1000000000000000000", None),
+        (b"-", None),
+        (b"--1", None),
+        (b"+1", None),
+    ];
+    for (text, number) in cases {
+        assert_eq!(rt; read_signed(text), number);
+    }
+}
+
+#[test]
+fn a_number_is_written_without_leading_zeros(rt: HostRuntime) {
+    let cases: [(i64, &[u8]); 4] = [
+        (0, b"0"),
+        (-7, b"-7"),
+        (1_310_720, b"1310720"),
+        (i64::MIN, b"-9223372036854775808"),
+    ];
+    for (number, text) in cases {
+        assert_eq!(rt; dec(number).as_slice(), text);
+    }
+}
+
+#[test]
+fn numbers_are_put_one_after_another(rt: HostRuntime) -> Result<(), Fail> {
+    let mut sink = MemSink::new(rt.alloc(), &[3], 16)?;
+    assert_eq!(rt; put_dec(&mut sink, 218_453), Ok(()));
+    assert_eq!(rt; put_dec(&mut sink, -1), Ok(()));
+    assert_eq!(rt; put_dec(&mut sink, 5), Err(Failed));
+    assert_eq!(rt; sink.bytes(), b"218453-1".as_slice());
+    Ok(())
+}
