@@ -1,0 +1,4 @@
+pub mod ExtremeLemmas
+pub mod AreaLemmas
+pub mod HeightLemmas
+pub mod ThicknessLemmas
