@@ -1,11 +1,12 @@
 -- Thickness by the children, and a bound on it.
 use Rattle.std.proofs.Common.{◌≡◌, ℕ, zero, suc, ◌+◌, ◌-◌, ◌*◌, ◌<◌, ◌≤◌, max, List, length, get_or, refl, ap, arith, ⊎_elim}
+use Rattle.std.proofs.Math.Nat.{mul-le-mul_left}
 use Rattle.std.proofs.lemmas.Bool.{cases_lt}
 use Rattle.std.proofs.lemmas.List.{get_or_past}
 use Rattle.std.specs.List.{All}
 use Rattle.mesh_defs.specs.declared.point.Point.{Point}
 use Rattle.mesh_defs.specs.declared.point.Corners.{Corners}
-use Rattle.mesh_defs.specs.HeightField.{place_of}
+use Rattle.mesh_defs.specs.HeightField.{HeightField, IsHeightField, place_of}
 use Rattle.mesh_defs.specs.Triangle.{level_of, corners_of, midpoint, IsSplittable}
 use Rattle.mesh_defs.specs.Thickness.{height_of, deviation, thickness_under, thickness_of}
 use Rattle.wedgie_tree.proofs.AreaLemmas.{AddressLaws}
@@ -45,8 +46,13 @@ thickness_under-le (suc levels) n heights top a bounded = omega (
     deviation-le n heights top (corners_of n a) bounded,
   )
 
--- each level adds at most twice the greatest height
-pub thickness_of-le : (n : ℕ) (heights : List ℕ) (top a : ℕ) → All (λ h. h ≤ top) heights →
-    thickness_of n heights a ≤ 2 * top * (2 * n - level_of a)
+thickness-limit : (top levels t : ℕ) → t ≤ 2 * top * levels → top ≤ 65535 → levels ≤ 22 → t ≤ 2883540
+thickness-limit top levels t h top_small few =
+    let wide : 2 * top * levels ≤ 2 * top * 22 = mul-le-mul_left (2 * top) few in omega arith
+
+-- 22 levels, each of at most twice 65,535
+pub thickness_of-le : (g : HeightField) (a : ℕ) → IsHeightField g → thickness_of g.n g.heights a ≤ 2883540
 unfolding thickness_of
-thickness_of-le n heights top a bounded = thickness_under-le (2 * n - level_of a) n heights top a bounded
+thickness_of-le g a valid = thickness-limit g.maxval (2 * g.n - level_of a) (thickness_under (2 * g.n - level_of a) g.n g.heights a)
+    (thickness_under-le (2 * g.n - level_of a) g.n g.heights g.maxval a valid.bounded) valid.maxval_high
+    (let small : g.n ≤ 11 = valid.n_high in omega arith)

@@ -1,6 +1,7 @@
 //! Laws of thickness and of least and greatest heights, as a clause each of a function with an empty body.
 
-ghost use Rattle.std.specs.Prelude.{◌≡◌, ℕ, ◌+◌, ◌-◌, ◌*◌, ◌^◌, ◌<◌, ◌≤◌, List, min, max, All};
+ghost use Rattle.std.specs.Prelude.{◌≡◌, ℕ, ◌+◌, ◌-◌, ◌*◌, ◌^◌, ◌<◌, ◌≤◌, List, min, max};
+ghost use Rattle.mesh_defs.specs.HeightField.{HeightField, IsHeightField};
 ghost use Rattle.mesh_defs.specs.Triangle.{level_of, corners_of, IsSplittable};
 ghost use Rattle.mesh_defs.specs.Thickness.{height_of, deviation, thickness_of};
 ghost use Rattle.mesh_defs.specs.BoundingBox.{low_of, high_of, least_of_3, greatest_of_3};
@@ -29,9 +30,8 @@ pub fn wedge_laws()
     ensures high { (n : ℕ) (heights : List ℕ) (a : ℕ) → IsSplittable n a →
         high_of n heights a ≡ max (high_of n heights (2 * a)) (high_of n heights (2 * a + 1)) }
 
-    // A level adds at most twice the greatest height to the thickness.
-    ensures bounded { (n : ℕ) (heights : List ℕ) (top a : ℕ) → All (λ h. h ≤ top) heights →
-        thickness_of n heights a ≤ 2 * top * (2 * n - level_of a) }
+    // A level adds at most twice the greatest height, and there are at most 22 levels below a triangle.
+    ensures bounded { (g : HeightField) (a : ℕ) → IsHeightField g → thickness_of g.n g.heights a ≤ 2883540 }
 {
     corner_laws();
     level_laws();

@@ -7,7 +7,7 @@ ghost use Rattle.wedgie_tree.specs.Table.{IsWedge, HasEntry, AllUnder, IsTable};
 use crate::laws::wedge_laws;
 use crate::shape::{deviation_of, height_at, left_corners, right_corners};
 use crate::wedge::Wedge;
-use bintree_addr::{Corners, Tri, level_laws};
+use bintree_addr::{Corners, Tri, corner_laws, level_laws};
 use pgm_grid::Grid;
 
 /// The wedge of a finest triangle, which holds no points but its corners.
@@ -16,6 +16,7 @@ pub fn finest_wedge(grid: &Grid, tri: Tri, corners: Corners) -> Wedge
     requires of_tri { corners ≡ corners_of grid.now.n tri }
     ensures { IsWedge grid.now tri result }
 {
+    corner_laws();
     wedge_laws();
     let apex = height_at(grid, corners.apex);
     let v0 = height_at(grid, corners.v0);
@@ -35,7 +36,9 @@ pub fn joined(grid: &Grid, tri: Tri, corners: Corners, left: Wedge, right: Wedge
     requires of_right { IsWedge grid.now (2 * tri + 1) right }
     ensures { IsWedge grid.now tri result }
 {
+    corner_laws();
     wedge_laws();
+    let _bounded = grid.maxval();
     Wedge {
         thickness: left.thickness.max(right.thickness) + deviation_of(grid, corners),
         low: left.low.min(right.low),
@@ -55,6 +58,7 @@ pub fn fill(table: &mut [Wedge], grid: &Grid, tri: Tri, corners: Corners) -> Wed
     ensures under { AllUnder (2 * grid.now.n - level_of tri) (HasEntry grid.now table.new) tri }
     ensures others { (a : ℕ) → HasEntry grid.now table.old a → HasEntry grid.now table.new a }
 {
+    corner_laws();
     level_laws();
     if tri.level() == 2 * grid.n() {
         return finest_wedge(grid, tri, corners);
