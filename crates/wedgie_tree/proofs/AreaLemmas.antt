@@ -21,23 +21,23 @@ area-left : (ax ay px py qx qy mx my d : ℕ) → 2 * mx ≡ px + qx → 2 * my 
     ax * py + px * qy + qx * ay ≡ ay * px + py * qx + qy * ax + 2 * d →
     mx * ay + ax * py + px * my ≡ my * ax + ay * px + py * mx + d
 area-left ax ay px py qx qy mx my d hx hy h = omega (
-    arith,
-    ap (λ t. t * ay) hx,
-    ap (λ t. t * py) hx,
-    ap (λ t. t * ax) hy,
-    ap (λ t. t * px) hy,
-  )
+  arith,
+  ap (λ t. t * ay) hx,
+  ap (λ t. t * py) hx,
+  ap (λ t. t * ax) hy,
+  ap (λ t. t * px) hy,
+)
 
 area-right : (ax ay px py qx qy mx my d : ℕ) → 2 * mx ≡ px + qx → 2 * my ≡ py + qy →
     ax * py + px * qy + qx * ay ≡ ay * px + py * qx + qy * ax + 2 * d →
     mx * qy + qx * ay + ax * my ≡ my * qx + qy * ax + ay * mx + d
 area-right ax ay px py qx qy mx my d hx hy h = omega (
-    arith,
-    ap (λ t. t * ay) hx,
-    ap (λ t. t * qy) hx,
-    ap (λ t. t * ax) hy,
-    ap (λ t. t * qx) hy,
-  )
+  arith,
+  ap (λ t. t * ay) hx,
+  ap (λ t. t * qy) hx,
+  ap (λ t. t * ax) hy,
+  ap (λ t. t * qx) hy,
+)
 
 HasArea-child : (side : ℕ) (c : Corners) (d : ℕ) → HasEvenBase c → HasArea c (2 * d) → HasArea (child side c) d
 HasArea-child zero c d even h = record {
@@ -104,18 +104,18 @@ HasArea-at laws (suc level) n a low is fits =
     let some : 2 ≤ a / 2 = omega arith in
     let above : level_of (a / 2) ≡ level = omega (arith, laws.parent a four) in
     let whole : HasArea (corners_of n (a / 2)) (2 ^ (2 * n - level)) = HasArea-at laws level n (a / 2) some above
-        (omega arith) in
+    (omega arith) in
     let left : 2 * n - level ≡ suc (2 * n - suc level) = omega arith in
     let twice : 2 ^ (2 * n - level) ≡ 2 * 2 ^ (2 * n - suc level) = rw left (pow-succ' 2 (2 * n - suc level)) in
     let half : HasArea (corners_of n (a / 2)) (2 * 2 ^ (2 * n - suc level)) = rw (← twice) whole in
     let even : HasEvenBase (corners_of n (a / 2)) = laws.even n (a / 2) (omega arith) in
     ⊎_elim {C = HasArea (corners_of n a) (2 ^ (2 * n - suc level))}
     (λ e. let P : ℕ → Type 0 = λ b. HasArea (corners_of n b) (2 ^ (2 * n - suc level)) in subst P (sym e)
-        (rw (laws.left_corners n (a / 2) some)
-        (HasArea-child 0 (corners_of n (a / 2)) (2 ^ (2 * n - suc level)) even half)))
+    (rw (laws.left_corners n (a / 2) some)
+    (HasArea-child 0 (corners_of n (a / 2)) (2 ^ (2 * n - suc level)) even half)))
     (λ e. let P : ℕ → Type 0 = λ b. HasArea (corners_of n b) (2 ^ (2 * n - suc level)) in subst P (sym e)
-        (rw (laws.right_corners n (a / 2) some)
-        (HasArea-child 1 (corners_of n (a / 2)) (2 ^ (2 * n - suc level)) even half)))
+    (rw (laws.right_corners n (a / 2) some)
+    (HasArea-child 1 (corners_of n (a / 2)) (2 ^ (2 * n - suc level)) even half)))
     (left-or-right a)
 
 -- ---- held points
@@ -136,9 +136,9 @@ and-parts false d h = absurd (cc)
 read : (c : Corners) (r : Point) → is_in_closed c r ≡ true → IsHeld c r
 read c r h =
     let legs : (is_left_or_on r c.apex c.v0 ≡ true) × ((is_left_or_on r c.v0 c.v1 && is_left_or_on r c.v1 c.apex) ≡ true) =
-        and-parts (is_left_or_on r c.apex c.v0) (is_left_or_on r c.v0 c.v1 && is_left_or_on r c.v1 c.apex) h in
+    and-parts (is_left_or_on r c.apex c.v0) (is_left_or_on r c.v0 c.v1 && is_left_or_on r c.v1 c.apex) h in
     let rest : (is_left_or_on r c.v0 c.v1 ≡ true) × (is_left_or_on r c.v1 c.apex ≡ true) =
-        and-parts (is_left_or_on r c.v0 c.v1) (is_left_or_on r c.v1 c.apex) legs.1 in
+    and-parts (is_left_or_on r c.v0 c.v1) (is_left_or_on r c.v1 c.apex) legs.1 in
     record {
       left_leg = leb-true _ _ legs.0;
       base = leb-true _ _ rest.0;
@@ -215,7 +215,7 @@ pub is_in_closed-children : (c : Corners) (r : Point) → HasEvenBase c →
     is_in_closed c r ≡ (is_in_closed (child 0 c) r || is_in_closed (child 1 c) r)
 is_in_closed-children c r even = or-by (is_in_closed c r) (is_in_closed (child 0 c) r) (is_in_closed (child 1 c) r)
     (λ h. ⊎_elim {C = (is_in_closed (child 0 c) r ≡ true) ⊎ (is_in_closed (child 1 c) r ≡ true)}
-        (λ left. inl (made (child 0 c) r left)) (λ right. inr (made (child 1 c) r right)) (down c r even (read c r h)))
+    (λ left. inl (made (child 0 c) r left)) (λ right. inr (made (child 1 c) r right)) (down c r even (read c r h)))
     (λ h. made c r (up-left c r even (read (child 0 c) r h)))
     (λ h. made c r (up-right c r even (read (child 1 c) r h)))
 
@@ -241,12 +241,12 @@ weighted-x : (ax ay px py qx qy rx ry u v w : ℕ) →
     qy * ax + ay * rx + ry * qx + v ≡ qx * ay + ax * ry + rx * qy →
     ay * px + py * rx + ry * ax + w ≡ ax * py + px * ry + rx * ay → rx ≡ u * ax + v * px + w * qx
 weighted-x ax ay px py qx qy rx ry u v w area hu hv hw = omega (
-    arith,
-    ap (λ t. t * rx) area,
-    ap (λ t. t * ax) hu,
-    ap (λ t. t * px) hv,
-    ap (λ t. t * qx) hw,
-  )
+  arith,
+  ap (λ t. t * rx) area,
+  ap (λ t. t * ax) hu,
+  ap (λ t. t * px) hv,
+  ap (λ t. t * qx) hw,
+)
 
 weighted-y : (ax ay px py qx qy rx ry u v w : ℕ) →
     ax * py + px * qy + qx * ay ≡ ay * px + py * qx + qy * ax + 1 →
@@ -254,12 +254,12 @@ weighted-y : (ax ay px py qx qy rx ry u v w : ℕ) →
     qy * ax + ay * rx + ry * qx + v ≡ qx * ay + ax * ry + rx * qy →
     ay * px + py * rx + ry * ax + w ≡ ax * py + px * ry + rx * ay → ry ≡ u * ay + v * py + w * qy
 weighted-y ax ay px py qx qy rx ry u v w area hu hv hw = omega (
-    arith,
-    ap (λ t. t * ry) area,
-    ap (λ t. t * ay) hu,
-    ap (λ t. t * py) hv,
-    ap (λ t. t * qy) hw,
-  )
+  arith,
+  ap (λ t. t * ry) area,
+  ap (λ t. t * ay) hu,
+  ap (λ t. t * py) hv,
+  ap (λ t. t * qy) hw,
+)
 
 weight-sum : (ax ay px py qx qy rx ry u v w : ℕ) →
     ax * py + px * qy + qx * ay ≡ ay * px + py * qx + qy * ax + 1 →
@@ -281,16 +281,16 @@ by-weights : (c : Corners) (r : Point) (u v w : ℕ) → u + v + w ≡ 1 → r.x
     r.y ≡ u * c.apex.y + v * c.v0.y + w * c.v1.y → IsCorner c r
 by-weights c r u v w sum x y = ⊎_elim {C = IsCorner c r}
     (λ u_some. inl (same-point r c.apex
-        (only u v w c.apex.x c.v0.x c.v1.x r.x (omega arith) (omega arith) (omega arith) x)
-        (only u v w c.apex.y c.v0.y c.v1.y r.y (omega arith) (omega arith) (omega arith) y)))
+    (only u v w c.apex.x c.v0.x c.v1.x r.x (omega arith) (omega arith) (omega arith) x)
+    (only u v w c.apex.y c.v0.y c.v1.y r.y (omega arith) (omega arith) (omega arith) y)))
     (λ u_none. ⊎_elim {C = IsCorner c r}
-        (λ v_some. inr (inl (same-point r c.v0
-            (only v u w c.v0.x c.apex.x c.v1.x r.x (omega arith) (omega arith) (omega arith) (omega arith))
-            (only v u w c.v0.y c.apex.y c.v1.y r.y (omega arith) (omega arith) (omega arith) (omega arith)))))
-        (λ v_none. inr (inr (same-point r c.v1
-            (only w u v c.v1.x c.apex.x c.v0.x r.x (omega arith) (omega arith) (omega arith) (omega arith))
-            (only w u v c.v1.y c.apex.y c.v0.y r.y (omega arith) (omega arith) (omega arith) (omega arith)))))
-        (cases_lt 0 v))
+    (λ v_some. inr (inl (same-point r c.v0
+    (only v u w c.v0.x c.apex.x c.v1.x r.x (omega arith) (omega arith) (omega arith) (omega arith))
+    (only v u w c.v0.y c.apex.y c.v1.y r.y (omega arith) (omega arith) (omega arith) (omega arith)))))
+    (λ v_none. inr (inr (same-point r c.v1
+    (only w u v c.v1.x c.apex.x c.v0.x r.x (omega arith) (omega arith) (omega arith) (omega arith))
+    (only w u v c.v1.y c.apex.y c.v0.y r.y (omega arith) (omega arith) (omega arith) (omega arith)))))
+    (cases_lt 0 v))
     (cases_lt 0 u)
 
 -- a triangle of doubled area 1 holds no points but its corners
@@ -298,11 +298,11 @@ pub finest-corner : (c : Corners) (r : Point) → HasArea c 1 → is_in_closed c
 finest-corner c r h held =
     let lines : IsHeld c r = read c r held in
     let u : (k : ℕ) × (c.v0.y * c.v1.x + c.v1.y * r.x + r.y * c.v0.x + k ≡ c.v0.x * c.v1.y + c.v1.x * r.y + r.x * c.v0.y) =
-        slack _ _ lines.base in
+    slack _ _ lines.base in
     let v : (k : ℕ) × (c.v1.y * c.apex.x + c.apex.y * r.x + r.y * c.v1.x + k ≡ c.v1.x * c.apex.y + c.apex.x * r.y + r.x * c.v1.y) =
-        slack _ _ lines.right_leg in
+    slack _ _ lines.right_leg in
     let w : (k : ℕ) × (c.apex.y * c.v0.x + c.v0.y * r.x + r.y * c.apex.x + k ≡ c.apex.x * c.v0.y + c.v0.x * r.y + r.x * c.apex.y) =
-        slack _ _ lines.left_leg in
+    slack _ _ lines.left_leg in
     by-weights c r u.0 v.0 w.0
     (weight-sum c.apex.x c.apex.y c.v0.x c.v0.y c.v1.x c.v1.y r.x r.y u.0 v.0 w.0 h.area u.1 v.1 w.1)
     (weighted-x c.apex.x c.apex.y c.v0.x c.v0.y c.v1.x c.v1.y r.x r.y u.0 v.0 w.0 h.area u.1 v.1 w.1)

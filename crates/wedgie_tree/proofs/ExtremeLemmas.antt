@@ -54,11 +54,11 @@ pub under-split : (b : ℕ) (f : Point → ℕ) (p q r : Point → Bool) → ((x
     under b (map f (filter p xs)) ≡ min (under b (map f (filter q xs))) (under b (map f (filter r xs)))
 under-split b f p q r e [] = omega arith
 under-split b f p q r e (x ∷ xs) = rw (
-    under-cond b f (p x) x (filter p xs),
-    under-cond b f (q x) x (filter q xs),
-    under-cond b f (r x) x (filter r xs),
-    e x
-  ) (split-step (q x) (r x) (f x) (under b (map f (filter p xs))) (under b (map f (filter q xs)))
+  under-cond b f (p x) x (filter p xs),
+  under-cond b f (q x) x (filter q xs),
+  under-cond b f (r x) x (filter r xs),
+  e x,
+) (split-step (q x) (r x) (f x) (under b (map f (filter p xs))) (under b (map f (filter q xs)))
     (under b (map f (filter r xs))) (under-split b f p q r e xs))
 
 le-step : (t : Bool) (m h k : ℕ) → (t ≡ true → m ≤ h) → m ≤ k → m ≤ cond t (min h k) k
@@ -109,11 +109,11 @@ pub greatest-split : (f : Point → ℕ) (p q r : Point → Bool) → ((x : Poin
     greatest (map f (filter p xs)) ≡ max (greatest (map f (filter q xs))) (greatest (map f (filter r xs)))
 greatest-split f p q r e [] = omega arith
 greatest-split f p q r e (x ∷ xs) = rw (
-    greatest-cond f (p x) x (filter p xs),
-    greatest-cond f (q x) x (filter q xs),
-    greatest-cond f (r x) x (filter r xs),
-    e x
-  ) (greatest-step (q x) (r x) (f x) (greatest (map f (filter p xs))) (greatest (map f (filter q xs)))
+  greatest-cond f (p x) x (filter p xs),
+  greatest-cond f (q x) x (filter q xs),
+  greatest-cond f (r x) x (filter r xs),
+  e x,
+) (greatest-step (q x) (r x) (f x) (greatest (map f (filter p xs))) (greatest (map f (filter q xs)))
     (greatest (map f (filter r xs))) (greatest-split f p q r e xs))
 
 above-step : (t : Bool) (m h k : ℕ) → (t ≡ true → h ≤ m) → k ≤ m → cond t (max h k) k ≤ m
@@ -185,12 +185,12 @@ IsIn-rows side a zero x y fits from to = absurd (omega arith)
 IsIn-rows side a (suc k) x y fits from to =
     ⊎_elim {C = IsIn (point x y) (flat_map (λ j. map (λ i. point i j) (range_with_len 0 side)) (range_with_len a (suc k)))}
     (λ later. IsIn-append-right (point x y) (map (λ i. point i a) (range_with_len 0 side))
-        (flat_map (λ j. map (λ i. point i j) (range_with_len 0 side)) (range_with_len (a + 1) k))
-        (IsIn-rows side (a + 1) k x y fits (omega arith) (omega arith)))
+    (flat_map (λ j. map (λ i. point i j) (range_with_len 0 side)) (range_with_len (a + 1) k))
+    (IsIn-rows side (a + 1) k x y fits (omega arith) (omega arith)))
     (λ here. let same : y ≡ a = omega arith in
-        IsIn-append-left (point x y) (map (λ i. point i a) (range_with_len 0 side))
-        (flat_map (λ j. map (λ i. point i j) (range_with_len 0 side)) (range_with_len (a + 1) k))
-        (rw same (IsIn-row a 0 side x (omega arith) (omega arith))))
+    IsIn-append-left (point x y) (map (λ i. point i a) (range_with_len 0 side))
+    (flat_map (λ j. map (λ i. point i j) (range_with_len 0 side)) (range_with_len (a + 1) k))
+    (rw same (IsIn-row a 0 side x (omega arith) (omega arith))))
     (cases_lt a y)
 
 -- each point of the square is a grid point

@@ -45,7 +45,7 @@ low_of-children laws n heights a split =
       low_of-bounded laws n heights (2 * a) b (omega arith) left (omega arith),
       low_of-bounded laws n heights (2 * a + 1) b (omega arith) right (omega arith),
       under-split b (height_of n heights) (holds_point n a) (holds_point n (2 * a)) (holds_point n (2 * a + 1))
-      (holds_point-children laws n a split) (points_of n),
+          (holds_point-children laws n a split) (points_of n),
     )
 
 pub high_of-children : AddressLaws → (n : ℕ) (heights : List ℕ) (a : ℕ) → IsSplittable n a →
@@ -54,6 +54,19 @@ unfolding high_of
 high_of-children laws n heights a split =
     greatest-split (height_of n heights) (holds_point n a) (holds_point n (2 * a)) (holds_point n (2 * a + 1))
     (holds_point-children laws n a split) (points_of n)
+
+-- the least height is at most the greatest: the apex has a height between them
+pub low_of-le : AddressLaws → (n : ℕ) (heights : List ℕ) (a : ℕ) → 2 ≤ a → level_of a ≤ 2 * n →
+    low_of n heights a ≤ high_of n heights a
+unfolding high_of
+low_of-le laws n heights a some fits = omega (
+  arith,
+  low_of-bounded laws n heights a (low_of n heights a) some fits (omega arith),
+  under-le (low_of n heights a) (height_of n heights) (holds_point n a) (corners_of n a).apex
+      (apex-passes laws n a some fits) (points_of n) (apex-in laws n a),
+  le-greatest (height_of n heights) (holds_point n a) (corners_of n a).apex (apex-passes laws n a some fits)
+      (points_of n) (apex-in laws n a),
+)
 
 -- a number that is at least the height at each held point
 high_of-le : (n : ℕ) (heights : List ℕ) (a m : ℕ) →
@@ -89,7 +102,7 @@ corners-between laws n heights a some finest =
     let w : IsWithin (2 ^ n) c = laws.within n a in
     let f : Point → ℕ = height_of n heights in
     let is : low_of n heights a ≡ under (low_of n heights a) (map f (filter (holds_point n a) (points_of n))) =
-        low_of-bounded laws n heights a (low_of n heights a) some (omega arith) (omega arith) in
+    low_of-bounded laws n heights a (low_of n heights a) some (omega arith) (omega arith) in
     let apex : IsIn c.apex (points_of n) = IsIn-points_of n c.apex w.apex_x w.apex_y in
     let v0 : IsIn c.v0 (points_of n) = IsIn-points_of n c.v0 w.v0_x w.v0_y in
     let v1 : IsIn c.v1 (points_of n) = IsIn-points_of n c.v1 w.v1_x w.v1_y in
@@ -119,13 +132,13 @@ low_of-finest laws n heights a some finest =
     let m : ℕ = least_of_3 (f c.apex) (f c.v0) (f c.v1) in
     let b : ℕ = low_of n heights a + m in
     let between : IsBetween n heights c (low_of n heights a) (high_of n heights a) = corners-between laws n heights a
-        some finest in
+    some finest in
     let is : low_of n heights a ≡ under b (map f (filter (holds_point n a) (points_of n))) =
-        low_of-bounded laws n heights a b some (omega arith) (omega arith) in
+    low_of-bounded laws n heights a b some (omega arith) (omega arith) in
     let area : HasArea c 1 = unit-area laws n a some finest in
     let P : ℕ → Type 0 = λ h. m ≤ h in
     let held : (r : Point) → holds_point n a r ≡ true → m ≤ f r = λ r h. at-corner P f c r (omega arith) (omega arith)
-        (omega arith) (finest-corner c r area h) in
+    (omega arith) (finest-corner c r area h) in
     omega (arith, is, le-under m b f (holds_point n a) (omega arith) held (points_of n), between)
 
 pub high_of-finest : AddressLaws → (n : ℕ) (heights : List ℕ) (a : ℕ) → 2 ≤ a → level_of a ≡ 2 * n →
@@ -136,9 +149,9 @@ high_of-finest laws n heights a some finest =
     let f : Point → ℕ = height_of n heights in
     let m : ℕ = greatest_of_3 (f c.apex) (f c.v0) (f c.v1) in
     let between : IsBetween n heights c (low_of n heights a) (high_of n heights a) = corners-between laws n heights a
-        some finest in
+    some finest in
     let area : HasArea c 1 = unit-area laws n a some finest in
     let P : ℕ → Type 0 = λ h. h ≤ m in
     let held : (r : Point) → holds_point n a r ≡ true → f r ≤ m = λ r h. at-corner P f c r (omega arith) (omega arith)
-        (omega arith) (finest-corner c r area h) in
+    (omega arith) (finest-corner c r area h) in
     omega (arith, high_of-le n heights a m held, between)

@@ -4,3 +4,4 @@ pub mod HeightLemmas
 pub mod ThicknessLemmas
 pub mod PlaceLemmas
 pub mod TableLemmas
+pub mod BoxLemmas

@@ -1,6 +1,7 @@
 -- Where corners lie, for the sums that must fit and for the heights that are read.
-use Rattle.std.proofs.Common.{◌≡◌, ℕ, ◌^◌, ◌≤◌, sym, arith, subst}
+use Rattle.std.proofs.Common.{◌≡◌, ℕ, ◌+◌, ◌*◌, ◌%◌, ◌^◌, ◌≤◌, sym, arith, subst}
 use Rattle.std.proofs.Math.Pow.{pow_mono}
+use Rattle.std.proofs.lemmas.Nat.{one_shl}
 use Rattle.mesh_defs.specs.declared.point.Corners.{Corners}
 use Rattle.mesh_defs.specs.Triangle.{corners_of}
 use Rattle.bintree_addr.specs.Corners.{IsWithin, IsInSquare}
@@ -36,3 +37,7 @@ v0-of within n a c is = let w : IsWithin (2 ^ n) c = IsWithin-of within n a c is
 pub v1-of : ((n a : ℕ) → IsWithin (2 ^ n) (corners_of n a)) → (n a : ℕ) (c : Corners) → c ≡ corners_of n a →
     IsInSquare (2 ^ n) c.v1
 v1-of within n a c is = let w : IsWithin (2 ^ n) c = IsWithin-of within n a c is in record { x = w.v1_x; y = w.v1_y }
+
+-- the number of places as it is computed
+pub places-shift : (n : ℕ) → n ≤ 11 → 1 * 2 ^ (2 * n + 1) % 2 ^ 64 ≡ 2 ^ (2 * n + 1)
+places-shift n small = one_shl (2 * n + 1) 64 (omega arith)

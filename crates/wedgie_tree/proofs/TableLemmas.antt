@@ -1,10 +1,10 @@
 -- Filling the table: what is right stays right, and what was filled under both children is filled.
-use Rattle.std.proofs.Common.{◌≡◌, ◌≢◌, ℕ, zero, suc, ◌+◌, ◌-◌, ◌*◌, ◌/◌, ◌<◌, ◌≤◌, List, length, get_or, set, refl, sym, arith, ⊎_elim, subst, get_or-set_other, get_or-set_same}
+use Rattle.std.proofs.Common.{◌≡◌, ◌≢◌, ℕ, zero, suc, ◌+◌, ◌-◌, ◌*◌, ◌/◌, ◌^◌, ◌<◌, ◌≤◌, List, length, get_or, set, refl, sym, arith, ⊎_elim, subst, get_or-set_other, get_or-set_same}
 use Rattle.std.proofs.lemmas.Bool.{cases_eq}
-use Rattle.mesh_defs.specs.HeightField.{HeightField}
+use Rattle.mesh_defs.specs.HeightField.{HeightField, IsHeightField}
 use Rattle.mesh_defs.specs.Triangle.{level_of, IsSplittable}
 use Rattle.wedgie_tree.specs.declared.wedge.Wedge.{Wedge}
-use Rattle.wedgie_tree.specs.Table.{IsWedge, HasEntry, AllUnder}
+use Rattle.wedgie_tree.specs.Table.{IsWedge, HasEntry, AllUnder, IsTable}
 use Rattle.wedgie_tree.proofs.AreaLemmas.{AddressLaws, left-or-right, coarsest, deeper}
 
 -- the entry that was written
@@ -17,7 +17,7 @@ pub HasEntry-set : (g : HeightField) (table : List Wedge) (i : ℕ) (w : Wedge) 
     (a : ℕ) → HasEntry g table a → HasEntry g (set table i w) a
 HasEntry-set g table i w fits right a has = ⊎_elim {C = HasEntry g (set table i w) a}
     (λ same. let P : ℕ → Type 0 = λ b. HasEntry g (set table i w) b in
-        subst P (sym same) (HasEntry-written g table i w fits right))
+    subst P (sym same) (HasEntry-written g table i w fits right))
     (λ other. λ d. let apart : a ≢ i = other in rw get_or-set_other (has d))
     (cases_eq a i)
 
@@ -42,9 +42,9 @@ AllUnder-filled g a left right i one two w is_left is_right level_left level_rig
     let later : (b : ℕ) → HasEntry g two b → Entry b = HasEntry-set g two i w fits here in
     let Left : ℕ → ℕ → Type 0 = λ k b. AllUnder k (HasEntry g one) b in
     let one_left : AllUnder levels (HasEntry g one) (2 * a) =
-        rw (level_left, is_left) at under_left in
+    rw (level_left, is_left) at under_left in
     let two_right : AllUnder levels (HasEntry g two) (2 * a + 1) =
-        rw (level_right, is_right) at under_right in
+    rw (level_right, is_right) at under_right in
     let own_entry : Entry a = subst Entry is (HasEntry-written g two i w fits here) in
     rw own (
       own_entry,
@@ -62,12 +62,12 @@ AllUnder-reach laws n P two three zero a low is coarse =
     rw all (⊎_elim {C = AllUnder (2 * n) P a}
     (λ same. let Q : ℕ → Type 0 = λ b. AllUnder (2 * n) P b in subst Q (sym same) two)
     (λ other. let same : a ≡ 3 = omega arith in
-        let Q : ℕ → Type 0 = λ b. AllUnder (2 * n) P b in subst Q (sym same) three)
+    let Q : ℕ → Type 0 = λ b. AllUnder (2 * n) P b in subst Q (sym same) three)
     (cases_eq a 2))
 AllUnder-reach laws n P two three (suc level) a low is coarse =
     let four : 4 ≤ a = deeper laws a level low is in
     let above : AllUnder (2 * n - level) P (a / 2) = AllUnder-reach laws n P two three level (a / 2) (omega arith)
-        (omega (arith, laws.parent a four)) (omega arith) in
+    (omega (arith, laws.parent a four)) (omega arith) in
     let more : 2 * n - level ≡ suc (2 * n - suc level) = omega arith in
     let Levels : ℕ → Type 0 = λ k. AllUnder k P (a / 2) in
     let parts : AllUnder (suc (2 * n - suc level)) P (a / 2) = subst Levels more above in
@@ -85,3 +85,20 @@ AllUnder-each laws n P two three a split =
     let Levels : ℕ → Type 0 = λ k. AllUnder k P a in
     let parts : AllUnder (suc (2 * n - suc (level_of a))) P a = subst Levels more reached in
     parts.0
+
+-- a table that was filled under the lower base and then under the upper one
+pub IsTable-filled : AddressLaws → (g : HeightField) (lower upper : ℕ) (one two : List Wedge) → lower ≡ 2 → upper ≡ 3 →
+    level_of lower ≡ 0 → level_of upper ≡ 0 → AllUnder (2 * g.n - level_of lower) (HasEntry g one) lower →
+    ((b : ℕ) → HasEntry g one b → HasEntry g two b) → AllUnder (2 * g.n - level_of upper) (HasEntry g two) upper →
+    IsHeightField g → length two ≡ 2 ^ (2 * g.n + 1) → IsTable g two
+IsTable-filled laws g lower upper one two is_2 is_3 lower_level upper_level under_lower stays under_upper valid count =
+    let all : 2 * g.n - 0 ≡ 2 * g.n = omega arith in
+    let one_lower : AllUnder (2 * g.n) (HasEntry g one) 2 = rw (lower_level, all, is_2) at under_lower in
+    let two_upper : AllUnder (2 * g.n) (HasEntry g two) 3 = rw (upper_level, all, is_3) at under_upper in
+    let two_lower : AllUnder (2 * g.n) (HasEntry g two) 2 =
+    AllUnder-map (2 * g.n) (HasEntry g one) (HasEntry g two) stays 2 one_lower in
+    record {
+      valid = valid;
+      count = count;
+      each = AllUnder-each laws g.n (HasEntry g two) two_lower two_upper;
+    }

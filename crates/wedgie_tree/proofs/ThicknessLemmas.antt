@@ -40,11 +40,11 @@ thickness_under-le : (levels n : ℕ) (heights : List ℕ) (top a : ℕ) → All
     thickness_under levels n heights a ≤ 2 * top * levels
 thickness_under-le zero n heights top a bounded = omega arith
 thickness_under-le (suc levels) n heights top a bounded = omega (
-    arith,
-    thickness_under-le levels n heights top (2 * a) bounded,
-    thickness_under-le levels n heights top (2 * a + 1) bounded,
-    deviation-le n heights top (corners_of n a) bounded,
-  )
+  arith,
+  thickness_under-le levels n heights top (2 * a) bounded,
+  thickness_under-le levels n heights top (2 * a + 1) bounded,
+  deviation-le n heights top (corners_of n a) bounded,
+)
 
 thickness-limit : (top levels t : ℕ) → t ≤ 2 * top * levels → top ≤ 65535 → levels ≤ 22 → t ≤ 2883540
 thickness-limit top levels t h top_small few =

@@ -30,6 +30,9 @@ pub fn wedge_laws()
     ensures high { (n : ℕ) (heights : List ℕ) (a : ℕ) → IsSplittable n a →
         high_of n heights a ≡ max (high_of n heights (2 * a)) (high_of n heights (2 * a + 1)) }
 
+    ensures ordered { (n : ℕ) (heights : List ℕ) (a : ℕ) → 2 ≤ a → level_of a ≤ 2 * n →
+        low_of n heights a ≤ high_of n heights a }
+
     // A level adds at most twice the greatest height, and there are at most 22 levels below a triangle.
     ensures bounded { (g : HeightField) (a : ℕ) → IsHeightField g → thickness_of g.n g.heights a ≤ 2883540 }
 {

@@ -10,6 +10,14 @@ use crate::wedge::Wedge;
 use bintree_addr::{Corners, Tri, corner_laws, level_laws};
 use pgm_grid::Grid;
 
+/// The number of places in the table: one for each address below the finest level, and two unused ones.
+pub fn places(n: u32) -> usize
+    requires { n ≤ 11 }
+    ensures { result ≡ 2 ^ (2 * n + 1) }
+{
+    1 << (2 * n + 1)
+}
+
 /// The wedge of a finest triangle, which holds no points but its corners.
 pub fn finest_wedge(grid: &Grid, tri: Tri, corners: Corners) -> Wedge
     requires finest { level_of tri ≡ 2 * grid.now.n }
@@ -75,10 +83,22 @@ pub fn fill_all(table: &mut [Wedge], grid: &Grid)
     requires { length table.old ≡ 2 ^ (2 * grid.now.n + 1) }
     ensures { IsTable grid.now table.new }
 {
+    corner_laws();
     level_laws();
     let n = grid.n();
-    let below_diagonal = Tri::new(2).unwrap();
-    let above_diagonal = Tri::new(3).unwrap();
+    let below_diagonal = base(2);
+    let above_diagonal = base(3);
     fill(table, grid, below_diagonal, below_diagonal.corners(n));
     fill(table, grid, above_diagonal, above_diagonal.corners(n));
+}
+
+/// One of the halves of the square, 2 or 3.
+fn base(number: u32) -> Tri
+    requires low { 2 ≤ number }
+    requires high { number < 4 }
+    ensures value { result ≡ number }
+    ensures level { level_of result ≡ 0 }
+{
+    level_laws();
+    Tri::new(number).unwrap()
 }

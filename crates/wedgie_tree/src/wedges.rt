@@ -6,10 +6,11 @@ ghost use Rattle.mesh_defs.specs.Triangle.{level_of};
 ghost use Rattle.mesh_defs.specs.Thickness.{thickness_of};
 ghost use Rattle.mesh_defs.specs.BoundingBox.{low_of, high_of, box_of};
 
-use crate::shape::{greatest, least};
-use crate::table::{fill_all, finest_wedge};
+use crate::laws::wedge_laws;
+use crate::shape::box_around;
+use crate::table::{fill_all, finest_wedge, places};
 use crate::wedge::Wedge;
-use bintree_addr::{Cuboid, Tri};
+use bintree_addr::{Cuboid, Tri, level_laws};
 use pgm_grid::Grid;
 use roam_edge::NoMemory;
 use std::alloc::Global;
@@ -50,7 +51,7 @@ impl Wedges {
             low: 0,
             high: 0,
         };
-        let mut table = vec![in alloc; empty; 2 << (2 * grid.n())]?;
+        let mut table = vec![in alloc; empty; places(grid.n())]?;
         fill_all(&mut table, &grid);
         Ok(Wedges { grid, table })
     }
@@ -69,6 +70,8 @@ impl Wedges {
         ensures value { result ≡ thickness_of self.now.n self.now.heights t }
         ensures bounded { result ≤ 2883540 }
     {
+        level_laws();
+        wedge_laws();
         if t.level() == 2 * self.grid.n() {
             0
         } else {
@@ -119,16 +122,9 @@ impl Wedges {
         ensures y_small { result.y1 ≤ℤ pos (2 ^ 21) }
         ensures z_small { result.z1 ≤ℤ pos (2 ^ 21) }
     {
-        let corners = t.corners(self.grid.n());
+        wedge_laws();
         let wedge = self.wedge(t);
-        Cuboid {
-            x0: i64::from(spacing * least(corners.apex.x, corners.v0.x, corners.v1.x)),
-            x1: i64::from(spacing * greatest(corners.apex.x, corners.v0.x, corners.v1.x)),
-            y0: i64::from(spacing * least(corners.apex.y, corners.v0.y, corners.v1.y)),
-            y1: i64::from(spacing * greatest(corners.apex.y, corners.v0.y, corners.v1.y)),
-            z0: i64::from(wedge.low),
-            z1: i64::from(wedge.high),
-        }
+        box_around(t.corners(self.grid.n()), spacing, wedge.low, wedge.high)
     }
 
     ghost use Rattle.wedgie_tree.specs.Table.{IsWedge};
@@ -138,6 +134,7 @@ impl Wedges {
         requires { level_of t ≤ 2 * self.now.n }
         ensures { IsWedge self.now t result }
     {
+        level_laws();
         let n = self.grid.n();
         if t.level() == 2 * n {
             finest_wedge(&self.grid, t, t.corners(n))

@@ -1,5 +1,5 @@
 use Rattle.wedgie_tree.proofs.AreaLemmas.{AddressLaws}
-use Rattle.wedgie_tree.proofs.HeightLemmas.{low_of-children, high_of-children, low_of-finest, high_of-finest}
+use Rattle.wedgie_tree.proofs.HeightLemmas.{low_of-children, high_of-children, low_of-finest, high_of-finest, low_of-le}
 use Rattle.wedgie_tree.proofs.ThicknessLemmas.{thickness_of-finest, thickness_of-children, thickness_of-le}
 use Rattle.wedgie_tree.proofs.laws.wedge_laws.Goals as goal
 
@@ -33,6 +33,9 @@ returns-clause-low c = low_of-children (laws c)
 
 pub returns-clause-high : goal.returns-clause-high
 returns-clause-high c = high_of-children (laws c)
+
+pub returns-clause-ordered : goal.returns-clause-ordered
+returns-clause-ordered c = low_of-le (laws c)
 
 pub returns-clause-bounded : goal.returns-clause-bounded
 returns-clause-bounded c = thickness_of-le

@@ -24,7 +24,7 @@ returns-clause-under t c =
     let low : 2 ≤ c.args.tri = omega arith in
     let coarse : level_of c.args.tri < 2 * c.args.grid.now.n = omega arith in
     let place : c.args.tri < 2 ^ (2 * c.args.grid.now.n + 1) =
-        (c.level_laws.ensures.below c.args.tri (2 * c.args.grid.now.n) low).0 coarse in
+    (c.level_laws.ensures.below c.args.tri (2 * c.args.grid.now.n) low).0 coarse in
     AllUnder-filled c.args.grid.now c.args.tri c.left.result c.right.result c.number.result c.fill-left.new.table
     c.fill-right.new.table c.joined-wedge.result c.left.ensures.value c.right.ensures.value c.left.ensures.level
     c.right.ensures.level coarse c.fill-left.ensures.under c.fill-right.ensures.others c.fill-right.ensures.under
@@ -34,8 +34,8 @@ pub returns-clause-others : goal.returns-clause-others
 returns-clause-others t c =
     let low : 2 ≤ c.args.tri = omega arith in
     let place : c.args.tri < 2 ^ (2 * c.args.grid.now.n + 1) =
-        (c.level_laws.ensures.below c.args.tri (2 * c.args.grid.now.n) low).0 (omega arith) in
+    (c.level_laws.ensures.below c.args.tri (2 * c.args.grid.now.n) low).0 (omega arith) in
     let wedge : IsWedge c.args.grid.now c.number.result c.joined-wedge.result =
-        rw c.number.ensures.value c.joined-wedge.ensures in
+    rw c.number.ensures.value c.joined-wedge.ensures in
     λ a has. HasEntry-set c.args.grid.now c.fill-right.new.table c.number.result c.joined-wedge.result (omega arith)
-        wedge a (c.fill-right.ensures.others a (c.fill-left.ensures.others a has))
+    wedge a (c.fill-right.ensures.others a (c.fill-left.ensures.others a has))
