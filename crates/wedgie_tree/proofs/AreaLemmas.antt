@@ -1,0 +1,309 @@
+-- The doubled area of triangles, and which points a triangle holds: those of its children, and of a finest
+-- one its corners alone.
+use Rattle.std.proofs.Common.{◌≡◌, ℕ, zero, suc, ◌+◌, ◌-◌, ◌*◌, ◌/◌, ◌%◌, ◌^◌, ◌<◌, ◌≤◌, ◌⊎◌, ◌↔◌, Bool, true, false, ◌&&◌, ◌||◌, nat_le, refl, sym, ap, ◌∙◌, arith, ⊎_elim, inl, inr}
+use Rattle.std.proofs.Common.{pow-add, subst}
+use Rattle.std.proofs.Math.Nat.{pow-succ'}
+use Rattle.std.proofs.lemmas.Bool.{cases_lt, leb-true, le-leb}
+use Rattle.std.specs.Cmp.Derive.{both_true}
+use Rattle.mesh_defs.specs.declared.point.Point.{Point}
+use Rattle.mesh_defs.specs.declared.point.Corners.{Corners}
+use Rattle.mesh_defs.specs.Triangle.{child, midpoint, base_triangle, IsCorner, level_of, corners_of}
+use Rattle.mesh_defs.specs.BoundingBox.{is_left_or_on, is_in_closed}
+use Rattle.bintree_addr.specs.Corners.{IsWithin, HasEvenBase}
+
+-- ---- doubled areas
+
+-- the doubled area is d
+pub record HasArea (c : Corners) (d : ℕ) : Type 0 where
+  pub area : c.apex.x * c.v0.y + c.v0.x * c.v1.y + c.v1.x * c.apex.y ≡ c.apex.y * c.v0.x + c.v0.y * c.v1.x + c.v1.y * c.apex.x + d
+
+area-left : (ax ay px py qx qy mx my d : ℕ) → 2 * mx ≡ px + qx → 2 * my ≡ py + qy →
+    ax * py + px * qy + qx * ay ≡ ay * px + py * qx + qy * ax + 2 * d →
+    mx * ay + ax * py + px * my ≡ my * ax + ay * px + py * mx + d
+area-left ax ay px py qx qy mx my d hx hy h = omega (
+  arith,
+  ap (λ t. t * ay) hx,
+  ap (λ t. t * py) hx,
+  ap (λ t. t * ax) hy,
+  ap (λ t. t * px) hy,
+)
+
+area-right : (ax ay px py qx qy mx my d : ℕ) → 2 * mx ≡ px + qx → 2 * my ≡ py + qy →
+    ax * py + px * qy + qx * ay ≡ ay * px + py * qx + qy * ax + 2 * d →
+    mx * qy + qx * ay + ax * my ≡ my * qx + qy * ax + ay * mx + d
+area-right ax ay px py qx qy mx my d hx hy h = omega (
+  arith,
+  ap (λ t. t * ay) hx,
+  ap (λ t. t * qy) hx,
+  ap (λ t. t * ax) hy,
+  ap (λ t. t * qx) hy,
+)
+
+HasArea-child : (side : ℕ) (c : Corners) (d : ℕ) → HasEvenBase c → HasArea c (2 * d) → HasArea (child side c) d
+HasArea-child zero c d even h = record {
+  area = area-left c.apex.x c.apex.y c.v0.x c.v0.y c.v1.x c.v1.y ((c.v0.x + c.v1.x) / 2) ((c.v0.y + c.v1.y) / 2) d
+      (omega (arith, even.x)) (omega (arith, even.y)) h.area;
+}
+HasArea-child (suc _) c d even h = record {
+  area = area-right c.apex.x c.apex.y c.v0.x c.v0.y c.v1.x c.v1.y ((c.v0.x + c.v1.x) / 2) ((c.v0.y + c.v1.y) / 2) d
+      (omega (arith, even.x)) (omega (arith, even.y)) h.area;
+}
+
+HasArea-base : (m half : ℕ) → HasArea (base_triangle m half) (m * m)
+HasArea-base m zero = record { area = omega arith }
+HasArea-base m (suc _) = record { area = omega arith }
+
+-- ---- what is known of addresses
+
+-- the laws of levels and of corners
+pub record AddressLaws : Type 0 where
+  pub below : (a k : ℕ) → 2 ≤ a → ((level_of a < k) ↔ (a < 2 ^ (k + 1)))
+  pub left : (a : ℕ) → 2 ≤ a → level_of (2 * a) ≡ level_of a + 1
+  pub right : (a : ℕ) → 2 ≤ a → level_of (2 * a + 1) ≡ level_of a + 1
+  pub parent : (a : ℕ) → 4 ≤ a → level_of a ≡ level_of (a / 2) + 1
+  pub left_corners : (n a : ℕ) → 2 ≤ a → corners_of n (2 * a) ≡ child 0 (corners_of n a)
+  pub right_corners : (n a : ℕ) → 2 ≤ a → corners_of n (2 * a + 1) ≡ child 1 (corners_of n a)
+  pub within : (n a : ℕ) → IsWithin (2 ^ n) (corners_of n a)
+  pub even : (n a : ℕ) → level_of a < 2 * n → HasEvenBase (corners_of n a)
+
+-- an address is its parent's left or right child
+pub left-or-right : (a : ℕ) → (a ≡ 2 * (a / 2)) ⊎ (a ≡ 2 * (a / 2) + 1)
+left-or-right a = ⊎_elim {C = (a ≡ 2 * (a / 2)) ⊎ (a ≡ 2 * (a / 2) + 1)}
+    (λ even. inl (omega arith)) (λ odd. inr (omega arith)) (cases_lt (a % 2) 1)
+
+corners_of-2 : (n : ℕ) → corners_of n 2 ≡ base_triangle (2 ^ n) 0
+unfolding corners_of level_of
+corners_of-2 n = refl
+
+corners_of-3 : (n : ℕ) → corners_of n 3 ≡ base_triangle (2 ^ n) 1
+unfolding corners_of level_of
+corners_of-3 n = refl
+
+-- the first level: below 4, and the deeper ones from 4 on
+pub coarsest : AddressLaws → (a : ℕ) → 2 ≤ a → level_of a ≡ 0 → a < 4
+coarsest laws a low level = (laws.below a 1 low).0 (omega arith)
+
+pub deeper : AddressLaws → (a level : ℕ) → 2 ≤ a → level_of a ≡ suc level → 4 ≤ a
+deeper laws a level low is = ⊎_elim {C = 4 ≤ a}
+    (λ lt. let first : level_of a < 1 = (laws.below a 1 low).1 lt in absurd (omega arith))
+    (λ ge. ge) (cases_lt a 4)
+
+square : (n : ℕ) → 2 ^ n * 2 ^ n ≡ 2 ^ (2 * n - 0)
+square n = let twice : 2 * n - 0 ≡ n + n = omega arith in rw twice (sym (pow-add 2 n n))
+
+-- each level halves the area
+pub HasArea-at : AddressLaws → (level n a : ℕ) → 2 ≤ a → level_of a ≡ level → level ≤ 2 * n →
+    HasArea (corners_of n a) (2 ^ (2 * n - level))
+HasArea-at laws zero n a low is fits = let first : a < 4 = coarsest laws a low is in
+    ⊎_elim {C = HasArea (corners_of n a) (2 ^ (2 * n - 0))}
+    (λ lt. let two : a ≡ 2 = omega arith in rw (two, corners_of-2 n, ← square n) (HasArea-base (2 ^ n) 0))
+    (λ ge. let three : a ≡ 3 = omega arith in rw (three, corners_of-3 n, ← square n) (HasArea-base (2 ^ n) 1))
+    (cases_lt a 3)
+HasArea-at laws (suc level) n a low is fits =
+    let four : 4 ≤ a = deeper laws a level low is in
+    let some : 2 ≤ a / 2 = omega arith in
+    let above : level_of (a / 2) ≡ level = omega (arith, laws.parent a four) in
+    let whole : HasArea (corners_of n (a / 2)) (2 ^ (2 * n - level)) = HasArea-at laws level n (a / 2) some above
+    (omega arith) in
+    let left : 2 * n - level ≡ suc (2 * n - suc level) = omega arith in
+    let twice : 2 ^ (2 * n - level) ≡ 2 * 2 ^ (2 * n - suc level) = rw left (pow-succ' 2 (2 * n - suc level)) in
+    let half : HasArea (corners_of n (a / 2)) (2 * 2 ^ (2 * n - suc level)) = rw (← twice) whole in
+    let even : HasEvenBase (corners_of n (a / 2)) = laws.even n (a / 2) (omega arith) in
+    ⊎_elim {C = HasArea (corners_of n a) (2 ^ (2 * n - suc level))}
+    (λ e. let P : ℕ → Type 0 = λ b. HasArea (corners_of n b) (2 ^ (2 * n - suc level)) in subst P (sym e)
+    (rw (laws.left_corners n (a / 2) some)
+    (HasArea-child 0 (corners_of n (a / 2)) (2 ^ (2 * n - suc level)) even half)))
+    (λ e. let P : ℕ → Type 0 = λ b. HasArea (corners_of n b) (2 ^ (2 * n - suc level)) in subst P (sym e)
+    (rw (laws.right_corners n (a / 2) some)
+    (HasArea-child 1 (corners_of n (a / 2)) (2 ^ (2 * n - suc level)) even half)))
+    (left-or-right a)
+
+-- ---- held points
+
+-- r lies left of the line from p to q or on it
+abbrev IsLeft : Point → Point → Point → Type 0
+IsLeft r p q = p.y * q.x + q.y * r.x + r.y * p.x ≤ p.x * q.y + q.x * r.y + r.x * p.y
+
+record IsHeld (c : Corners) (r : Point) : Type 0 where
+  left_leg : IsLeft r c.apex c.v0
+  base : IsLeft r c.v0 c.v1
+  right_leg : IsLeft r c.v1 c.apex
+
+and-parts : (b d : Bool) → (b && d) ≡ true → (b ≡ true) × (d ≡ true)
+and-parts true d h = (refl, h)
+and-parts false d h = absurd (cc)
+
+read : (c : Corners) (r : Point) → is_in_closed c r ≡ true → IsHeld c r
+read c r h =
+    let legs : (is_left_or_on r c.apex c.v0 ≡ true) × ((is_left_or_on r c.v0 c.v1 && is_left_or_on r c.v1 c.apex) ≡ true) =
+    and-parts (is_left_or_on r c.apex c.v0) (is_left_or_on r c.v0 c.v1 && is_left_or_on r c.v1 c.apex) h in
+    let rest : (is_left_or_on r c.v0 c.v1 ≡ true) × (is_left_or_on r c.v1 c.apex ≡ true) =
+    and-parts (is_left_or_on r c.v0 c.v1) (is_left_or_on r c.v1 c.apex) legs.1 in
+    record {
+      left_leg = leb-true _ _ legs.0;
+      base = leb-true _ _ rest.0;
+      right_leg = leb-true _ _ rest.1;
+    }
+
+made : (c : Corners) (r : Point) → IsHeld c r → is_in_closed c r ≡ true
+made c r h = both_true (le-leb _ _ h.left_leg) (both_true (le-leb _ _ h.base) (le-leb _ _ h.right_leg))
+
+or-by : (b c d : Bool) → (b ≡ true → (c ≡ true) ⊎ (d ≡ true)) → (c ≡ true → b ≡ true) → (d ≡ true → b ≡ true) →
+    b ≡ (c || d)
+or-by true true d h f g = refl
+or-by true false true h f g = refl
+or-by true false false h f g = ⊎_elim {C = true ≡ false} (λ e. absurd (cc)) (λ e. absurd (cc)) (h refl)
+or-by false true d h f g = f refl
+or-by false false true h f g = g refl
+or-by false false false h f g = refl
+
+-- ---- a triangle holds the points of its children
+
+-- The six lines of the children, from those of the triangle and back. The midpoint (mx, my) is halfway from
+-- (px, py) to (qx, qy).
+pub record Halves (ax ay px py qx qy rx ry mx my : ℕ) : Type 0 where
+  pub x_by_ay : 2 * mx * ay ≡ (px + qx) * ay
+  pub x_by_py : 2 * mx * py ≡ (px + qx) * py
+  pub x_by_qy : 2 * mx * qy ≡ (px + qx) * qy
+  pub x_by_ry : 2 * mx * ry ≡ (px + qx) * ry
+  pub y_by_ax : 2 * my * ax ≡ (py + qy) * ax
+  pub y_by_px : 2 * my * px ≡ (py + qy) * px
+  pub y_by_qx : 2 * my * qx ≡ (py + qy) * qx
+  pub y_by_rx : 2 * my * rx ≡ (py + qy) * rx
+
+halves : (ax ay px py qx qy rx ry mx my : ℕ) → 2 * mx ≡ px + qx → 2 * my ≡ py + qy →
+    Halves ax ay px py qx qy rx ry mx my
+halves ax ay px py qx qy rx ry mx my hx hy = record {
+  x_by_ay = ap (λ t. t * ay) hx;
+  x_by_py = ap (λ t. t * py) hx;
+  x_by_qy = ap (λ t. t * qy) hx;
+  x_by_ry = ap (λ t. t * ry) hx;
+  y_by_ax = ap (λ t. t * ax) hy;
+  y_by_px = ap (λ t. t * px) hy;
+  y_by_qx = ap (λ t. t * qx) hy;
+  y_by_rx = ap (λ t. t * rx) hy;
+}
+
+halves-of : (c : Corners) (r : Point) → HasEvenBase c → Halves c.apex.x c.apex.y c.v0.x c.v0.y c.v1.x c.v1.y r.x r.y
+    ((c.v0.x + c.v1.x) / 2) ((c.v0.y + c.v1.y) / 2)
+halves-of c r even = halves c.apex.x c.apex.y c.v0.x c.v0.y c.v1.x c.v1.y r.x r.y ((c.v0.x + c.v1.x) / 2)
+    ((c.v0.y + c.v1.y) / 2) (omega (arith, even.x)) (omega (arith, even.y))
+
+down : (c : Corners) (r : Point) → HasEvenBase c → IsHeld c r → IsHeld (child 0 c) r ⊎ IsHeld (child 1 c) r
+down c r even h =
+    let m : Point = midpoint c.v0 c.v1 in
+    let k : Halves c.apex.x c.apex.y c.v0.x c.v0.y c.v1.x c.v1.y r.x r.y m.x m.y = halves-of c r even in
+    ⊎_elim {C = IsHeld (child 0 c) r ⊎ IsHeld (child 1 c) r}
+    (λ lt. inr (record { left_leg = omega arith; base = h.right_leg; right_leg = omega arith }))
+    (λ ge. inl (record { left_leg = ge; base = h.left_leg; right_leg = omega arith }))
+    (cases_lt (m.x * c.apex.y + c.apex.x * r.y + r.x * m.y) (m.y * c.apex.x + c.apex.y * r.x + r.y * m.x))
+
+up-left : (c : Corners) (r : Point) → HasEvenBase c → IsHeld (child 0 c) r → IsHeld c r
+up-left c r even h =
+    let m : Point = midpoint c.v0 c.v1 in
+    let k : Halves c.apex.x c.apex.y c.v0.x c.v0.y c.v1.x c.v1.y r.x r.y m.x m.y = halves-of c r even in
+    record { left_leg = h.base; base = omega arith; right_leg = omega arith }
+
+up-right : (c : Corners) (r : Point) → HasEvenBase c → IsHeld (child 1 c) r → IsHeld c r
+up-right c r even h =
+    let m : Point = midpoint c.v0 c.v1 in
+    let k : Halves c.apex.x c.apex.y c.v0.x c.v0.y c.v1.x c.v1.y r.x r.y m.x m.y = halves-of c r even in
+    record { left_leg = omega arith; base = omega arith; right_leg = h.base }
+
+-- a triangle holds exactly the points that one of its children holds
+pub is_in_closed-children : (c : Corners) (r : Point) → HasEvenBase c →
+    is_in_closed c r ≡ (is_in_closed (child 0 c) r || is_in_closed (child 1 c) r)
+is_in_closed-children c r even = or-by (is_in_closed c r) (is_in_closed (child 0 c) r) (is_in_closed (child 1 c) r)
+    (λ h. ⊎_elim {C = (is_in_closed (child 0 c) r ≡ true) ⊎ (is_in_closed (child 1 c) r ≡ true)}
+    (λ left. inl (made (child 0 c) r left)) (λ right. inr (made (child 1 c) r right)) (down c r even (read c r h)))
+    (λ h. made c r (up-left c r even (read (child 0 c) r h)))
+    (λ h. made c r (up-right c r even (read (child 1 c) r h)))
+
+-- ---- a triangle holds its corners, and a finest one no other points
+
+pub apex-held : (c : Corners) (d : ℕ) → HasArea c d → is_in_closed c c.apex ≡ true
+apex-held c d h = let area : HasArea c d = h in
+    made c c.apex (record { left_leg = omega arith; base = omega (arith, h.area); right_leg = omega arith })
+
+pub v0-held : (c : Corners) (d : ℕ) → HasArea c d → is_in_closed c c.v0 ≡ true
+v0-held c d h = made c c.v0 (record { left_leg = omega arith; base = omega arith; right_leg = omega (arith, h.area) })
+
+pub v1-held : (c : Corners) (d : ℕ) → HasArea c d → is_in_closed c c.v1 ≡ true
+v1-held c d h = made c c.v1 (record { left_leg = omega (arith, h.area); base = omega arith; right_leg = omega arith })
+
+slack : (i j : ℕ) → i ≤ j → (k : ℕ) × (i + k ≡ j)
+slack i j h = (j - i, omega arith)
+
+-- A point by its weights u, v and w at the corners a, p and q of a triangle of doubled area 1.
+weighted-x : (ax ay px py qx qy rx ry u v w : ℕ) →
+    ax * py + px * qy + qx * ay ≡ ay * px + py * qx + qy * ax + 1 →
+    py * qx + qy * rx + ry * px + u ≡ px * qy + qx * ry + rx * py →
+    qy * ax + ay * rx + ry * qx + v ≡ qx * ay + ax * ry + rx * qy →
+    ay * px + py * rx + ry * ax + w ≡ ax * py + px * ry + rx * ay → rx ≡ u * ax + v * px + w * qx
+weighted-x ax ay px py qx qy rx ry u v w area hu hv hw = omega (
+  arith,
+  ap (λ t. t * rx) area,
+  ap (λ t. t * ax) hu,
+  ap (λ t. t * px) hv,
+  ap (λ t. t * qx) hw,
+)
+
+weighted-y : (ax ay px py qx qy rx ry u v w : ℕ) →
+    ax * py + px * qy + qx * ay ≡ ay * px + py * qx + qy * ax + 1 →
+    py * qx + qy * rx + ry * px + u ≡ px * qy + qx * ry + rx * py →
+    qy * ax + ay * rx + ry * qx + v ≡ qx * ay + ax * ry + rx * qy →
+    ay * px + py * rx + ry * ax + w ≡ ax * py + px * ry + rx * ay → ry ≡ u * ay + v * py + w * qy
+weighted-y ax ay px py qx qy rx ry u v w area hu hv hw = omega (
+  arith,
+  ap (λ t. t * ry) area,
+  ap (λ t. t * ay) hu,
+  ap (λ t. t * py) hv,
+  ap (λ t. t * qy) hw,
+)
+
+weight-sum : (ax ay px py qx qy rx ry u v w : ℕ) →
+    ax * py + px * qy + qx * ay ≡ ay * px + py * qx + qy * ax + 1 →
+    py * qx + qy * rx + ry * px + u ≡ px * qy + qx * ry + rx * py →
+    qy * ax + ay * rx + ry * qx + v ≡ qx * ay + ax * ry + rx * qy →
+    ay * px + py * rx + ry * ax + w ≡ ax * py + px * ry + rx * ay → u + v + w ≡ 1
+weight-sum ax ay px py qx qy rx ry u v w area hu hv hw = omega arith
+
+-- all weight at one corner
+only : (u v w a p q r : ℕ) → u ≡ 1 → v ≡ 0 → w ≡ 0 → r ≡ u * a + v * p + w * q → r ≡ a
+only u v w a p q r hu hv hw h = h ∙ rw (hu, hv, hw) (omega arith)
+
+-- two points with equal coordinates are equal
+same-point : (p q : Point) → p.x ≡ q.x → p.y ≡ q.y → p ≡ q
+same-point p q x y =
+    ap (λ i. let s : Point = record { x = i; y = p.y } in s) x ∙ ap (λ j. let s : Point = record { x = q.x; y = j } in s) y
+
+by-weights : (c : Corners) (r : Point) (u v w : ℕ) → u + v + w ≡ 1 → r.x ≡ u * c.apex.x + v * c.v0.x + w * c.v1.x →
+    r.y ≡ u * c.apex.y + v * c.v0.y + w * c.v1.y → IsCorner c r
+by-weights c r u v w sum x y = ⊎_elim {C = IsCorner c r}
+    (λ u_some. inl (same-point r c.apex
+    (only u v w c.apex.x c.v0.x c.v1.x r.x (omega arith) (omega arith) (omega arith) x)
+    (only u v w c.apex.y c.v0.y c.v1.y r.y (omega arith) (omega arith) (omega arith) y)))
+    (λ u_none. ⊎_elim {C = IsCorner c r}
+    (λ v_some. inr (inl (same-point r c.v0
+    (only v u w c.v0.x c.apex.x c.v1.x r.x (omega arith) (omega arith) (omega arith) (omega arith))
+    (only v u w c.v0.y c.apex.y c.v1.y r.y (omega arith) (omega arith) (omega arith) (omega arith)))))
+    (λ v_none. inr (inr (same-point r c.v1
+    (only w u v c.v1.x c.apex.x c.v0.x r.x (omega arith) (omega arith) (omega arith) (omega arith))
+    (only w u v c.v1.y c.apex.y c.v0.y r.y (omega arith) (omega arith) (omega arith) (omega arith)))))
+    (cases_lt 0 v))
+    (cases_lt 0 u)
+
+-- a triangle of doubled area 1 holds no points but its corners
+pub finest-corner : (c : Corners) (r : Point) → HasArea c 1 → is_in_closed c r ≡ true → IsCorner c r
+finest-corner c r h held =
+    let lines : IsHeld c r = read c r held in
+    let u : (k : ℕ) × (c.v0.y * c.v1.x + c.v1.y * r.x + r.y * c.v0.x + k ≡ c.v0.x * c.v1.y + c.v1.x * r.y + r.x * c.v0.y) =
+    slack _ _ lines.base in
+    let v : (k : ℕ) × (c.v1.y * c.apex.x + c.apex.y * r.x + r.y * c.v1.x + k ≡ c.v1.x * c.apex.y + c.apex.x * r.y + r.x * c.v1.y) =
+    slack _ _ lines.right_leg in
+    let w : (k : ℕ) × (c.apex.y * c.v0.x + c.v0.y * r.x + r.y * c.apex.x + k ≡ c.apex.x * c.v0.y + c.v0.x * r.y + r.x * c.apex.y) =
+    slack _ _ lines.left_leg in
+    by-weights c r u.0 v.0 w.0
+    (weight-sum c.apex.x c.apex.y c.v0.x c.v0.y c.v1.x c.v1.y r.x r.y u.0 v.0 w.0 h.area u.1 v.1 w.1)
+    (weighted-x c.apex.x c.apex.y c.v0.x c.v0.y c.v1.x c.v1.y r.x r.y u.0 v.0 w.0 h.area u.1 v.1 w.1)
+    (weighted-y c.apex.x c.apex.y c.v0.x c.v0.y c.v1.x c.v1.y r.x r.y u.0 v.0 w.0 h.area u.1 v.1 w.1)

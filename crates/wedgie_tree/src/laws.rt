@@ -1,0 +1,41 @@
+//! Laws of thickness and of least and greatest heights, as a clause each of a function with an empty body.
+
+ghost use Rattle.std.specs.Prelude.{◌≡◌, ℕ, ◌+◌, ◌-◌, ◌*◌, ◌^◌, ◌<◌, ◌≤◌, List, min, max};
+ghost use Rattle.mesh_defs.specs.HeightField.{HeightField, IsHeightField};
+ghost use Rattle.mesh_defs.specs.Triangle.{level_of, corners_of, IsSplittable};
+ghost use Rattle.mesh_defs.specs.Thickness.{height_of, deviation, thickness_of};
+ghost use Rattle.mesh_defs.specs.BoundingBox.{low_of, high_of, least_of_3, greatest_of_3};
+
+use bintree_addr::{corner_laws, level_laws};
+
+/// What holds of a triangle by its children, and of a finest one by its corners.
+///
+/// With the children's thickness, least and greatest height, a triangle's own cost a step. A child is at
+/// most as thick as its parent, and its heights lie within its parent's.
+pub fn wedge_laws()
+    // A finest triangle has no thickness, and holds no points but its corners.
+    ensures finest_thickness { (n : ℕ) (heights : List ℕ) (a : ℕ) → level_of a ≡ 2 * n → thickness_of n heights a ≡ 0 }
+    ensures finest_low { (n : ℕ) (heights : List ℕ) (a : ℕ) → 2 ≤ a → level_of a ≡ 2 * n →
+        low_of n heights a ≡ least_of_3 (height_of n heights (corners_of n a).apex)
+        (height_of n heights (corners_of n a).v0) (height_of n heights (corners_of n a).v1) }
+    ensures finest_high { (n : ℕ) (heights : List ℕ) (a : ℕ) → 2 ≤ a → level_of a ≡ 2 * n →
+        high_of n heights a ≡ greatest_of_3 (height_of n heights (corners_of n a).apex)
+        (height_of n heights (corners_of n a).v0) (height_of n heights (corners_of n a).v1) }
+
+    // A splittable triangle holds the points of its children.
+    ensures thickness { (n : ℕ) (heights : List ℕ) (a : ℕ) → IsSplittable n a → thickness_of n heights a ≡
+        max (thickness_of n heights (2 * a)) (thickness_of n heights (2 * a + 1)) + deviation n heights (corners_of n a) }
+    ensures low { (n : ℕ) (heights : List ℕ) (a : ℕ) → IsSplittable n a →
+        low_of n heights a ≡ min (low_of n heights (2 * a)) (low_of n heights (2 * a + 1)) }
+    ensures high { (n : ℕ) (heights : List ℕ) (a : ℕ) → IsSplittable n a →
+        high_of n heights a ≡ max (high_of n heights (2 * a)) (high_of n heights (2 * a + 1)) }
+
+    ensures ordered { (n : ℕ) (heights : List ℕ) (a : ℕ) → 2 ≤ a → level_of a ≤ 2 * n →
+        low_of n heights a ≤ high_of n heights a }
+
+    // A level adds at most twice the greatest height, and there are at most 22 levels below a triangle.
+    ensures bounded { (g : HeightField) (a : ℕ) → IsHeightField g → thickness_of g.n g.heights a ≤ 2883540 }
+{
+    corner_laws();
+    level_laws();
+}

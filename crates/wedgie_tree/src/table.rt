@@ -1,0 +1,104 @@
+//! Filling the table of wedges, from the finest triangles up.
+
+ghost use Rattle.std.specs.Prelude.{◌≡◌, ℕ, ◌+◌, ◌-◌, ◌*◌, ◌^◌, ◌<◌, ◌≤◌, length};
+ghost use Rattle.mesh_defs.specs.Triangle.{level_of, corners_of};
+ghost use Rattle.wedgie_tree.specs.Table.{IsWedge, HasEntry, AllUnder, IsTable};
+
+use crate::laws::wedge_laws;
+use crate::shape::{deviation_of, height_at, left_corners, right_corners};
+use crate::wedge::Wedge;
+use bintree_addr::{Corners, Tri, corner_laws, level_laws};
+use pgm_grid::Grid;
+
+/// The number of places in the table: one for each address below the finest level, and two unused ones.
+pub fn places(n: u32) -> usize
+    requires { n ≤ 11 }
+    ensures { result ≡ 2 ^ (2 * n + 1) }
+{
+    1 << (2 * n + 1)
+}
+
+/// The wedge of a finest triangle, which holds no points but its corners.
+pub fn finest_wedge(grid: &Grid, tri: Tri, corners: Corners) -> Wedge
+    requires finest { level_of tri ≡ 2 * grid.now.n }
+    requires of_tri { corners ≡ corners_of grid.now.n tri }
+    ensures { IsWedge grid.now tri result }
+{
+    corner_laws();
+    wedge_laws();
+    let apex = height_at(grid, corners.apex);
+    let v0 = height_at(grid, corners.v0);
+    let v1 = height_at(grid, corners.v1);
+    Wedge {
+        thickness: 0,
+        low: apex.min(v0.min(v1)),
+        high: apex.max(v0.max(v1)),
+    }
+}
+
+/// The wedge of a splittable triangle by those of its children.
+pub fn joined(grid: &Grid, tri: Tri, corners: Corners, left: Wedge, right: Wedge) -> Wedge
+    requires splittable { level_of tri < 2 * grid.now.n }
+    requires of_tri { corners ≡ corners_of grid.now.n tri }
+    requires of_left { IsWedge grid.now (2 * tri) left }
+    requires of_right { IsWedge grid.now (2 * tri + 1) right }
+    ensures { IsWedge grid.now tri result }
+{
+    corner_laws();
+    wedge_laws();
+    let _bounded = grid.maxval();
+    Wedge {
+        thickness: left.thickness.max(right.thickness) + deviation_of(grid, corners),
+        low: left.low.min(right.low),
+        high: left.high.max(right.high),
+    }
+}
+
+/// Fills the entries of a triangle and of all its descendants, and answers its own wedge.
+///
+/// Entries that are right stay right. A finest triangle has no entry.
+/// Cost (not proved): a step for each descendant. The recursion is as deep as there are levels.
+pub fn fill(table: &mut [Wedge], grid: &Grid, tri: Tri, corners: Corners) -> Wedge
+    requires room { length table.old ≡ 2 ^ (2 * grid.now.n + 1) }
+    requires level { level_of tri ≤ 2 * grid.now.n }
+    requires of_tri { corners ≡ corners_of grid.now.n tri }
+    ensures value { IsWedge grid.now tri result }
+    ensures under { AllUnder (2 * grid.now.n - level_of tri) (HasEntry grid.now table.new) tri }
+    ensures others { (a : ℕ) → HasEntry grid.now table.old a → HasEntry grid.now table.new a }
+{
+    corner_laws();
+    level_laws();
+    if tri.level() == 2 * grid.n() {
+        return finest_wedge(grid, tri, corners);
+    }
+    let left = fill(table, grid, tri.left(), left_corners(corners));
+    let right = fill(table, grid, tri.right(), right_corners(corners));
+    let wedge = joined(grid, tri, corners, left, right);
+    table[tri.number() as usize] = wedge;
+    wedge
+}
+
+/// Fills the whole table.
+pub fn fill_all(table: &mut [Wedge], grid: &Grid)
+    requires { length table.old ≡ 2 ^ (2 * grid.now.n + 1) }
+    ensures { IsTable grid.now table.new }
+{
+    corner_laws();
+    level_laws();
+    let n = grid.n();
+    let below_diagonal = base(2);
+    let above_diagonal = base(3);
+    fill(table, grid, below_diagonal, below_diagonal.corners(n));
+    fill(table, grid, above_diagonal, above_diagonal.corners(n));
+}
+
+/// One of the halves of the square, 2 or 3.
+fn base(number: u32) -> Tri
+    requires low { 2 ≤ number }
+    requires high { number < 4 }
+    ensures value { result ≡ number }
+    ensures level { level_of result ≡ 0 }
+{
+    level_laws();
+    Tri::new(number).unwrap()
+}

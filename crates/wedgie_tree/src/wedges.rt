@@ -1,0 +1,145 @@
+//! A grid with the thickness and the box of each of its triangles.
+
+ghost use Rattle.std.specs.Prelude.{◌≡◌, ◌*◌, ◌≤◌, ◌^◌, IfOk, pos, ◌≤ℤ◌};
+ghost use Rattle.mesh_defs.specs.HeightField.{IsHeightField};
+ghost use Rattle.mesh_defs.specs.Triangle.{level_of};
+ghost use Rattle.mesh_defs.specs.Thickness.{thickness_of};
+ghost use Rattle.mesh_defs.specs.BoundingBox.{low_of, high_of, box_of};
+
+use crate::laws::wedge_laws;
+use crate::shape::box_around;
+use crate::table::{fill_all, finest_wedge, places};
+use crate::wedge::Wedge;
+use bintree_addr::{Cuboid, Tri, level_laws};
+use pgm_grid::Grid;
+use roam_edge::NoMemory;
+use std::alloc::Global;
+use std::marker::Model;
+
+/// A grid of heights with the thickness, the least and the greatest height of each of its triangles.
+///
+/// Source: Duchaineau et al., "ROAMing Terrain", IEEE Visualization 1997, the part on nested bounds.
+/// There a wedgie is the space around a triangle; here its thickness is in half units of height, and the
+/// least and greatest height over all points of the triangle give its box.
+#[derive(Debug, Drop)]
+pub struct Wedges {
+    grid: Grid,
+    table: Vec<Wedge>,
+}
+
+impl Model for Wedges {
+    ghost use Rattle.mesh_defs.specs.HeightField.{HeightField};
+
+    ghost Value = { HeightField };
+
+    ghost use Rattle.wedgie_tree.specs.Table.{IsTable};
+
+    ghost view = { λ w. w.grid };
+
+    ghost invariant = { λ w. IsTable w.grid w.table.items };
+}
+
+impl Wedges {
+    /// The wedges of this grid, which is dropped where memory is wanted.
+    ///
+    /// Cost (not proved): a step for each triangle; 8 bytes for each splittable triangle.
+    pub fn build(alloc: Global, grid: Grid) -> Result<Wedges, NoMemory>
+        ensures { IfOk result (λ w. w ≡ grid) }
+    {
+        let empty = Wedge {
+            thickness: 0,
+            low: 0,
+            high: 0,
+        };
+        let mut table = vec![in alloc; empty; places(grid.n())]?;
+        fill_all(&mut table, &grid);
+        Ok(Wedges { grid, table })
+    }
+
+    /// The grid of heights.
+    pub fn grid(&self) -> &Grid
+        ensures value { result.now ≡ self.now }
+        ensures valid { IsHeightField self.now }
+    {
+        &self.grid
+    }
+
+    /// The thickness of a triangle, in half units of height.
+    pub fn thickness(&self, t: Tri) -> u32
+        requires level { level_of t ≤ 2 * self.now.n }
+        ensures value { result ≡ thickness_of self.now.n self.now.heights t }
+        ensures bounded { result ≤ 2883540 }
+    {
+        level_laws();
+        wedge_laws();
+        if t.level() == 2 * self.grid.n() {
+            0
+        } else {
+            self.table[t.number() as usize].thickness
+        }
+    }
+
+    /// The least height of the grid points in a triangle, its border included.
+    ///
+    /// Cost (not proved): at the finest level, that of `Tri::corners`.
+    pub fn low(&self, t: Tri) -> u16
+        requires level { level_of t ≤ 2 * self.now.n }
+        ensures { result ≡ low_of self.now.n self.now.heights t }
+    {
+        self.wedge(t).low
+    }
+
+    /// The greatest height of the grid points in a triangle, its border included.
+    ///
+    /// Cost (not proved): at the finest level, that of `Tri::corners`.
+    pub fn high(&self, t: Tri) -> u16
+        requires level { level_of t ≤ 2 * self.now.n }
+        ensures { result ≡ high_of self.now.n self.now.heights t }
+    {
+        self.wedge(t).high
+    }
+
+    /// The box around a triangle's part of the surface, in world units, where a grid step has so many of
+    /// them as the spacing says and a unit of height is one.
+    ///
+    /// Cost (not proved): that of `Tri::corners`.
+    pub fn cuboid(&self, t: Tri, spacing: u32) -> Cuboid
+        requires level { level_of t ≤ 2 * self.now.n }
+        requires spacing_low { 1 ≤ spacing }
+        requires spacing_high { spacing ≤ 1024 }
+        ensures x0 { result.x0 ≡ (box_of self.now.n self.now.heights spacing t).x0 }
+        ensures x1 { result.x1 ≡ (box_of self.now.n self.now.heights spacing t).x1 }
+        ensures y0 { result.y0 ≡ (box_of self.now.n self.now.heights spacing t).y0 }
+        ensures y1 { result.y1 ≡ (box_of self.now.n self.now.heights spacing t).y1 }
+        ensures z0 { result.z0 ≡ (box_of self.now.n self.now.heights spacing t).z0 }
+        ensures z1 { result.z1 ≡ (box_of self.now.n self.now.heights spacing t).z1 }
+
+        // Lower ends are at least 0, and at most the upper ends, which are at most 2^21.
+        ensures x_from_0 { pos 0 ≤ℤ result.x0 }
+        ensures y_from_0 { pos 0 ≤ℤ result.y0 }
+        ensures z_from_0 { pos 0 ≤ℤ result.z0 }
+        ensures x_small { result.x1 ≤ℤ pos (2 ^ 21) }
+        ensures y_small { result.y1 ≤ℤ pos (2 ^ 21) }
+        ensures z_small { result.z1 ≤ℤ pos (2 ^ 21) }
+    {
+        wedge_laws();
+        let wedge = self.wedge(t);
+        box_around(t.corners(self.grid.n()), spacing, wedge.low, wedge.high)
+    }
+
+    ghost use Rattle.wedgie_tree.specs.Table.{IsWedge};
+
+    // The wedge of a triangle: from the table, or of a finest one from its corners.
+    fn wedge(&self, t: Tri) -> Wedge
+        requires { level_of t ≤ 2 * self.now.n }
+        ensures { IsWedge self.now t result }
+    {
+        level_laws();
+        let n = self.grid.n();
+        if t.level() == 2 * n {
+            finest_wedge(&self.grid, t, t.corners(n))
+        } else {
+            self.table[t.number() as usize]
+        }
+    }
+}
