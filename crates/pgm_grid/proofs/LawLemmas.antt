@@ -9,7 +9,7 @@ use Rattle.pgm_grid.specs.declared.fault.PgmFault.TheVariants.{BadHeader, Trunca
 use Rattle.pgm_grid.specs.PgmText.{IsLevel, points_of, header_text, raster_of, text_length, IsFileText, IsPrefix, BeginsHeader, CutsHeader, IsBadHeaderAt, IsCutShort, IsTrailingAt}
 use Rattle.pgm_grid.specs.Progress.{Progress, InHeader, HasRefused, beginning, raster_step, header_step, answer_of, samples_of, grid_of}
 use Rattle.pgm_grid.specs.Stage.{GoesOn}
-use Rattle.pgm_grid.specs.Laws.{TextsAreRead, GridsHaveTexts, BadHeadersAreRefused, CutTextsAreRefused, TrailingBytesAreRefused, OthersAreAbsent, IsRefusal}
+use Rattle.pgm_grid.specs.Laws.{TextsAreRead, GridsHaveTexts, GridsHaveHeaders, HeadersAreRead, BadHeadersAreRefused, CutTextsAreRefused, TrailingBytesAreRefused, OthersAreAbsent, IsRefusal}
 use Rattle.pgm_grid.proofs.HeaderLemmas.{beginning_some, beginning_none, header_alone, goes_on_cuts, nothing_goes_on}
 use Rattle.pgm_grid.proofs.RasterLemmas.{length-raster, samples-raster, length-samples, raster-samples, samples-bounded}
 use Rattle.pgm_grid.proofs.ProgressLemmas.{raster_step-in, raster_step-out, header_step-bad, header_step-end, header_step-on, answer-whole, answer-short, steps-goes_on, whole_front}
@@ -263,6 +263,24 @@ has_text g bytes bound is (inr (inr w)) =
 
 pub grids : GridsHaveTexts
 grids g bytes bound is = has_text g bytes bound is (reading bytes)
+
+-- A header is read whole, and each raster behind it.
+
+has_header : (g : HeightField) (bytes : List ℕ) → grid_of bytes ≡ Ok g → Reading bytes (header_step [] bytes) → (n : ℕ) × IsLevel n × IsPrefix (header_text n) bytes
+has_header g bytes is (inl w) = absurd (err_ok (grid_of bytes) Truncated g (answer_at bytes (InHeader bytes) w.1) is)
+has_header g bytes is (inr (inl w)) = absurd (err_ok (grid_of bytes) (BadHeader w.0) g (answer_at bytes (HasRefused (BadHeader w.0)) w.2) is)
+has_header g bytes is (inr (inr w)) = (w.0, w.2, (w.1, w.3))
+
+pub headers : GridsHaveHeaders
+headers g bytes is = has_header g bytes is (reading bytes)
+
+pub rasters : HeadersAreRead
+rasters n samples level size =
+    let bytes : List ℕ = header_text n ++ raster_of samples in
+    let whole : length (raster_of samples) ≡ 2 * points_of n = length-raster samples ∙ ap (λ (k : ℕ). 2 * k) size in
+    answer_at bytes (raster_step n (raster_of samples)) (whole_means n bytes (raster_of samples) level refl (reading bytes))
+    ∙ full_answer n (raster_of samples) whole
+    ∙ ap (λ (hs : List ℕ). ok_of (record { n = n; maxval = 65535; heights = hs })) (samples-raster samples)
 
 -- A bad header, at its place.
 

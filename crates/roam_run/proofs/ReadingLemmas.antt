@@ -1,15 +1,17 @@
 -- A grid that is read from a shelf, piece by piece.
-use Rattle.std.proofs.Common.{◌≡◌, ◌≢◌, ℕ, ◌≤◌, List, [], ◌++◌, length, take, drop, Option, Some, Err, refl, sym, ◌∙◌, ap, append_assoc}
+use Rattle.std.proofs.Common.{Result, OnOk, IfOk, Bool, true, ◌≡◌, ◌≢◌, ℕ, ◌≤◌, List, [], ◌++◌, length, take, drop, Option, Some, Ok, Err, refl, sym, ◌∙◌, ap, append_assoc}
 use Rattle.std.proofs.Math.Seq.{take-append_seam}
 use Rattle.std.proofs.lemmas.List.{take-append-drop, length-take-le}
+use Rattle.mesh_defs.specs.HeightField.{HeightField}
 use Rattle.roam_edge.specs.Shelf.{NamedFile, bytes_of}
 use Rattle.pgm_grid.specs.declared.fault.PgmFault.{PgmFault}
 use Rattle.pgm_grid.specs.declared.fault.PgmFault.TheVariants.{BadMagic, BadHeader, HeaderTooLong, BadMaxval, NotSquare, BadSide, Truncated, BadSample, AboveMaxval, Trailing, NoMemory, TooLong}
-use Rattle.std.proofs.lemmas.Result.{IfErr-at_err}
-use Rattle.pgm_grid.specs.Laws.{OthersAreAbsent, IsRefusal}
-use Rattle.pgm_grid.specs.PgmText.{raster_of}
+use Rattle.std.proofs.lemmas.Result.{IfOk-at_ok, IfErr-at_err}
+use Rattle.pgm_grid.specs.Laws.{OthersAreAbsent, IsRefusal, GridsHaveHeaders, HeadersAreRead}
+use Rattle.pgm_grid.specs.PgmText.{raster_of, header_text}
 use Rattle.pgm_grid.specs.Progress.{Progress, grid_of, resume, IsSettled, EndsHeader}
-use Rattle.roam_run.specs.Promise.{BeginsWithHeader}
+use Rattle.roam_run.specs.Promise.{BeginsWithHeader, HasEnded}
+use Rattle.roam_run.specs.declared.grid_file.GridStop.{GridStop}
 use Rattle.roam_run.specs.declared.grid_file.GridStop.TheVariants as stop
 use Rattle.roam_run.specs.GridStop.{stop_for}
 
@@ -130,3 +132,31 @@ reading-header files rest name piece count reader reading gives ends all is =
             ∙ ends.room samples size;
       },
     )
+
+-- what holds where there is a value holds of an answer that is a value
+on-ok : {A E : Type 0} (answer : Result A E) (P : Type 0) → ((value : A) → answer ≡ Ok value → P) → OnOk answer P
+on-ok (Ok value) P proof = proof value refl
+on-ok (Err fault) P proof = tt
+
+module _ (files : Option (List NamedFile)) (rest : Option (List ℕ)) (name : List ℕ) (reader : Progress) (reading : IsReading files rest name reader)
+    (nothing : (unread : List ℕ) → rest ≡ Some unread → unread ≡ []) where
+  -- a file that is read to its end begins with the header of its grid
+  pub grid-header : (answer : Result HeightField GridStop) → GridsHaveHeaders → HeadersAreRead → IfOk answer (λ grid. resume reader [] ≡ Ok grid)
+      → OnOk answer ((all : List NamedFile) → files ≡ Some all → BeginsWithHeader (bytes_of all name))
+  grid-header answer headers rasters value = on-ok answer _ (λ grid is all told.
+      let here = reading.told all told in
+      let whole = here.2 ∙ ap (λ m. reading.bytes ++ m) (nothing here.0 here.1) in
+      let read = ap grid_of whole ∙ sym (reading.means []) ∙ IfOk-at_ok _ is value in
+      let found = headers grid (bytes_of all name) read in
+      (header_text found.0, found.2.0, found.2.1, record { n = found.0; level = found.1; raster = λ samples size. rasters found.0 samples found.1 size }))
+
+  -- a read that gave no byte leaves nothing
+  pub grid-ended : (ended : Bool) (rest' : Option (List ℕ)) (count : ℕ) (answer : Result HeightField GridStop) → count ≡ 0 → ended ≡ true
+      → ((unread : List ℕ) → rest ≡ Some unread → rest' ≡ Some (drop count unread))
+      → OnOk answer (HasEnded ended files rest')
+  grid-ended ended rest' count answer none at_end takes = on-ok answer _ (λ grid is. record {
+      at_end = at_end;
+      nothing_left = λ all told.
+          let here = reading.told all told in
+          takes here.0 here.1 ∙ ap (λ k. Some (drop k here.0)) none ∙ ap Some (nothing here.0 here.1);
+    })

@@ -12,13 +12,13 @@ use Rattle.pgm_grid.specs.Progress.{grid_of}
 use Rattle.roam_run.specs.declared.status.Status.{Status}
 use Rattle.roam_run.specs.declared.status.Status.TheVariants.{Usage, GridRefused, ReadFault, WriteFault}
 use Rattle.roam_run.specs.declared.script_fault.ScriptFault.{ScriptFault}
-use Rattle.roam_run.specs.Words.{MeshCommand, command_of, word_budget}
+use Rattle.roam_run.specs.Words.{MeshCommand, Command, MeshOf, InfoOf, command_of, word_budget}
 use Rattle.roam_run.specs.Act.{Act, WholeMesh, ReportLine, Told, told, Stands, StandsInPart, IsCutShort, IsPartOfMesh, meshes_of, mesh_with}
 use Rattle.roam_run.specs.ReportText.{grid_refusal}
-use Rattle.roam_run.specs.Script.{Outcome, line_outcome, lines_outcome, line_fault, script_outcome, lines_of}
+use Rattle.roam_run.specs.Script.{Outcome, outcome, line_outcome, lines_outcome, line_fault, script_outcome, lines_of}
 use Rattle.roam_run.specs.Step.{Shown, place, left_outcome}
-use Rattle.roam_run.specs.Outcome.{frame_text, frame_triangles, grid_outcome, command_outcome, outcome_of, word_spacing}
-use Rattle.roam_run.specs.Promise.{EndsAs, StandsForRead, IsRunEnd, CommandReadFault, IsBestFrame, AreBestFrames, KeepsBestMeshes}
+use Rattle.roam_run.specs.Outcome.{frame_text, frame_triangles, grid_outcome, command_outcome, words_outcome, outcome_of, word_spacing}
+use Rattle.roam_run.specs.Promise.{is_complete, EndsAs, StandsForRead, IsRunEnd, CommandReadFault, IsBestFrame, AreBestFrames, KeepsBestMeshes}
 use Rattle.roam_run.proofs.ActLemmas.{stands-nothing, cut-only-line, meshes_of-append}
 use Rattle.roam_run.proofs.StepLemmas.{stands-line}
 
@@ -30,7 +30,7 @@ shown_by command bytes = record { prefix = command.prefix; text = bytes }
 pub read-fault : (before now : Told) (opens opens' : ℕ) (rest : Option (List ℕ)) (command : MeshCommand) (files : List NamedFile) (grid : HeightField) (text : List ℕ)
     → opens' ≡ opens + 2 → text ≡ frame_text grid → grid_of (bytes_of files command.grid) ≡ Ok grid
     → StandsForRead before now rest (shown_by command text) (bytes_of files command.script)
-    → CommandReadFault before now opens opens' rest command files
+    → CommandReadFault before now opens opens' rest (MeshOf command) files
 read-fault before now opens opens' rest command files grid text twice is found stands =
     let P : List ℕ → Type 0 = λ t. StandsForRead before now rest (shown_by command t) (bytes_of files command.script) in
     inr (twice, grid, found, subst P is stands)
@@ -39,45 +39,56 @@ read-fault before now opens opens' rest command files grid text twice is found s
 pub script-ends : (before now : Told) (command : MeshCommand) (files : List NamedFile) (grid : HeightField) (text : List ℕ) (status : Status)
     → text ≡ frame_text grid → grid_of (bytes_of files command.grid) ≡ Ok grid
     → EndsAs before now (left_outcome (shown_by command text) (place 0 []) (bytes_of files command.script)) status
-    → EndsAs before now (command_outcome (Some command) files) status
+    → EndsAs before now (command_outcome (MeshOf command) files) status
 script-ends before now command files grid text status is found ends =
     let P : Outcome → Type 0 = λ end. EndsAs before now end status in
     subst P (ap (λ t. script_outcome command.prefix t 0 (bytes_of files command.script)) is
     ∙ sym (ap (λ answer. grid_outcome command answer (bytes_of files command.script)) found)) ends
 
-module _ (meshes : Option (List Mesh)) (report report' : Option (List ℕ)) (command : MeshCommand) (answer : Result HeightField PgmFault)
-    (fault : PgmFault) (script line : List ℕ) (is : answer ≡ Err fault) (is_line : line ≡ grid_refusal fault) where
-  -- the grid was refused, and the report says so
-  pub refused-ends : ((all : List ℕ) → report ≡ Some all → report' ≡ Some (all ++ line))
-      → EndsAs (told meshes report) (told meshes report') (grid_outcome command answer script) GridRefused
-  refused-ends came =
-      let P : Result HeightField PgmFault → Type 0 = λ a. EndsAs (told meshes report) (told meshes report') (grid_outcome command a script) GridRefused in
-      let Q : List ℕ → Type 0 = λ l. Stands (told meshes report) (told meshes report') (ReportLine l ∷ []) in
-      subst P (sym is) (record { complete = λ e. (subst Q is_line (stands-line meshes report report' line came), refl); cut_short = λ e. cc })
+module _ (meshes : Option (List Mesh)) (report report' : Option (List ℕ)) (line : List ℕ) (status : Status)
+    (complete : is_complete status ≡ true) where
+  -- a run ended with its last line
+  pub line-ends : ((all : List ℕ) → report ≡ Some all → report' ≡ Some (all ++ line))
+      → EndsAs (told meshes report) (told meshes report') (outcome (ReportLine line ∷ []) status) status
+  line-ends came = record {
+      complete = λ e. (stands-line meshes report report' line came, refl);
+      cut_short = λ e. absurd (no_write_fault (rw e at complete));
+    }
+    where
+    no_write_fault : is_complete WriteFault ≡ true → ⊥
+    no_write_fault e = cc
 
-  -- the grid was refused, and the line that says so was cut short
-  pub refused-cut : ((all : List ℕ) → report ≡ Some all → (front : List ℕ) × IsFront front line × (report' ≡ Some (all ++ front)))
-      → EndsAs (told meshes report) (told meshes report') (grid_outcome command answer script) WriteFault
-  refused-cut part =
-      let P : Result HeightField PgmFault → Type 0 = λ a. EndsAs (told meshes report) (told meshes report') (grid_outcome command a script) WriteFault in
-      let Q : List ℕ → Type 0 = λ l. IsCutShort (told meshes report) (told meshes report') (ReportLine l ∷ []) in
-      subst P (sym is) (record { complete = λ e. cc; cut_short = λ e. subst Q is_line (cut-only-line meshes report report' line [] part) })
+  -- the last line of a run was cut short
+  pub line-cut : ((all : List ℕ) → report ≡ Some all → (front : List ℕ) × IsFront front line × (report' ≡ Some (all ++ front)))
+      → EndsAs (told meshes report) (told meshes report') (outcome (ReportLine line ∷ []) status) WriteFault
+  line-cut part = record {
+      complete = λ e. cc;
+      cut_short = λ e. cut-only-line meshes report report' line [] part;
+    }
+
+-- the refusal of a grid ends a run of a command
+pub refused-ends : (before now : Told) (line : List ℕ) (fault : PgmFault) (answer : Result HeightField PgmFault) (of : Result HeightField PgmFault → Outcome) (status : Status)
+    → of (Err fault) ≡ outcome (ReportLine (grid_refusal fault) ∷ []) GridRefused → answer ≡ Err fault → line ≡ grid_refusal fault
+    → EndsAs before now (outcome (ReportLine line ∷ []) GridRefused) status → EndsAs before now (of answer) status
+refused-ends before now line fault answer of status refused found is ends =
+    let P : Outcome → Type 0 = λ end. EndsAs before now end status in
+    subst P (ap (λ text. outcome (ReportLine text ∷ []) GridRefused) is ∙ sym refused ∙ ap of (sym found)) ends
 
 -- words that are no command do nothing
 pub usage-ends : (before : Told) (words : List (List ℕ)) (files : List NamedFile) → None ≡ command_of words
     → EndsAs before before (outcome_of words files) Usage
 unfolding outcome_of
 usage-ends before words files is =
-    let P : Option MeshCommand → Type 0 = λ c. EndsAs before before (command_outcome c files) Usage in
+    let P : Option Command → Type 0 = λ c. EndsAs before before (words_outcome c files) Usage in
     subst P is (record { complete = λ e. (stands-nothing before, refl); cut_short = λ e. cc })
 
 -- words of a command end as the command does
-pub command-ends : (before now : Told) (words : List (List ℕ)) (files : List NamedFile) (command : MeshCommand) (status : Status)
-    → Some command ≡ command_of words → EndsAs before now (command_outcome (Some command) files) status
+pub command-ends : (before now : Told) (words : List (List ℕ)) (files : List NamedFile) (command : Command) (status : Status)
+    → Some command ≡ command_of words → EndsAs before now (command_outcome command files) status
     → EndsAs before now (outcome_of words files) status
 unfolding outcome_of
 command-ends before now words files command status is ends =
-    let P : Option MeshCommand → Type 0 = λ c. EndsAs before now (command_outcome c files) status in
+    let P : Option Command → Type 0 = λ c. EndsAs before now (words_outcome c files) status in
     subst P is ends
 
 -- no mesh was added
@@ -105,7 +116,7 @@ frames-part words files number (mesh ∷ front) part prefix count bytes frames i
     (frames.0, frames-part words files (number + 1) front part prefix count bytes frames.1 is)
 
 module _ (words : List (List ℕ)) (files : List NamedFile) (command : MeshCommand) (grid : HeightField) (text : List ℕ)
-    (is_command : Some command ≡ command_of words)
+    (is_command : Some (MeshOf command) ≡ command_of words)
     (is_grid : grid_of (bytes_of files command.grid) ≡ Ok grid)
     (is_text : text ≡ frame_text grid)
     (best : (priority : ℕ → ℕ) → IsBestMesh grid.n word_budget priority frame_triangles) where

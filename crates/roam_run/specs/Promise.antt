@@ -14,7 +14,7 @@ use Rattle.pgm_grid.specs.PgmText.{IsLevel, points_of, raster_of}
 use Rattle.pgm_grid.specs.Progress.{grid_of}
 use Rattle.roam_run.specs.declared.status.Status.{Status}
 use Rattle.roam_run.specs.declared.status.Status.TheVariants.{Done, NoMemory, Usage, GridRefused, ScriptRefused, ReadFault, WriteFault}
-use Rattle.roam_run.specs.Words.{MeshCommand, command_of, word_budget}
+use Rattle.roam_run.specs.Words.{MeshCommand, Command, MeshOf, InfoOf, grid_name, command_of, word_budget}
 use Rattle.roam_run.specs.Act.{Told, Stands, IsCutShort}
 use Rattle.roam_run.specs.Script.{Outcome, script_outcome, AreWhole}
 use Rattle.roam_run.specs.Step.{Shown, IsOneLine}
@@ -65,11 +65,12 @@ pub record StandsForRead (before now : Told) (rest : Option (List ℕ)) (shown :
 
 -- A command's read failed: at the grid, the one file that was opened, nothing was done; at the script,
 -- the second file, what the whole lines do that were read.
-abbrev pub CommandReadFault : Told → Told → ℕ → ℕ → Option (List ℕ) → MeshCommand → List NamedFile → Type 0
-CommandReadFault before now opens opens' rest command files =
+abbrev pub CommandReadFault : Told → Told → ℕ → ℕ → Option (List ℕ) → Command → List NamedFile → Type 0
+CommandReadFault before now opens opens' rest (MeshOf command) files =
     ((opens' ≡ opens + 1) × Stands before now [])
     ⊎ ((opens' ≡ opens + 2) × (grid : HeightField) × (grid_of (bytes_of files command.grid) ≡ Ok grid)
-    × StandsForRead before now rest (record { prefix = command.prefix; text = frame_text grid }) (bytes_of files command.script))
+        × StandsForRead before now rest (record { prefix = command.prefix; text = frame_text grid }) (bytes_of files command.script))
+CommandReadFault before now opens opens' rest (InfoOf grid) files = (opens' ≡ opens + 1) × Stands before now []
 
 -- the bytes are a whole header of an accepted grid: behind them each raster of its size is read
 pub record IsWholeHeader (bytes : List ℕ) : Type 0 where
@@ -83,26 +84,26 @@ abbrev pub BeginsWithHeader : List ℕ → Type 0
 BeginsWithHeader bytes = (front rest : List ℕ) × (bytes ≡ front ++ rest) × IsWholeHeader front
 
 -- A command wanted memory: nothing was done, and the file of the grid begins with a whole accepted header.
-pub record CommandNoMemory (before now : Told) (command : MeshCommand) (files : List NamedFile) : Type 0 where
+pub record CommandNoMemory (before now : Told) (grid : List ℕ) (files : List NamedFile) : Type 0 where
   pub left : Stands before now []
-  pub header : BeginsWithHeader (bytes_of files command.grid)
+  pub header : BeginsWithHeader (bytes_of files grid)
 
 -- Only words of a command read files, and what stands then is that of the command.
 pub record LeavesAtReadFault (before now : Told) (opens opens' : ℕ) (rest : Option (List ℕ)) (words : List (List ℕ)) (files : List NamedFile) : Type 0 where
-  pub of_command : (command : MeshCommand) × (command_of words ≡ Some command)
+  pub of_command : (command : Command) × (command_of words ≡ Some command)
       × CommandReadFault before now opens opens' rest command files
 
 pub record LeavesAtNoMemory (before now : Told) (words : List (List ℕ)) (files : List NamedFile) : Type 0 where
-  pub of_command : (command : MeshCommand) × (command_of words ≡ Some command) × CommandNoMemory before now command files
+  pub of_command : (command : Command) × (command_of words ≡ Some command) × CommandNoMemory before now (grid_name command) files
 
--- How often files were opened: twice for a script that was read to its end, once for a grid that is
--- refused, never for words that are no command, and else at most twice.
-pub record OpensForStatus (before now : ℕ) (status : Status) : Type 0 where
-  pub done : status ≡ Done → now ≡ before + 2
+-- How often files were opened, of the files that the words name: each once where the run was done, the
+-- grid alone where it is refused, none for words that are no command, and else at most each once.
+pub record OpensForStatus (before now files : ℕ) (status : Status) : Type 0 where
+  pub done : status ≡ Done → now ≡ before + files
   pub grid_refused : status ≡ GridRefused → now ≡ before + 1
   pub usage : status ≡ Usage → now ≡ before
   pub least : before ≤ now
-  pub most : now ≤ before + 2
+  pub most : now ≤ before + files
 
 -- The mesh is the frame of this number: its text is that of a best mesh of the named grid within the
 -- budget, seen from the view at the script's beginning.
@@ -110,7 +111,7 @@ pub record IsBestFrame (words : List (List ℕ)) (files : List NamedFile) (numbe
   pub command : MeshCommand
   pub grid : HeightField
   pub triangles : List ℕ
-  pub is_command : command_of words ≡ Some command
+  pub is_command : command_of words ≡ Some (MeshOf command)
   pub is_grid : grid_of (bytes_of files command.grid) ≡ Ok grid
   pub named : mesh.prefix ≡ command.prefix
   pub numbered : mesh.number ≡ number

@@ -1,5 +1,8 @@
 -- The lines of the report. This project's own; each ends with one LF (10).
-use Rattle.std.specs.Prelude.{ℕ, List, ◌++◌, codes, decimal}
+use Rattle.std.specs.Prelude.{ℕ, max, List, ◌++◌, codes, decimal}
+use Rattle.mesh_defs.specs.HeightField.{HeightField, side_of}
+use Rattle.mesh_defs.specs.Thickness.{thickness_of}
+use Rattle.mesh_defs.specs.BoundingBox.{least, greatest}
 use Rattle.pgm_grid.specs.declared.fault.PgmFault.{PgmFault}
 use Rattle.pgm_grid.specs.declared.fault.PgmFault.TheVariants.{BadMagic, BadHeader, HeaderTooLong, BadMaxval, NotSquare, BadSide, Truncated, BadSample, AboveMaxval, Trailing, NoMemory, TooLong}
 use Rattle.roam_run.specs.declared.script_fault.ScriptFault.{ScriptFault}
@@ -8,6 +11,15 @@ use Rattle.roam_run.specs.declared.script_fault.ScriptFault.TheVariants.{Unknown
 -- `frame K triangles 2 vertices 4`
 abbrev pub frame_line : ℕ → List ℕ
 frame_line number = codes "frame " ++ decimal number ++ codes " triangles 2 vertices 4\n"
+
+-- `side W maxval M low L high H thickness E`: the points of a side, the bound of the heights, the least and
+-- the greatest height, and the greater thickness of the two base triangles, in half units of height
+abbrev pub info_line : HeightField → List ℕ
+info_line grid =
+    codes "side " ++ decimal (side_of grid.n) ++ codes " maxval " ++ decimal grid.maxval
+        ++ codes " low " ++ decimal (least grid.heights) ++ codes " high " ++ decimal (greatest grid.heights)
+        ++ codes " thickness " ++ decimal (max (thickness_of grid.n grid.heights 2) (thickness_of grid.n grid.heights 3))
+        ++ codes "\n"
 
 -- why a grid is refused
 abbrev pub grid_fault_text : PgmFault → List ℕ

@@ -6,7 +6,7 @@ ghost use Rattle.roam_edge.specs.Shelf.{NamedFile, bytes_of};
 ghost use Rattle.pgm_grid.specs.declared.fault.PgmFault.{PgmFault as Fault};
 ghost use Rattle.pgm_grid.specs.Progress.{grid_of, resume};
 ghost use Rattle.roam_run.specs.GridStop.{stop_for};
-ghost use Rattle.roam_run.specs.Promise.{BeginsWithHeader};
+ghost use Rattle.roam_run.specs.Promise.{BeginsWithHeader, HasEnded};
 
 use pgm_grid::{Grid, PgmFault, PgmReader, grids_and_texts};
 use roam_edge::Shelf;
@@ -34,6 +34,10 @@ pub(crate) fn read_grid<F: Shelf>(
 ) -> Result<Grid, GridStop>
     ensures ok { IfOk result (λ grid. (files : List NamedFile) → F.files shelf.old ≡ Some files →
         grid_of (bytes_of files name.now) ≡ Ok grid) }
+    // A file that is read was read to its end, and begins with a whole header.
+    ensures ended { OnOk result (HasEnded (F.ended shelf.new) (F.files shelf.old) (F.rest shelf.new)) }
+    ensures header { OnOk result ((files : List NamedFile) → F.files shelf.old ≡ Some files →
+        BeginsWithHeader (bytes_of files name.now)) }
     ensures refused { (fault : Fault) → result ≡ Err (GridStop.Refused fault) →
         (files : List NamedFile) → F.files shelf.old ≡ Some files →
         grid_of (bytes_of files name.now) ≡ Err fault }

@@ -12,6 +12,7 @@
 mod frail_shelf;
 mod frame;
 mod grid_file;
+mod info;
 mod mesh_text;
 mod report;
 mod run;

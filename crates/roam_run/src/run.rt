@@ -1,24 +1,28 @@
 //! The top call: a run from words to meshes and a report.
 
-ghost use Rattle.std.specs.Prelude.{◌≡◌, ◌≢◌, ◌+◌, ◌-◌, ◌^◌, ◌<◌, ◌≤◌, ◌⊎◌, ◌↔◌, ℕ, List, [], map, Some, None, false, string_bytes};
+ghost use Rattle.std.specs.Prelude.{◌≡◌, ◌≢◌, ◌+◌, ◌-◌, ◌^◌, ◌<◌, ◌≤◌, ◌⊎◌, ◌↔◌, ◌∷◌, ℕ, List, [], Option, map, Some, None, true, false, string_bytes};
 ghost use Rattle.roam_edge.specs.MeshSink.{Mesh};
-ghost use Rattle.roam_edge.specs.Shelf.{NamedFile};
-ghost use Rattle.roam_run.specs.Act.{told};
-ghost use Rattle.roam_run.specs.Cause.{StatusHasCause};
-ghost use Rattle.roam_run.specs.Outcome.{outcome_of, command_outcome};
-ghost use Rattle.roam_run.specs.Promise.{EndsAs, HasEnded, LeavesAtReadFault, LeavesAtNoMemory, OpensForStatus, KeepsBestMeshes, CommandReadFault, CommandNoMemory};
+ghost use Rattle.roam_edge.specs.Shelf.{NamedFile, bytes_of};
+ghost use Rattle.pgm_grid.specs.Progress.{grid_of};
+ghost use Rattle.roam_run.specs.Act.{told, ReportLine};
+ghost use Rattle.roam_run.specs.Cause.{StatusHasCause, StatusWritesHaveCause};
+ghost use Rattle.roam_run.specs.Outcome.{outcome_of, command_outcome, info_outcome};
+ghost use Rattle.roam_run.specs.Promise.{EndsAs, HasEnded, LeavesAtReadFault, LeavesAtNoMemory, OpensForStatus, KeepsBestMeshes, CommandReadFault, CommandNoMemory, BeginsWithHeader, is_complete};
+ghost use Rattle.roam_run.specs.Script.{outcome};
 ghost use Rattle.roam_run.specs.Taking.{IsPrefixLength};
-ghost use Rattle.roam_run.specs.WordView.{command_seen};
-ghost use Rattle.roam_run.specs.Words.{command_of};
+ghost use Rattle.roam_run.specs.WordView.{mesh_seen};
+ghost use Rattle.roam_run.specs.Words.{command_of, file_count, MeshOf};
 
 use crate::grid_file::{GridStop, read_grid};
+use crate::info::info_report;
 use crate::mesh_text::text_of;
 use crate::report::grid_report;
 use crate::script::{Scene, run_script};
 use crate::status::{Run, Status};
-use crate::words::{Command, command_in};
+use crate::words::{Command, MeshWords, command_in};
 use roam_edge::{MeshSink, Shelf, Sink};
 use std::alloc::Global;
+use wedgie_tree::Wedges;
 
 /// Carries out the words of a command line: reads the files that they name from the shelf, writes a
 /// mesh for each frame of the script, and a line of the report behind each.
@@ -65,24 +69,23 @@ pub fn roam<F: Shelf, M: MeshSink, R: Sink>(
     ensures read_cause { (result.status ≡ Status.ReadFault) ↔ (F.faults shelf.old < F.faults shelf.new) }
     ensures write_cause { (result.status ≡ Status.WriteFault) ↔
         ((M.faults meshes.old < M.faults meshes.new) ⊎ (R.faults report.old < R.faults report.new)) }
-    ensures opens { OpensForStatus (F.opens shelf.old) (F.opens shelf.new) result.status }
+    ensures opens { OpensForStatus (F.opens shelf.old) (F.opens shelf.new)
+        (file_count (command_of (map string_bytes words.now))) result.status }
     ensures done { result.status ≡ Status.Done → HasEnded (F.ended shelf.new) (F.files shelf.old) (F.rest shelf.new) }
     ensures idle { result.status ≢ Status.WriteFault → M.under_way meshes.new ≡ false }
 {
-    match command_in(words) {
-        None => Run {
-            status: Status::Usage,
-        },
-        Some(command) => Run {
-            status: run_mesh(alloc, &command, shelf, meshes, report),
-        },
-    }
+    let status = match command_in(words) {
+        None => Status::Usage,
+        Some(Command::Mesh(command)) => run_mesh(alloc, &command, shelf, meshes, report),
+        Some(Command::Info(grid)) => run_info(alloc, grid, shelf, report),
+    };
+    Run { status }
 }
 
 /// Carries out the command `mesh`.
 fn run_mesh<F: Shelf, M: MeshSink, R: Sink>(
     alloc: Global,
-    command: &Command<'_>,
+    command: &MeshWords<'_>,
     shelf: &mut F,
     meshes: &mut M,
     report: &mut R,
@@ -93,21 +96,21 @@ fn run_mesh<F: Shelf, M: MeshSink, R: Sink>(
     ensures outcome { (files : List NamedFile) → F.files shelf.old ≡ Some files →
         EndsAs (told (M.meshes meshes.old) (R.contents report.old))
         (told (M.meshes meshes.new) (R.contents report.new))
-        (command_outcome (Some (command_seen command.now)) files) result }
+        (command_outcome (MeshOf (mesh_seen command.now)) files) result }
     ensures read_fault { result ≡ Status.ReadFault → (files : List NamedFile) → F.files shelf.old ≡ Some files →
         CommandReadFault (told (M.meshes meshes.old) (R.contents report.old))
         (told (M.meshes meshes.new) (R.contents report.new)) (F.opens shelf.old) (F.opens shelf.new)
-        (F.rest shelf.new) (command_seen command.now) files }
+        (F.rest shelf.new) (MeshOf (mesh_seen command.now)) files }
     ensures no_memory { result ≡ Status.NoMemory → (files : List NamedFile) → F.files shelf.old ≡ Some files →
         CommandNoMemory (told (M.meshes meshes.old) (R.contents report.old))
-        (told (M.meshes meshes.new) (R.contents report.new)) (command_seen command.now) files }
+        (told (M.meshes meshes.new) (R.contents report.new)) command.now.grid.now files }
     ensures best { (words : List (List ℕ)) (files : List NamedFile) (all : List Mesh) →
-        Some (command_seen command.now) ≡ command_of words → F.files shelf.old ≡ Some files →
+        Some (MeshOf (mesh_seen command.now)) ≡ command_of words → F.files shelf.old ≡ Some files →
         M.meshes meshes.old ≡ Some all → KeepsBestMeshes words files all (M.meshes meshes.new) }
     ensures not_usage { result ≢ Status.Usage }
     ensures faults { StatusHasCause (F.faults shelf.old) (F.faults shelf.new) (M.faults meshes.old)
         (M.faults meshes.new) (R.faults report.old) (R.faults report.new) result }
-    ensures opens { OpensForStatus (F.opens shelf.old) (F.opens shelf.new) result }
+    ensures opens { OpensForStatus (F.opens shelf.old) (F.opens shelf.new) 2 result }
     ensures done { result ≡ Status.Done → HasEnded (F.ended shelf.new) (F.files shelf.old) (F.rest shelf.new) }
     ensures idle { result ≢ Status.WriteFault → M.under_way meshes.new ≡ false }
 {
@@ -122,9 +125,47 @@ fn run_mesh<F: Shelf, M: MeshSink, R: Sink>(
         }
         Err(GridStop::NoMemory) => Status::NoMemory,
         Err(GridStop::Failed) => Status::ReadFault,
-        Err(GridStop::Refused(fault)) => match report.write(grid_report(fault).as_slice()) {
-            Ok(()) => Status::GridRefused,
-            Err(_) => Status::WriteFault,
+        Err(GridStop::Refused(fault)) => end_with_line(grid_report(fault).as_slice(), Status::GridRefused, report),
+    }
+}
+
+/// Carries out the command `info`.
+fn run_info<F: Shelf, R: Sink>(alloc: Global, name: &str, shelf: &mut F, report: &mut R) -> Status
+    requires { F.opens shelf.old ≤ 2 ^ 63 }
+    ensures outcome { (meshes : Option (List Mesh)) (files : List NamedFile) → F.files shelf.old ≡ Some files →
+        EndsAs (told meshes (R.contents report.old)) (told meshes (R.contents report.new))
+        (info_outcome (grid_of (bytes_of files name.now))) result }
+    ensures stopped { (result ≡ Status.ReadFault) ⊎ (result ≡ Status.NoMemory) →
+        R.contents report.new ≡ R.contents report.old }
+    ensures no_memory { result ≡ Status.NoMemory → (files : List NamedFile) → F.files shelf.old ≡ Some files →
+        BeginsWithHeader (bytes_of files name.now) }
+    ensures not_usage { result ≢ Status.Usage }
+    ensures faults { StatusHasCause (F.faults shelf.old) (F.faults shelf.new) 0 0
+        (R.faults report.old) (R.faults report.new) result }
+    ensures opens { F.opens shelf.new ≡ F.opens shelf.old + 1 }
+    ensures done { result ≡ Status.Done → HasEnded (F.ended shelf.new) (F.files shelf.old) (F.rest shelf.new) }
+{
+    match read_grid(alloc, name, shelf) {
+        Ok(grid) => match Wedges::build(alloc, grid) {
+            Ok(wedges) => end_with_line(info_report(&wedges).as_slice(), Status::Done, report),
+            Err(_) => Status::NoMemory,
         },
+        Err(GridStop::NoMemory) => Status::NoMemory,
+        Err(GridStop::Failed) => Status::ReadFault,
+        Err(GridStop::Refused(fault)) => end_with_line(grid_report(fault).as_slice(), Status::GridRefused, report),
+    }
+}
+
+/// Writes the last line of a run, which ends with this status unless the write fails.
+fn end_with_line<R: Sink>(line: &[u8], status: Status, report: &mut R) -> Status
+    requires { is_complete status ≡ true }
+    ensures ends { (meshes : Option (List Mesh)) → EndsAs (told meshes (R.contents report.old))
+        (told meshes (R.contents report.new)) (outcome (ReportLine line.now ∷ []) status) result }
+    ensures status { (result ≡ status) ⊎ (result ≡ Status.WriteFault) }
+    ensures faults { (count : ℕ) → StatusWritesHaveCause count count (R.faults report.old) (R.faults report.new) result }
+{
+    match report.write(line) {
+        Ok(()) => status,
+        Err(_) => Status::WriteFault,
     }
 }

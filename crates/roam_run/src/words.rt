@@ -1,13 +1,22 @@
 //! The words of a command line.
 
-ghost use Rattle.std.specs.Prelude.{◌≡◌, map, string_bytes};
+ghost use Rattle.std.specs.Prelude.{◌≡◌, ◌&&◌, ◌==◌, map, string_bytes, codes, bytes_eq};
 ghost use Rattle.std.specs.Option.{option_map};
 ghost use Rattle.roam_run.specs.Words.{command_of};
 ghost use Rattle.roam_run.specs.WordView.{command_seen};
 
-/// The command `mesh GRID SCRIPT PREFIX 2 1`.
+/// A command.
 #[derive(Clone, Copy)]
-pub(crate) struct Command<'a> {
+pub(crate) enum Command<'a> {
+    /// `mesh GRID SCRIPT PREFIX 2 1`: a mesh for each frame of the script.
+    Mesh(MeshWords<'a>),
+    /// `info GRID`: a line on the grid.
+    Info(&'a str),
+}
+
+/// The words of the command `mesh`.
+#[derive(Clone, Copy)]
+pub(crate) struct MeshWords<'a> {
     /// The name of the grid's file.
     pub(crate) grid: &'a str,
     /// The name of the script's file.
@@ -23,20 +32,23 @@ const LONGEST_PREFIX: usize = 200;
 pub(crate) fn command_in(words: &[String]) -> Option<Command<'_>>
     ensures { option_map command_seen result ≡ command_of (map string_bytes words.now) }
 {
-    let [word, grid, script, prefix, budget, spacing] = words else {
-        return None;
-    };
-    let is_prefix = 1 <= prefix.len() && prefix.len() <= LONGEST_PREFIX;
-    let is_command = word.as_str() == "mesh"
-        && is_prefix
-        && budget.as_str() == "2"
-        && spacing.as_str() == "1";
-    if !is_command {
-        return None;
+    match words {
+        [word, grid] if word.as_str() == "info" => Some(Command::Info(grid.as_str())),
+        [word, grid, script, prefix, budget, spacing] => {
+            let is_prefix = 1 <= prefix.len() && prefix.len() <= LONGEST_PREFIX;
+            let is_command = word.as_str() == "mesh"
+                && is_prefix
+                && budget.as_str() == "2"
+                && spacing.as_str() == "1";
+            if !is_command {
+                return None;
+            }
+            Some(Command::Mesh(MeshWords {
+                grid: grid.as_str(),
+                script: script.as_str(),
+                prefix: prefix.as_str(),
+            }))
+        }
+        _ => None,
     }
-    Some(Command {
-        grid: grid.as_str(),
-        script: script.as_str(),
-        prefix: prefix.as_str(),
-    })
 }

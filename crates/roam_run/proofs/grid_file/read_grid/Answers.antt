@@ -1,7 +1,7 @@
 use Rattle.std.proofs.Common.{◌≡◌, ℕ, List, Some, Err, inl, inr, take, rules, arith, ap, ◌∙◌}
 use Rattle.roam_run.specs.GridStop.{stop_for}
 use Rattle.roam_run.specs.declared.grid_file.GridStop.TheVariants.{Refused, NoMemory}
-use Rattle.roam_run.proofs.ReadingLemmas.{reading-begin, reading-more, reading-refused, reading-unsettled, reading-header, front-read, stop_for-refused, stop_for-memory}
+use Rattle.roam_run.proofs.ReadingLemmas.{reading-begin, reading-more, reading-refused, reading-unsettled, reading-header, grid-header, grid-ended, front-read, stop_for-refused, stop_for-memory}
 use Rattle.roam_run.proofs.grid_file.read_grid.Goals as goal
 
 pub pieces-init : goal.pieces-init
@@ -44,3 +44,13 @@ returns-in-Err-clause-no_memory g c is all told =
       | inl settled ↦ absurd (reading-unsettled _ _ _ _ c.grids_and_texts.ensures.others c.pieces.invariant.reading settled)
       | inr ends ↦ reading-header _ _ _ _ c.in-Ok-read.count _ c.pieces.invariant.reading gives ends all told
     ]
+
+pub returns-then-count-eq0-clause-header : goal.returns-then-count-eq0-clause-header
+returns-then-count-eq0-clause-header g c =
+    grid-header _ _ _ _ c.pieces.invariant.reading (λ unread is. (c.in-Ok-read.ensures.bytes.empty unread is).0 c.if-count-eq0.true)
+    c.finished.result c.grids_and_texts.ensures.headers c.grids_and_texts.ensures.rasters c.finished.ensures.ok
+
+pub returns-then-count-eq0-clause-ended : goal.returns-then-count-eq0-clause-ended
+returns-then-count-eq0-clause-ended g c =
+    grid-ended _ _ _ _ c.pieces.invariant.reading (λ unread is. (c.in-Ok-read.ensures.bytes.empty unread is).0 c.if-count-eq0.true)
+    _ _ c.in-Ok-read.count c.finished.result c.if-count-eq0.true (c.in-Ok-read.ensures.ends.at_end c.if-count-eq0.true) c.in-Ok-read.ensures.bytes.takes

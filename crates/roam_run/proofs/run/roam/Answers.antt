@@ -1,9 +1,20 @@
+use Rattle.std.proofs.Common.{Some, sym, ◌∙◌, ap}
 use Rattle.roam_run.proofs.RunLemmas.{usage-ends, command-ends}
+use Rattle.roam_run.specs.WordView.{command_seen, mesh_seen}
+use Rattle.roam_run.specs.Words.{MeshOf, InfoOf}
 use Rattle.roam_run.proofs.run.roam.Goals as goal
 
 pub returns-in-None-clause-outcome : goal.returns-in-None-clause-outcome
 returns-in-None-clause-outcome g c all told_files = usage-ends _ _ all c.in-None.ensures
 
-pub returns-in-Some-clause-outcome : goal.returns-in-Some-clause-outcome
-returns-in-Some-clause-outcome g c all told_files =
-    command-ends _ _ _ all _ _ c.in-Some.ensures (c.run_mesh.ensures.outcome all told_files)
+pub returns-in-Some-Mesh-clause-outcome : goal.returns-in-Some-Mesh-clause-outcome
+returns-in-Some-Mesh-clause-outcome g c all told_files =
+    command-ends _ _ _ all (MeshOf (mesh_seen c.in-Some-Mesh.command)) _
+    (ap (λ command. Some (command_seen command)) (sym c.in-Some-Mesh.field-0-is) ∙ c.in-Some-Mesh.ensures)
+    (c.run_mesh-status.ensures.outcome all told_files)
+
+pub returns-in-Some-Info-clause-outcome : goal.returns-in-Some-Info-clause-outcome
+returns-in-Some-Info-clause-outcome g c all told_files =
+    command-ends _ _ _ all (InfoOf c.in-Some-Info.grid.now) _
+    (ap (λ command. Some (command_seen command)) (sym c.in-Some-Info.field-0-is) ∙ c.in-Some-Info.ensures)
+    (c.run_info-status.ensures.outcome (g.M.MeshSink.meshes c.args.meshes.now) all told_files)

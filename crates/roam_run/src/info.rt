@@ -1,0 +1,66 @@
+//! The line of the command `info`.
+
+ghost use Rattle.std.specs.Prelude.{◌≡◌, ◌+◌, ◌<◌, ◌≤◌, max, length};
+ghost use Rattle.mesh_defs.specs.BoundingBox.{least, greatest};
+ghost use Rattle.mesh_defs.specs.HeightField.{side_of};
+ghost use Rattle.mesh_defs.specs.Thickness.{thickness_of};
+ghost use Rattle.roam_run.specs.ReportText.{info_line};
+
+use arrayvec::ArrayVec;
+use bintree_addr::Tri;
+use wedgie_tree::Wedges;
+
+use crate::text::{Text, push_bytes, push_number};
+
+/// The line on a grid, of which the wedges are.
+pub(crate) fn info_report(wedges: &Wedges) -> Text
+    ensures { result.items ≡ info_line wedges.now }
+{
+    let grid = wedges.grid();
+    let (low, high) = range_of(grid.heights());
+    let mut text = ArrayVec::new();
+    push_bytes(&mut text, b"side ");
+    push_number(&mut text, side_for(grid.n()));
+    push_bytes(&mut text, b" maxval ");
+    push_number(&mut text, u64::from(grid.maxval()));
+    push_bytes(&mut text, b" low ");
+    push_number(&mut text, u64::from(low));
+    push_bytes(&mut text, b" high ");
+    push_number(&mut text, u64::from(high));
+    push_bytes(&mut text, b" thickness ");
+    push_number(&mut text, u64::from(base_thickness(wedges)));
+    push_bytes(&mut text, b"\n");
+    text
+}
+
+/// The greater thickness of the two base triangles, in half units of height.
+fn base_thickness(wedges: &Wedges) -> u32
+    ensures { result ≡ max (thickness_of wedges.now.n wedges.now.heights 2) (thickness_of wedges.now.n wedges.now.heights 3) }
+{
+    let lower = Tri::new(2).unwrap();
+    let upper = Tri::new(3).unwrap();
+    wedges.thickness(lower).max(wedges.thickness(upper))
+}
+
+/// The points of a side.
+fn side_for(n: u32) -> u64
+    requires { n ≤ 11 }
+    ensures { result ≡ side_of n }
+{
+    (1 << n) + 1
+}
+
+/// The least and the greatest height, of which there is one at least.
+fn range_of(heights: &[u16]) -> (u16, u16)
+    requires { 0 < length heights.now }
+    ensures least { result.0 ≡ least heights.now }
+    ensures greatest { result.1 ≡ greatest heights.now }
+{
+    let mut low = heights[0];
+    let mut high = 0;
+    for height in heights {
+        low = low.min(*height);
+        high = high.max(*height);
+    }
+    (low, high)
+}
