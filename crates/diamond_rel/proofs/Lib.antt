@@ -1,3 +1,4 @@
 pub mod WayLemmas
 pub mod TurnLemmas
 pub mod DescentLemmas
+pub mod ConformityLemmas
