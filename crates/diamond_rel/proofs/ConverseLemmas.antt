@@ -1,0 +1,176 @@
+-- Each conforming list is the leaves of the set of all proper ancestors of its entries, and that set is closed.
+use Rattle.std.proofs.Common.{◌≡◌, ◌≢◌, ℕ, zero, suc, ◌+◌, ◌-◌, ◌*◌, ◌/◌, ◌%◌, ◌^◌, ◌<◌, ◌≤◌, ◌⊎◌, inl, inr, Bool, true, false, eqb, ltb, List, All, Contains, IsTrue, refl, sym, ◌∙◌, ap, subst, arith, ⊎_elim, eq-eqb, lt-ltb, ltb-true, count_by}
+use Rattle.std.proofs.lemmas.Bool.{cases_lt, cases_eq, cases_order, and_parts, and_from, or_cases, or_left, or_right, eqb-true, false≢true, both_ways, cases_Bool}
+use Rattle.std.proofs.lemmas.List.Elements.{All-contains}
+use Rattle.mesh_defs.specs.declared.point.Point.{Point}
+use Rattle.mesh_defs.specs.declared.point.Corners.{Corners}
+use Rattle.mesh_defs.specs.Triangle.{level_of, IsAddress, IsSplittable, midpoint, child, corners_of, IsCorner, IsEdge, IsMate}
+use Rattle.mesh_defs.specs.Tiling.{IsSample, is_inside, IsStrictlyBetween, IsConforming}
+use Rattle.mesh_defs.specs.ClosedSet.{IsClosed, leaves_of}
+use Rattle.mesh_defs.proofs.LevelLemmas.{level-le}
+use Rattle.bintree_addr.proofs.LevelLemmas.{level_of-left, level_of-right, level_of-parent, level_of-below}
+use Rattle.bintree_addr.proofs.CornerLemmas.{corners_of-left, corners_of-right}
+use Rattle.bintree_addr.proofs.CentreLemmas.{same_centre, mate_unique, mate_symmetric}
+use Rattle.diamond_rel.specs.Ancestors.{halves_to, is_above, ancestors_of, AreLeaves}
+use Rattle.diamond_rel.proofs.WayLemmas.{Way, IsRun, IsInside, IsInside-between, IsStrictlyBetween-inside, IsRun-first_half, IsRun-second_half, IsInside-first_half, IsInside-second_half, IsInside-middle}
+use Rattle.diamond_rel.proofs.TurnLemmas.{three, IsTurned, leg, IsRun-base, one_if}
+use Rattle.diamond_rel.proofs.DescentLemmas.{IsDown, IsDown-left, IsDown-right, IsDown-address, IsDown-splittable, IsAddress-level, IsAddress-down, IsAddress-splittable, IsSplittable-down, forked_of, one_child_of, one_if-true, one_if-le, is_inside-left, is_inside-right, sample_of, one_base, All-leaves_of, Tiles-leaves_of}
+use Rattle.diamond_rel.proofs.ConformityLemmas.{IsUnder, self, below, IsUnder-up, IsUnder-left, IsUnder-right, member_above, middle, point_on_edge}
+use Rattle.diamond_rel.proofs.ListLemmas.{IsIn, IsIn-contains, Contains-in, Any-in, list_any-in, count-some, some-count, one_entry, count-narrower}
+
+-- ancestors
+
+-- the test, by what lies below
+is_above-parts : (steps a e : ℕ) → 2 ≤ a → halves_to steps e a ≡ true → (4 ≤ e) × IsUnder a (e / 2)
+is_above-parts zero a e low h = absurd (false≢true h)
+is_above-parts (suc steps) a e low h = ⊎_elim
+    (λ first. let same : e / 2 ≡ a = eqb-true (e / 2) a first in (omega arith, subst (λ z. IsUnder a z) (sym same) self))
+    (λ rest. let more : (4 ≤ e / 2) × IsUnder a (e / 2 / 2) = is_above-parts steps a (e / 2) low rest in
+    (omega arith, below (e / 2) more.0 more.1))
+    (or_cases (eqb (e / 2) a) (halves_to steps (e / 2) a) h)
+
+-- a proper ancestor of e is e's parent or above it
+pub under-above : (a e : ℕ) → is_above a e ≡ true → (2 ≤ a) × (4 ≤ e) × IsUnder a (e / 2)
+unfolding is_above
+under-above a e h =
+    let parts = and_parts (ltb 1 a) (halves_to e e a) h in
+    let low : 1 < a = ltb-true 1 a parts.0 in
+    let more = is_above-parts e a e low parts.1 in (low, more.0, more.1)
+
+halves_to-under : (steps a e f : ℕ) → f ≡ e / 2 → e ≤ steps → 2 ≤ e → IsUnder a f → halves_to steps e a ≡ true
+halves_to-under zero a e f half h some u = absurd (omega arith)
+halves_to-under (suc steps) a e f half h some self = or_left (eqb (e / 2) a) (halves_to steps (e / 2) a) (eq-eqb (e / 2) a (sym half))
+halves_to-under (suc steps) a e f half h some (below g big u) =
+    or_right (eqb (e / 2) a) (halves_to steps (e / 2) a)
+    (halves_to-under steps a (e / 2) (g / 2) (ap (λ z. z / 2) half) (omega arith) (omega arith) u)
+
+-- and what is e's parent or above it is a proper ancestor
+pub above-under : (a e : ℕ) → 2 ≤ a → 4 ≤ e → IsUnder a (e / 2) → is_above a e ≡ true
+unfolding is_above
+above-under a e low big u =
+    and_from (ltb 1 a) (halves_to e e a) (lt-ltb 1 a low) (halves_to-under e a e (e / 2) refl (omega arith) (omega arith) u)
+
+-- levels
+
+-- 2 and 3 have level 0, the others a parent of the level before
+level_of-first : (a : ℕ) → 2 ≤ a → a < 4 → level_of a ≡ 0
+level_of-first a low high = let h : level_of a < 1 = (level_of-below a 1 low).1 high in omega arith
+
+first-level_of : (a : ℕ) → 2 ≤ a → level_of a ≡ 0 → a < 4
+first-level_of a low e = (level_of-below a 1 low).0 (omega arith)
+
+-- what lies below v has at least its level
+pub level-under : (v x : ℕ) → IsUnder v x → level_of v ≤ level_of x
+level-under v x self = omega arith
+level-under v x (below y h u) = let e = level_of-parent y h in let rest : level_of v ≤ level_of (y / 2) = level-under v (y / 2) u in omega arith
+
+-- what lies below an address of the grid comes from it
+pub low-under : (v x : ℕ) → 2 ≤ v → IsUnder v x → 2 ≤ x
+low-under v x low self = low
+low-under v x low (below y h u) = omega arith
+
+-- below what lies below
+pub IsUnder-trans : (v w x : ℕ) → IsUnder v w → IsUnder w x → IsUnder v x
+IsUnder-trans v w x u self = u
+IsUnder-trans v w x u (below y h k) = below y h (IsUnder-trans v w (y / 2) u k)
+
+-- the parent of an address of the grid is splittable
+parent_down : (n a : ℕ) → IsAddress n a → 4 ≤ a → IsDown n (suc (2 * n - level_of a)) (a / 2)
+parent_down n a address big =
+    let e = level_of-parent a big in let fits : level_of a ≤ 2 * n = level-le n a address in
+    record { low = omega arith; height = omega arith }
+
+IsAddress-parent : (n a : ℕ) → IsAddress n a → 4 ≤ a → IsAddress n (a / 2)
+IsAddress-parent n a address big = IsAddress-down n (suc (2 * n - level_of a)) (a / 2) (parent_down n a address big)
+
+-- samples and levels
+
+-- a number is its half's left or right child
+halves : (a : ℕ) → (a ≡ 2 * (a / 2)) ⊎ (a ≡ 2 * (a / 2) + 1)
+halves a = ⊎_elim (λ even. inl (omega arith)) (λ odd. inr (omega arith)) (cases_lt (a % 2) 1)
+
+-- inside a triangle is inside its parent
+is_inside-up : (n a x y : ℕ) → IsAddress n a → 4 ≤ a → IsSample n x y → is_inside n x y a ≡ true → is_inside n x y (a / 2) ≡ true
+is_inside-up n a x y address big s h =
+    let d = parent_down n a address big in ⊎_elim
+    (λ left. is_inside-left n (2 * n - level_of a) (a / 2) x y d s (subst (λ z. is_inside n x y z ≡ true) left h))
+    (λ right. is_inside-right n (2 * n - level_of a) (a / 2) x y d s (subst (λ z. is_inside n x y z ≡ true) right h))
+    (halves a)
+
+-- inside what lies below v is inside v
+pub is_inside-under : (n v a x y : ℕ) → IsAddress n a → IsSample n x y → IsUnder v a → is_inside n x y a ≡ true → is_inside n x y v ≡ true
+is_inside-under n v a x y address s self h = h
+is_inside-under n v a x y address s (below b big u) h =
+    is_inside-under n v (b / 2) x y (IsAddress-parent n b address big) s u (is_inside-up n b x y address big s h)
+
+-- no sample is inside both children
+not_both_children : (n levels a x y : ℕ) → IsDown n (suc levels) a → IsSample n x y →
+    is_inside n x y (2 * a) ≡ true → is_inside n x y (2 * a + 1) ≡ true → ⊥
+not_both_children n levels a x y d s l r =
+    let one = one_child_of n levels a x y d s in
+    let left = one_if-true (is_inside n x y (2 * a)) l in
+    let right = one_if-true (is_inside n x y (2 * a + 1)) r in
+    let le = one_if-le (is_inside n x y a) in omega arith
+
+-- at each level a sample is inside one triangle at most
+same_children : (n x y : ℕ) (p a b : ℕ) → IsSample n x y → (levels : ℕ) → IsDown n (suc levels) p →
+    (a ≡ 2 * p) ⊎ (a ≡ 2 * p + 1) → (b ≡ 2 * p) ⊎ (b ≡ 2 * p + 1) →
+    is_inside n x y a ≡ true → is_inside n x y b ≡ true → a ≡ b
+same_children n x y p a b s levels d (inl e) (inl f) h k = e ∙ sym f
+same_children n x y p a b s levels d (inr e) (inr f) h k = e ∙ sym f
+same_children n x y p a b s levels d (inl e) (inr f) h k =
+    absurd (not_both_children n levels p x y d s (subst (λ z. is_inside n x y z ≡ true) e h) (subst (λ z. is_inside n x y z ≡ true) f k))
+same_children n x y p a b s levels d (inr e) (inl f) h k =
+    absurd (not_both_children n levels p x y d s (subst (λ z. is_inside n x y z ≡ true) f k) (subst (λ z. is_inside n x y z ≡ true) e h))
+
+same_base : (n x y a b : ℕ) → IsSample n x y → (a ≡ 2) ⊎ (a ≡ 3) → (b ≡ 2) ⊎ (b ≡ 3) →
+    is_inside n x y a ≡ true → is_inside n x y b ≡ true → a ≡ b
+same_base n x y a b s (inl e) (inl f) h k = e ∙ sym f
+same_base n x y a b s (inr e) (inr f) h k = e ∙ sym f
+same_base n x y a b s (inl e) (inr f) h k =
+    let one = one_base n x y s in
+    let lower = one_if-true (is_inside n x y 2) (subst (λ z. is_inside n x y z ≡ true) e h) in
+    let upper = one_if-true (is_inside n x y 3) (subst (λ z. is_inside n x y z ≡ true) f k) in absurd (omega arith)
+same_base n x y a b s (inr e) (inl f) h k =
+    let one = one_base n x y s in
+    let lower = one_if-true (is_inside n x y 2) (subst (λ z. is_inside n x y z ≡ true) f k) in
+    let upper = one_if-true (is_inside n x y 3) (subst (λ z. is_inside n x y z ≡ true) e h) in absurd (omega arith)
+
+pub same_level : (n x y level a b : ℕ) → IsSample n x y → IsAddress n a → IsAddress n b → level_of a ≡ level → level_of b ≡ level →
+    is_inside n x y a ≡ true → is_inside n x y b ≡ true → a ≡ b
+same_level n x y zero a b s p q e f h k =
+    let la : 2 ≤ a = p.low in let lb : 2 ≤ b = q.low in
+    let ha : a < 4 = first-level_of a la e in let hb : b < 4 = first-level_of b lb f in
+    same_base n x y a b s (base_cases a la ha) (base_cases b lb hb) h k
+  where
+    base_cases : (c : ℕ) → 2 ≤ c → c < 4 → (c ≡ 2) ⊎ (c ≡ 3)
+    base_cases c low high = ⊎_elim (λ two. inl (omega arith)) (λ three. inr (omega arith)) (cases_lt c 3)
+same_level n x y (suc level) a b s p q e f h k =
+    let ha : 4 ≤ a = big a p.low e in let hb : 4 ≤ b = big b q.low f in
+    let ea = level_of-parent a ha in let eb = level_of-parent b hb in
+    let above : a / 2 ≡ b / 2 = same_level n x y level (a / 2) (b / 2) s (IsAddress-parent n a p ha) (IsAddress-parent n b q hb)
+    (omega arith) (omega arith) (is_inside-up n a x y p ha s h) (is_inside-up n b x y q hb s k) in
+    same_children n x y (a / 2) a b s (2 * n - level_of a) (parent_down n a p ha) (halves a)
+    (subst (λ z. (b ≡ 2 * z) ⊎ (b ≡ 2 * z + 1)) (sym above) (halves b)) h k
+  where
+    big : (c : ℕ) → 2 ≤ c → level_of c ≡ suc level → 4 ≤ c
+    big c low l = ⊎_elim
+        (λ small. let z = level_of-first c low small in absurd (omega arith))
+        (λ large. large)
+        (cases_lt c 4)
+
+-- of two triangles with a common sample, the one of the lesser level is the other or above it
+pub IsUnder-sample : (n x y d e f : ℕ) → IsSample n x y → IsAddress n e → IsAddress n f → d + level_of e ≡ level_of f →
+    is_inside n x y e ≡ true → is_inside n x y f ≡ true → IsUnder e f
+IsUnder-sample n x y zero e f s p q l h k =
+    subst (λ z. IsUnder e z) (same_level n x y (level_of f) e f s p q (omega arith) refl h k) self
+IsUnder-sample n x y (suc d) e f s p q l h k =
+    let big : 4 ≤ f = large f q.low (omega arith) in
+    let m = level_of-parent f big in
+    below f big (IsUnder-sample n x y d e (f / 2) s p (IsAddress-parent n f q big) (omega arith) h (is_inside-up n f x y q big s k))
+  where
+    large : (c : ℕ) → 2 ≤ c → 1 ≤ level_of c → 4 ≤ c
+    large c low some = ⊎_elim
+        (λ small. let z = level_of-first c low small in absurd (omega arith))
+        (λ large. large)
+        (cases_lt c 4)
