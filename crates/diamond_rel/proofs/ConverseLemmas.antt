@@ -174,3 +174,158 @@ IsUnder-sample n x y (suc d) e f s p q l h k =
         (λ small. let z = level_of-first c low small in absurd (omega arith))
         (λ large. large)
         (cases_lt c 4)
+
+-- a conforming list
+
+module _ (n : ℕ) (list : List ℕ) (conforming : IsConforming n list) where
+  -- each entry is an address
+  IsAddress-entry : (e : ℕ) → IsIn e list → IsAddress n e
+  IsAddress-entry e h = All-contains (IsAddress n) list e conforming.addresses (Contains-in e list h)
+
+  -- two entries with a common sample are the same
+  same_entry : (x y a b : ℕ) → IsSample n x y → IsIn a list → IsIn b list → is_inside n x y a ≡ true → is_inside n x y b ≡ true → a ≡ b
+  same_entry x y a b s in_a in_b h k =
+      let one : count_by (is_inside n x y) list ≡ 1 = conforming.tiles x y s in
+      one_entry (is_inside n x y) list a b (omega arith) in_a in_b h k
+
+  -- what a member of the ancestors is
+  record IsAbove (a : ℕ) : Type 0 where
+    entry : ℕ
+    listed : IsIn entry list
+    low : 2 ≤ a
+    big : 4 ≤ entry
+    under : IsUnder a (entry / 2)
+
+  IsAbove-member : (a : ℕ) → IsTrue (ancestors_of list a) → IsAbove a
+  IsAbove-member a h =
+      let e = Any-in (λ e. is_above a e) list h in
+      let parts = under-above a e.0 e.2 in
+      record { entry = e.0; listed = e.1; low = parts.0; big = parts.1; under = parts.2 }
+
+  member-IsAbove : (a e : ℕ) → IsIn e list → 2 ≤ a → 4 ≤ e → IsUnder a (e / 2) → IsTrue (ancestors_of list a)
+  member-IsAbove a e h low big u = list_any-in (λ e. is_above a e) list e h (above-under a e low big u)
+
+  -- a member is above its entry
+  IsUnder-above : (a : ℕ) (h : IsAbove a) → IsUnder a h.entry
+  IsUnder-above a h = below h.entry h.big h.under
+
+  level-above : (a : ℕ) (h : IsAbove a) → level_of a < level_of h.entry
+  level-above a h = let e = level_of-parent h.entry h.big in let u = level-under a (h.entry / 2) h.under in omega arith
+
+  -- no entry is at or above a member
+  no_entry_above : (a v : ℕ) → IsTrue (ancestors_of list a) → IsIn v list → IsUnder v a → ⊥
+  no_entry_above a v is in_v u =
+      let h = IsAbove-member a is in
+      let address = IsAddress-entry h.entry h.listed in
+      let s = sample_of n (2 * n - level_of h.entry) h.entry (IsDown-address n h.entry address) in
+      let inside = is_inside-under n v h.entry s.0 s.1 address s.2 (IsUnder-trans v a h.entry u (IsUnder-above a h)) s.3 in
+      let same : v ≡ h.entry = same_entry s.0 s.1 v h.entry s.2 in_v h.listed inside s.3 in
+      let less = level-above a h in
+      let le = level-under v a u in
+      let e : level_of v ≡ level_of h.entry = ap level_of same in
+      omega arith
+
+  -- an entry at or above a
+  record IsCovered (a : ℕ) : Type 0 where
+    entry : ℕ
+    listed : IsIn entry list
+    under : IsUnder entry a
+
+  -- each address is a member or has an entry at or above it
+  member_or_covered : (a : ℕ) → IsAddress n a → IsTrue (ancestors_of list a) ⊎ IsCovered a
+  member_or_covered a address =
+      let s = sample_of n (2 * n - level_of a) a (IsDown-address n a address) in
+      let one : count_by (is_inside n s.0 s.1) list ≡ 1 = conforming.tiles s.0 s.1 s.2 in
+      let e = some-count (is_inside n s.0 s.1) list (omega arith) in
+      let other = IsAddress-entry e.0 e.1 in
+      ⊎_elim
+      (λ deeper. inl (deeper_entry a address s.0 s.1 s.2 s.3 e.0 e.1 other e.2 deeper))
+      (λ higher. inr record {
+        entry = e.0;
+        listed = e.1;
+        under = IsUnder-sample n s.0 s.1 (level_of a - level_of e.0) e.0 a s.2 other address (omega arith) e.2 s.3;
+      })
+      (cases_lt (level_of a) (level_of e.0))
+    where
+      deeper_entry : (a : ℕ) → IsAddress n a → (x y : ℕ) → IsSample n x y → is_inside n x y a ≡ true → (e : ℕ) → IsIn e list → IsAddress n e →
+          is_inside n x y e ≡ true → level_of a < level_of e → IsTrue (ancestors_of list a)
+      deeper_entry a address x y s h e listed other k deeper =
+          let big : 4 ≤ e = ⊎_elim
+              (λ small. let z = level_of-first e other.low small in absurd (omega arith))
+              (λ large. large)
+              (cases_lt e 4) in
+          let l = level_of-parent e big in
+          member-IsAbove a e listed address.low big
+          (IsUnder-sample n x y (level_of e - 1 - level_of a) a (e / 2) s address (IsAddress-parent n e other big) (omega arith) h
+          (is_inside-up n e x y other big s k))
+
+  -- a member is splittable
+  IsSplittable-member : (a : ℕ) → IsTrue (ancestors_of list a) → IsSplittable n a
+  IsSplittable-member a is =
+      let h = IsAbove-member a is in
+      let less = level-above a h in
+      let fits = level-le n h.entry (IsAddress-entry h.entry h.listed) in
+      record { low = h.low; coarse = omega arith }
+
+  -- with a member its parent
+  member-parent : (a : ℕ) → IsTrue (ancestors_of list a) → 4 ≤ a → IsTrue (ancestors_of list (a / 2))
+  member-parent a is big =
+      let h = IsAbove-member a is in
+      member-IsAbove (a / 2) h.entry h.listed (omega arith) h.big (IsUnder-up a (h.entry / 2) big h.under)
+
+  -- a child of a member is a member or an entry
+  child_of_member : (a c : ℕ) → IsTrue (ancestors_of list a) → IsAddress n c → 4 ≤ c → c / 2 ≡ a → IsTrue (ancestors_of list c) ⊎ IsIn c list
+  child_of_member a c is address big half = ⊎_elim
+      (λ member. inl member)
+      (λ covered. inr (entry_itself covered.entry c covered.under covered.listed half))
+      (member_or_covered c address)
+    where
+      entry_itself : (v c : ℕ) → IsUnder v c → IsIn v list → c / 2 ≡ a → IsIn c list
+      entry_itself v c self in_v half = in_v
+      entry_itself v c (below d big u) in_v half = absurd (no_entry_above a v is in_v (subst (λ z. IsUnder v z) half u))
+
+  -- a corner of a member or an entry is a corner of an entry
+  corner_entry : (levels a : ℕ) (m : Point) → IsDown n levels a → IsTrue (ancestors_of list a) ⊎ IsIn a list → IsCorner (corners_of n a) m →
+      (e : ℕ) × IsIn e list × IsCorner (corners_of n e) m
+  corner_entry levels a m d (inr listed) corner = (a, listed, corner)
+  corner_entry zero a m d (inl is) corner =
+      let h = (IsSplittable-member a is).coarse in let l = d.height in absurd (omega arith)
+  corner_entry (suc levels) a m d (inl is) corner =
+      let low : 2 ≤ a = d.low in
+      let left = IsDown-left n levels a d in
+      let right = IsDown-right n levels a d in
+      let to_left : IsCorner (child 0 (corners_of n a)) m → (e : ℕ) × IsIn e list × IsCorner (corners_of n e) m = λ k.
+          corner_entry levels (2 * a) m left (child_of_member a (2 * a) is (IsAddress-down n levels (2 * a) left) (omega arith) (omega arith))
+          (subst (λ c. IsCorner c m) (sym (corners_of-left n a low)) k) in
+      let to_right : IsCorner (child 1 (corners_of n a)) m → (e : ℕ) × IsIn e list × IsCorner (corners_of n e) m = λ k.
+          corner_entry levels (2 * a + 1) m right (child_of_member a (2 * a + 1) is (IsAddress-down n levels (2 * a + 1) right) (omega arith) (omega arith))
+          (subst (λ c. IsCorner c m) (sym (corners_of-right n a low)) k) in
+      ⊎_elim
+      (λ e. to_left (inr (inl e)))
+      (λ base. ⊎_elim (λ e. to_left (inr (inr e))) (λ e. to_right (inr (inl e))) base)
+      corner
+
+  -- the midpoint of a member is a corner of an entry
+  middle_entry : (a : ℕ) → IsTrue (ancestors_of list a) → (e : ℕ) × IsIn e list × IsCorner (corners_of n e) (middle n a)
+  middle_entry a is =
+      let s = IsSplittable-member a is in
+      let low : 2 ≤ a = s.low in
+      let left = IsDown-left n (2 * n - level_of a - 1) a (IsDown-splittable n a s) in
+      corner_entry (2 * n - level_of a - 1) (2 * a) (middle n a) left
+      (child_of_member a (2 * a) is (IsAddress-down n (2 * n - level_of a - 1) (2 * a) left) (omega arith) (omega arith))
+      (subst (λ c. IsCorner c (middle n a)) (sym (corners_of-left n a low)) (inl refl))
+
+  -- edges above
+
+  -- m lies inside an edge of w
+  record HasOnEdge (w : ℕ) (m : Point) : Type 0 where
+    from : Point
+    to : Point
+    edge : IsEdge (corners_of n w) from to
+    between : IsStrictlyBetween from to m
+
+  -- no entry has the midpoint of a member inside an edge
+  not_on_entry : (a v : ℕ) → IsTrue (ancestors_of list a) → IsIn v list → HasOnEdge v (middle n a) → ⊥
+  not_on_entry a v is in_v h =
+      let e = middle_entry a is in
+      conforming.whole_edges e.0 v h.from h.to (middle n a) (Contains-in e.0 list e.1) (Contains-in v list in_v) e.2 h.edge h.between
