@@ -1,21 +1,21 @@
 -- Each conforming list is the leaves of the set of all proper ancestors of its entries, and that set is closed.
-use Rattle.std.proofs.Common.{◌≡◌, ◌≢◌, ℕ, zero, suc, ◌+◌, ◌-◌, ◌*◌, ◌/◌, ◌%◌, ◌^◌, ◌<◌, ◌≤◌, ◌⊎◌, inl, inr, Bool, true, false, eqb, ltb, List, All, Contains, IsTrue, refl, sym, ◌∙◌, ap, subst, arith, ⊎_elim, eq-eqb, lt-ltb, ltb-true, count_by}
+use Rattle.std.proofs.Common.{◌≡◌, ◌≢◌, ℕ, zero, suc, ◌+◌, ◌-◌, ◌*◌, ◌/◌, ◌%◌, ◌^◌, ◌<◌, ◌≤◌, ◌⊎◌, inl, inr, Bool, true, false, eqb, ltb, List, All, Contains, IsTrue, refl, sym, ◌∙◌, ap, ap₂, subst, arith, ⊎_elim, eq-eqb, lt-ltb, ltb-true, count_by}
 use Rattle.std.proofs.lemmas.Bool.{cases_lt, cases_eq, cases_order, and_parts, and_from, or_cases, or_left, or_right, eqb-true, false≢true, both_ways, cases_Bool}
 use Rattle.std.proofs.lemmas.List.Elements.{All-contains}
 use Rattle.mesh_defs.specs.declared.point.Point.{Point}
 use Rattle.mesh_defs.specs.declared.point.Corners.{Corners}
 use Rattle.mesh_defs.specs.Triangle.{level_of, IsAddress, IsSplittable, midpoint, child, corners_of, IsCorner, IsEdge, IsMate}
-use Rattle.mesh_defs.specs.Tiling.{IsSample, is_inside, IsStrictlyBetween, IsConforming}
+use Rattle.mesh_defs.specs.Tiling.{IsSample, is_inside, IsBetween, IsStrictlyBetween, IsConforming}
 use Rattle.mesh_defs.specs.ClosedSet.{IsClosed, leaves_of}
 use Rattle.mesh_defs.proofs.LevelLemmas.{level-le}
 use Rattle.bintree_addr.proofs.LevelLemmas.{level_of-left, level_of-right, level_of-parent, level_of-below}
 use Rattle.bintree_addr.proofs.CornerLemmas.{corners_of-left, corners_of-right}
 use Rattle.bintree_addr.proofs.CentreLemmas.{same_centre, mate_unique, mate_symmetric}
 use Rattle.diamond_rel.specs.Ancestors.{halves_to, is_above, ancestors_of, AreLeaves}
-use Rattle.diamond_rel.proofs.WayLemmas.{Way, IsRun, IsInside, IsInside-between, IsStrictlyBetween-inside, IsRun-first_half, IsRun-second_half, IsInside-first_half, IsInside-second_half, IsInside-middle}
+use Rattle.diamond_rel.proofs.WayLemmas.{Way, point, IsRun, IsInside, IsInside-between, IsStrictlyBetween-inside, IsRun-first_half, IsRun-second_half, IsInside-first_half, IsInside-second_half, IsInside-middle}
 use Rattle.diamond_rel.proofs.TurnLemmas.{three, IsTurned, leg, IsRun-base, one_if}
 use Rattle.diamond_rel.proofs.DescentLemmas.{IsDown, IsDown-left, IsDown-right, IsDown-address, IsDown-splittable, IsAddress-level, IsAddress-down, IsAddress-splittable, IsSplittable-down, forked_of, one_child_of, one_if-true, one_if-le, is_inside-left, is_inside-right, sample_of, one_base, All-leaves_of, Tiles-leaves_of}
-use Rattle.diamond_rel.proofs.ConformityLemmas.{IsUnder, self, below, IsUnder-up, IsUnder-left, IsUnder-right, member_above, middle, point_on_edge}
+use Rattle.diamond_rel.proofs.ConformityLemmas.{IsUnder, self, below, IsUnder-up, IsUnder-left, IsUnder-right, member_above, middle, between_ends, point_on_edge}
 use Rattle.diamond_rel.proofs.ListLemmas.{IsIn, IsIn-contains, Contains-in, Any-in, list_any-in, count-some, some-count, one_entry, count-narrower}
 
 -- ancestors
@@ -175,6 +175,149 @@ IsUnder-sample n x y (suc d) e f s p q l h k =
         (λ large. large)
         (cases_lt c 4)
 
+-- edges above
+
+-- m lies inside an edge of w
+record HasOnEdge (n w : ℕ) (m : Point) : Type 0 where
+  from : Point
+  to : Point
+  edge : IsEdge (corners_of n w) from to
+  between : IsStrictlyBetween from to m
+
+-- in the other direction
+reversed : (p q r : Point) → IsStrictlyBetween p q r → IsStrictlyBetween q p r
+reversed p q r b =
+    let line = b.on_line in
+    record { on_line = omega arith; between = ⊎_elim (λ x. inl (turned x)) (λ y. inr (turned y)) b.between }
+  where
+    turned : {i j k : ℕ} → IsBetween i j k → IsBetween j i k
+    turned (inl h) = inr h
+    turned (inr h) = inl h
+
+-- the midpoint lies inside the base
+middle_on_base : (n levels b : ℕ) → IsDown n (suc levels) b → HasOnEdge n b (middle n b)
+middle_on_base n levels b d =
+    let f = forked_of n levels b d in
+    let base = IsRun-base f.0 f.1 (corners_of n b) f.3 in
+    record {
+      from = (corners_of n b).v0;
+      to = (corners_of n b).v1;
+      edge = inr (inl (refl, refl));
+      between = IsStrictlyBetween-inside (three f.0) (2 * f.1) (corners_of n b).v0 (corners_of n b).v1 (middle n b) base
+          (IsInside-middle (three f.0) f.1 (corners_of n b).v0 (middle n b) f.2
+          (IsRun-first_half (three f.0) f.1 (corners_of n b).v0 (corners_of n b).v1 base));
+    }
+
+-- inside a half of a base is inside the base
+on_first_half : (w : Way) (k : ℕ) (c : Corners) (r : Point) → 0 < k → IsTurned w (leg w k) c →
+    IsStrictlyBetween c.v0 (midpoint c.v0 c.v1) r → IsStrictlyBetween c.v0 c.v1 r
+on_first_half w k c r some t b =
+    let base = IsRun-base w k c t in
+    let first = IsRun-first_half (three w) k c.v0 c.v1 base in
+    IsStrictlyBetween-inside (three w) (2 * k) c.v0 c.v1 r base
+    (IsInside-first_half (three w) k c.v0 r (IsInside-between (three w) k c.v0 (midpoint c.v0 c.v1) r some first b))
+
+on_second_half : (w : Way) (k : ℕ) (c : Corners) (r : Point) → 0 < k → IsTurned w (leg w k) c →
+    IsStrictlyBetween (midpoint c.v0 c.v1) c.v1 r → IsStrictlyBetween c.v0 c.v1 r
+on_second_half w k c r some t b =
+    let base = IsRun-base w k c t in
+    let first = IsRun-first_half (three w) k c.v0 c.v1 base in
+    let second = IsRun-second_half (three w) k c.v0 c.v1 base in
+    IsStrictlyBetween-inside (three w) (2 * k) c.v0 c.v1 r base
+    (IsInside-second_half (three w) k c.v0 (midpoint c.v0 c.v1) r first (IsInside-between (three w) k (midpoint c.v0 c.v1) c.v1 r some second b))
+
+-- an edge of a child lies in an edge of the triangle, or it is an edge of the other child too
+edge_of_left : (n levels a : ℕ) (m : Point) → IsDown n (suc levels) a → HasOnEdge n (2 * a) m → HasOnEdge n a m ⊎ HasOnEdge n (2 * a + 1) m
+edge_of_left n levels a m d h = at h.from h.to (subst (λ c. IsEdge c h.from h.to) (corners_of-left n a d.low) h.edge) h.between
+  where
+    at : (p q : Point) → IsEdge (child 0 (corners_of n a)) p q → IsStrictlyBetween p q m → HasOnEdge n a m ⊎ HasOnEdge n (2 * a + 1) m
+    at p q (inl e) b = inr record {
+      from = (corners_of n a).apex;
+      to = middle n a;
+      edge = subst (λ c. IsEdge c (corners_of n a).apex (middle n a)) (sym (corners_of-right n a d.low)) (inr (inr (refl, refl)));
+      between = reversed (middle n a) (corners_of n a).apex m (between_ends p q m (middle n a) (corners_of n a).apex e.0 e.1 b);
+    }
+    at p q (inr (inl e)) b = inl record { from = p; to = q; edge = inl e; between = b }
+    at p q (inr (inr e)) b =
+        let f = forked_of n levels a d in inl record {
+          from = (corners_of n a).v0;
+          to = (corners_of n a).v1;
+          edge = inr (inl (refl, refl));
+          between = on_first_half f.0 f.1 (corners_of n a) m f.2 f.3 (between_ends p q m (corners_of n a).v0 (middle n a) e.0 e.1 b);
+        }
+
+edge_of_right : (n levels a : ℕ) (m : Point) → IsDown n (suc levels) a → HasOnEdge n (2 * a + 1) m → HasOnEdge n a m ⊎ HasOnEdge n (2 * a) m
+edge_of_right n levels a m d h = at h.from h.to (subst (λ c. IsEdge c h.from h.to) (corners_of-right n a d.low) h.edge) h.between
+  where
+    at : (p q : Point) → IsEdge (child 1 (corners_of n a)) p q → IsStrictlyBetween p q m → HasOnEdge n a m ⊎ HasOnEdge n (2 * a) m
+    at p q (inl e) b =
+        let f = forked_of n levels a d in inl record {
+          from = (corners_of n a).v0;
+          to = (corners_of n a).v1;
+          edge = inr (inl (refl, refl));
+          between = on_second_half f.0 f.1 (corners_of n a) m f.2 f.3 (between_ends p q m (middle n a) (corners_of n a).v1 e.0 e.1 b);
+        }
+    at p q (inr (inl e)) b = inl record { from = p; to = q; edge = inr (inr e); between = b }
+    at p q (inr (inr e)) b = inr record {
+      from = middle n a;
+      to = (corners_of n a).apex;
+      edge = subst (λ c. IsEdge c (middle n a) (corners_of n a).apex) (sym (corners_of-left n a d.low)) (inl (refl, refl));
+      between = reversed (corners_of n a).apex (middle n a) m (between_ends p q m (corners_of n a).apex (middle n a) e.0 e.1 b);
+    }
+
+-- nothing lies below both children
+not_below_both : (n levels a b : ℕ) → IsDown n (suc levels) a → IsAddress n b → IsUnder (2 * a) b → IsUnder (2 * a + 1) b → ⊥
+not_below_both n levels a b d address u v =
+    let s = sample_of n (2 * n - level_of b) b (IsDown-address n b address) in
+    not_both_children n levels a s.0 s.1 d s.2
+    (is_inside-under n (2 * a) b s.0 s.1 address s.2 u s.3) (is_inside-under n (2 * a + 1) b s.0 s.1 address s.2 v s.3)
+
+-- mates have one midpoint
+same_sums : (i j : ℕ) → (i + j) / 2 ≡ (j + i) / 2
+same_sums i j = ap (λ z. z / 2) (let e : i + j ≡ j + i = omega arith in e)
+
+middle_mate : (n a b : ℕ) → IsMate n a b → middle n a ≡ middle n b
+middle_mate n a b mate = ⊎_elim
+    (λ e. ap₂ midpoint e.0 e.1)
+    (λ e. ap₂ midpoint e.0 e.1 ∙ ap₂ point (same_sums (corners_of n b).v1.x (corners_of n b).v0.x) (same_sums (corners_of n b).v1.y (corners_of n b).v0.y))
+    mate.base
+
+-- a splittable triangle with the midpoint of a and its mate b, and that is not b, is a
+only_mates : (n a b x : ℕ) → IsSplittable n a → IsSplittable n b → IsMate n a b → IsSplittable n x → middle n x ≡ middle n b → x ≢ b → x ≡ a
+only_mates n a b x sa sb mate sx e other = ⊎_elim
+    (λ same. absurd (other same))
+    (λ second. mate_unique n b x a (IsAddress-splittable n b sb) second (mate_symmetric n a b (IsAddress-splittable n a sa) mate))
+    (same_centre n b x sb sx (sym e))
+
+-- the midpoint of a and its mate b, inside an edge at or above b, stays inside an edge up to v, which is not above a
+edge_above : (n a b v w : ℕ) → IsSplittable n a → IsSplittable n b → IsMate n a b → IsAddress n w → (IsUnder v a → ⊥) → IsUnder v w → IsUnder w b →
+    HasOnEdge n w (middle n b) → HasOnEdge n v (middle n b)
+edge_above n a b v w sa sb mate address apart self u h = h
+edge_above n a b v w sa sb mate address apart (below y big k) u h =
+    let d = parent_down n y address big in
+    let up : HasOnEdge n (y / 2) (middle n b) = ⊎_elim
+    (λ left. ⊎_elim
+    (λ edge. edge)
+    (λ split. absurd (across (2 * (y / 2) + 1) (IsDown-right n (2 * n - level_of y) (y / 2) d) split
+    (λ x z. IsUnder-right (y / 2) x d.low z)
+    (λ z. not_below_both n (2 * n - level_of y) (y / 2) b d (IsAddress-splittable n b sb) (subst (λ o. IsUnder o b) left u) z)))
+    (edge_of_left n (2 * n - level_of y) (y / 2) (middle n b) d (subst (λ o. HasOnEdge n o (middle n b)) left h)))
+    (λ right. ⊎_elim
+    (λ edge. edge)
+    (λ split. absurd (across (2 * (y / 2)) (IsDown-left n (2 * n - level_of y) (y / 2) d) split
+    (λ x z. IsUnder-left (y / 2) x d.low z)
+    (λ z. not_below_both n (2 * n - level_of y) (y / 2) b d (IsAddress-splittable n b sb) z (subst (λ o. IsUnder o b) right u))))
+    (edge_of_right n (2 * n - level_of y) (y / 2) (middle n b) d (subst (λ o. HasOnEdge n o (middle n b)) right h)))
+    (halves y) in
+    edge_above n a b v (y / 2) sa sb mate (IsAddress-parent n y address big) apart k (IsUnder-up y b big u) up
+  where
+    across : (other : ℕ) → IsDown n (2 * n - level_of y) other → HasOnEdge n other (middle n b) →
+        ((x : ℕ) → IsUnder other x → IsUnder (y / 2) x) → (IsUnder other b → ⊥) → ⊥
+    across other d split up apart_b =
+        let x = point_on_edge n (2 * n - level_of y) other split.from split.to (middle n b) d split.edge split.between in
+        let same : x.0 ≡ a = only_mates n a b x.0 sa sb mate x.1 x.3 (λ e. apart_b (subst (λ z. IsUnder other z) e x.2)) in
+        apart (IsUnder-trans v (y / 2) a k (subst (λ z. IsUnder (y / 2) z) same (up x.0 x.2)))
+
 -- a conforming list
 
 module _ (n : ℕ) (list : List ℕ) (conforming : IsConforming n list) where
@@ -315,17 +458,104 @@ module _ (n : ℕ) (list : List ℕ) (conforming : IsConforming n list) where
       (child_of_member a (2 * a) is (IsAddress-down n (2 * n - level_of a - 1) (2 * a) left) (omega arith) (omega arith))
       (subst (λ c. IsCorner c (middle n a)) (sym (corners_of-left n a low)) (inl refl))
 
-  -- edges above
-
-  -- m lies inside an edge of w
-  record HasOnEdge (w : ℕ) (m : Point) : Type 0 where
-    from : Point
-    to : Point
-    edge : IsEdge (corners_of n w) from to
-    between : IsStrictlyBetween from to m
-
   -- no entry has the midpoint of a member inside an edge
-  not_on_entry : (a v : ℕ) → IsTrue (ancestors_of list a) → IsIn v list → HasOnEdge v (middle n a) → ⊥
+  not_on_entry : (a v : ℕ) → IsTrue (ancestors_of list a) → IsIn v list → HasOnEdge n v (middle n a) → ⊥
   not_on_entry a v is in_v h =
       let e = middle_entry a is in
       conforming.whole_edges e.0 v h.from h.to (middle n a) (Contains-in e.0 list e.1) (Contains-in v list in_v) e.2 h.edge h.between
+
+  -- with a member its mate
+  member-mate : (a b : ℕ) → IsTrue (ancestors_of list a) → IsMate n a b → IsTrue (ancestors_of list b)
+  member-mate a b is mate =
+      let sa = IsSplittable-member a is in
+      let coarse : level_of a < 2 * n = sa.coarse in
+      let level : level_of b ≡ level_of a = mate.level in
+      let sb : IsSplittable n b = record { low = mate.address.low; coarse = omega arith } in
+      ⊎_elim
+      (λ member. member)
+      (λ covered. absurd (not_on_entry a covered.entry is covered.listed
+      (subst (λ m. HasOnEdge n covered.entry m) (sym (middle_mate n a b mate))
+      (edge_above n a b covered.entry b sa sb mate mate.address
+      (λ u. no_entry_above a covered.entry is covered.listed u) covered.under self
+      (middle_on_base n (2 * n - level_of b - 1) b (IsDown-splittable n b sb))))))
+      (member_or_covered b mate.address)
+
+  -- the ancestors of the entries are a closed set
+  pub IsClosed-ancestors_of : IsClosed n (ancestors_of list)
+  IsClosed-ancestors_of = record { splittable = IsSplittable-member; parent = member-parent; mate = member-mate }
+
+  -- leaves
+
+  -- what is known of a leaf of the ancestors
+  record IsEntryLeaf (a : ℕ) : Type 0 where
+    address : IsAddress n a
+    outside : IsTrue (ancestors_of list a) → ⊥
+    parent : 4 ≤ a → IsTrue (ancestors_of list (a / 2))
+
+  -- each leaf is such
+  IsEntryLeaf-leaves : All IsEntryLeaf (leaves_of n (ancestors_of list))
+  IsEntryLeaf-leaves =
+      All-leaves_of n (ancestors_of list) (λ a. 4 ≤ a → IsTrue (ancestors_of list (a / 2))) IsEntryLeaf
+      (λ levels a d is known. (
+      (λ _. let half : 2 * a / 2 ≡ a = omega arith in subst (λ z. IsTrue (ancestors_of list z)) (sym half) is),
+      (λ _. let half : (2 * a + 1) / 2 ≡ a = omega arith in subst (λ z. IsTrue (ancestors_of list z)) (sym half) is),
+      ))
+      (λ levels a d ends known. record {
+        address = IsAddress-down n levels a d;
+        outside = λ is. ⊎_elim
+            (λ none. let h = (IsSplittable-member a is).coarse in let l = d.height in omega arith)
+            (λ other. both_ways (ancestors_of list a) other is)
+            ends;
+        parent = known;
+      })
+      (λ h. absurd (omega arith))
+      (λ h. absurd (omega arith))
+
+  -- each leaf is an entry
+  entry-leaf : (a : ℕ) → IsIn a (leaves_of n (ancestors_of list)) → IsIn a list
+  entry-leaf a h =
+      let leaf = All-contains IsEntryLeaf (leaves_of n (ancestors_of list)) a IsEntryLeaf-leaves (Contains-in a (leaves_of n (ancestors_of list)) h) in
+      ⊎_elim
+      (λ member. absurd (leaf.outside member))
+      (λ covered. entry_itself a covered.entry covered.under covered.listed leaf.parent)
+      (member_or_covered a leaf.address)
+    where
+      entry_itself : (a v : ℕ) → IsUnder v a → IsIn v list → (4 ≤ a → IsTrue (ancestors_of list (a / 2))) → IsIn a list
+      entry_itself a v self in_v parent = in_v
+      entry_itself a v (below b big u) in_v parent = absurd (no_entry_above (b / 2) v (parent big) in_v u)
+
+  -- each entry is a leaf
+  leaf-entry : (a : ℕ) → IsIn a list → IsIn a (leaves_of n (ancestors_of list))
+  leaf-entry a h =
+      let address = IsAddress-entry a h in
+      let s = sample_of n (2 * n - level_of a) a (IsDown-address n a address) in
+      let one : count_by (is_inside n s.0 s.1) (leaves_of n (ancestors_of list)) ≡ 1 = Tiles-leaves_of n (ancestors_of list) s.0 s.1 s.2 in
+      let e = some-count (is_inside n s.0 s.1) (leaves_of n (ancestors_of list)) (omega arith) in
+      let same : e.0 ≡ a = same_entry s.0 s.1 e.0 a s.2 (entry-leaf e.0 e.1) h e.2 s.3 in
+      subst (λ z. IsIn z (leaves_of n (ancestors_of list))) same e.1
+
+  -- an address that tiles is listed once at most
+  once_at_most : (triangles : List ℕ) (a : ℕ) → IsAddress n a → ((x y : ℕ) → IsSample n x y → count_by (is_inside n x y) triangles ≡ 1) →
+      count_by (λ t. eqb t a) triangles ≤ 1
+  once_at_most triangles a address tiles =
+      let s = sample_of n (2 * n - level_of a) a (IsDown-address n a address) in
+      let one : count_by (is_inside n s.0 s.1) triangles ≡ 1 = tiles s.0 s.1 s.2 in
+      let le = count-narrower (λ t. eqb t a) (is_inside n s.0 s.1) triangles
+      (λ t e. subst (λ z. is_inside n s.0 s.1 z ≡ true) (sym (eqb-true t a e)) s.3) in
+      omega arith
+
+  -- the leaves are the entries, each once
+  pub AreLeaves-ancestors_of : AreLeaves n (ancestors_of list) list
+  AreLeaves-ancestors_of a = ⊎_elim
+      (λ none. ⊎_elim
+      (λ nothing. omega arith)
+      (λ some. let e = some-count (λ t. eqb t a) (leaves_of n (ancestors_of list)) some in
+      let listed = entry-leaf e.0 e.1 in let more = count-some (λ t. eqb t a) e.0 list listed e.2 in absurd (omega arith))
+      (cases_lt (count_by (λ t. eqb t a) (leaves_of n (ancestors_of list))) 1))
+      (λ some. let e = some-count (λ t. eqb t a) list some in
+      let leaf = leaf-entry e.0 e.1 in let more = count-some (λ t. eqb t a) e.0 (leaves_of n (ancestors_of list)) leaf e.2 in
+      let address : IsAddress n a = subst (λ z. IsAddress n z) (eqb-true e.0 a e.2) (IsAddress-entry e.0 e.1) in
+      let first = once_at_most (leaves_of n (ancestors_of list)) a address (Tiles-leaves_of n (ancestors_of list)) in
+      let second = once_at_most list a address conforming.tiles in
+      omega arith)
+      (cases_lt (count_by (λ t. eqb t a) list) 1)

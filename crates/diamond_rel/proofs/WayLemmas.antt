@@ -18,7 +18,7 @@ pub data Way : Type 0 where
   south_east : Way
 
 -- the point with these coordinates
-abbrev point : ℕ → ℕ → Point
+abbrev pub point : ℕ → ℕ → Point
 point x y = record { x = x; y = y }
 
 -- q is k steps this way from p
