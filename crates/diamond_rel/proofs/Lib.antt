@@ -3,4 +3,5 @@ pub mod TurnLemmas
 pub mod DescentLemmas
 pub mod ConformityLemmas
 pub mod ListLemmas
+pub mod MemberLemmas
 pub mod ConverseLemmas

@@ -1,1 +1,3 @@
 pub mod Ancestors
+pub mod GridSet
+pub mod Forcing

@@ -2,10 +2,4 @@
 
 #![tactic(auto)]
 
-ghost use Rattle.std.specs.Prelude.{◌≡◌};
-
-pub fn probe(x: u32) -> u32
-    ensures { result ≡ x }
-{
-    x
-}
+mod members;
