@@ -3,5 +3,6 @@ pub mod TurnLemmas
 pub mod DescentLemmas
 pub mod ConformityLemmas
 pub mod ListLemmas
+pub mod ForcingLemmas
 pub mod MemberLemmas
 pub mod ConverseLemmas

@@ -2,4 +2,9 @@
 
 #![tactic(auto)]
 
+mod forcing;
+mod leaves;
 mod members;
+mod split;
+
+pub use split::Split;
