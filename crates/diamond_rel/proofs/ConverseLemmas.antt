@@ -53,7 +53,7 @@ above-under a e low big u =
 -- levels
 
 -- 2 and 3 have level 0, the others a parent of the level before
-level_of-first : (a : ℕ) → 2 ≤ a → a < 4 → level_of a ≡ 0
+pub level_of-first : (a : ℕ) → 2 ≤ a → a < 4 → level_of a ≡ 0
 level_of-first a low high = let h : level_of a < 1 = (level_of-below a 1 low).1 high in omega arith
 
 first-level_of : (a : ℕ) → 2 ≤ a → level_of a ≡ 0 → a < 4
@@ -266,7 +266,7 @@ edge_of_right n levels a m d h = at h.from h.to (subst (λ c. IsEdge c h.from h.
     }
 
 -- nothing lies below both children
-not_below_both : (n levels a b : ℕ) → IsDown n (suc levels) a → IsAddress n b → IsUnder (2 * a) b → IsUnder (2 * a + 1) b → ⊥
+pub not_below_both : (n levels a b : ℕ) → IsDown n (suc levels) a → IsAddress n b → IsUnder (2 * a) b → IsUnder (2 * a + 1) b → ⊥
 not_below_both n levels a b d address u v =
     let s = sample_of n (2 * n - level_of b) b (IsDown-address n b address) in
     not_both_children n levels a s.0 s.1 d s.2

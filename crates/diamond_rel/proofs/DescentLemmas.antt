@@ -1,5 +1,5 @@
 -- Down the bintree: levels and addresses below a triangle, samples in it, and what holds of leaves.
-use Rattle.std.proofs.Common.{◌≡◌, ℕ, zero, suc, ◌+◌, ◌-◌, ◌*◌, ◌/◌, ◌%◌, ◌^◌, ◌<◌, ◌≤◌, ◌⊎◌, inl, inr, Bool, true, false, cond, List, [], ◌∷◌, ◌++◌, All, Contains, IsTrue, refl, sym, ◌∙◌, ap, subst, arith, ⊎_elim, pow_mono, pow-add, count_by}
+use Rattle.std.proofs.Common.{◌≡◌, ℕ, zero, suc, ◌+◌, ◌-◌, ◌*◌, ◌/◌, ◌%◌, ◌^◌, ◌<◌, ◌≤◌, ◌⊎◌, inl, inr, Bool, true, false, cond, List, [], ◌∷◌, ◌++◌, All, Contains, IsTrue, refl, sym, ◌∙◌, ap, ap₂, append_assoc, subst, arith, ⊎_elim, pow_mono, pow-add, count_by}
 use Rattle.std.proofs.lemmas.Bool.{false≢true}
 use Rattle.std.proofs.lemmas.List.Elements.{All-cons, All-nil, All-append}
 use Rattle.std.proofs.lemmas.List.Sums.{sum_by-append}
@@ -201,3 +201,13 @@ Tiles-leaves_of n has x y s =
     let upper = count-leaves_under n x y has s (2 * n) 3 (IsDown-3 n) in
     let one = one_base n x y s in
     sum_by-append (λ t. cond (is_inside n x y t) 1 0) (leaves_under (2 * n) has 2) (leaves_under (2 * n) has 3) ∙ omega arith
+
+-- all leaves, after others
+pub append-leaves_of : (n : ℕ) (has : ℕ → Bool) (out first second : List ℕ) (lower upper : ℕ) → lower ≡ 2 → upper ≡ 3 →
+    first ≡ out ++ leaves_under (2 * n) has lower → second ≡ first ++ leaves_under (2 * n) has upper → second ≡ out ++ leaves_of n has
+unfolding leaves_of
+append-leaves_of n has out first second lower upper two three f g =
+    let left : leaves_under (2 * n) has lower ≡ leaves_under (2 * n) has 2 = ap (leaves_under (2 * n) has) two in
+    let right : leaves_under (2 * n) has upper ≡ leaves_under (2 * n) has 3 = ap (leaves_under (2 * n) has) three in
+    g ∙ ap₂ (λ (x y : List ℕ). x ++ y) (f ∙ ap (λ (x : List ℕ). out ++ x) left) right
+    ∙ append_assoc out (leaves_under (2 * n) has 2) (leaves_under (2 * n) has 3)

@@ -6,3 +6,4 @@ pub mod ListLemmas
 pub mod ForcingLemmas
 pub mod MemberLemmas
 pub mod ConverseLemmas
+pub mod SizeLemmas
