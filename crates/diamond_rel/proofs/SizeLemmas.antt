@@ -3,13 +3,12 @@ use Rattle.std.proofs.Common.{◌≡◌, ℕ, zero, suc, ◌+◌, ◌-◌, ◌*�
 use Rattle.std.proofs.lemmas.Bool.{cases_lt, cases_Bool, false≢true, or_cases, or_left, or_right, eqb-true, false_from_ne_true}
 use Rattle.std.proofs.lemmas.List.Elements.{All-contains, All-head, All-tail}
 use Rattle.mesh_defs.specs.Triangle.{level_of, IsAddress, IsSplittable}
-use Rattle.mesh_defs.specs.ClosedSet.{IsClosed, leaves_under, leaves_of, among}
+use Rattle.mesh_defs.specs.ClosedSet.{IsClosed, IsLeastClosed, leaves_under, leaves_of, among}
 use Rattle.mesh_defs.specs.Tiling.{is_inside}
 use Rattle.mesh_defs.proofs.LevelLemmas.{splittable-below, level-le}
 use Rattle.bintree_addr.proofs.LevelLemmas.{level_of-left, level_of-right}
 use Rattle.diamond_rel.specs.Ancestors.{is_above}
 use Rattle.diamond_rel.specs.GridSet.{IsAscending, IsGridSet}
-use Rattle.diamond_rel.specs.Forcing.{IsGrown}
 use Rattle.diamond_rel.proofs.TurnLemmas.{one_if}
 use Rattle.diamond_rel.proofs.DescentLemmas.{IsDown, IsDown-left, IsDown-right, IsDown-2, IsDown-3, IsDown-address, IsAddress-down, IsAddress-splittable, one_if-true, one_if-le, true-one_if, one_base, sample_of}
 use Rattle.diamond_rel.proofs.ConformityLemmas.{IsUnder, self, below, IsUnder-left, IsUnder-right, member_above}
@@ -36,9 +35,10 @@ length-members n members g =
     omega arith
 
 -- and so after a forced split
-pub length-grown : (n : ℕ) (before : List ℕ) (t : ℕ) (after : List ℕ) → 1 ≤ n → n ≤ 11 → IsGrown n before t after → length after ≤ 2 ^ 24
-length-grown n before t after low high g =
-    length-members n after record { n_low = low; n_high = high; ascending = g.forced.ascending; closed = g.forced.least.closed }
+pub length-grown : (n : ℕ) (wanted : ℕ → Bool) (after : List ℕ) → 1 ≤ n → n ≤ 11 → IsAscending after → IsLeastClosed n wanted (among after) →
+    length after ≤ 2 ^ 24
+length-grown n wanted after low high o least =
+    length-members n after record { n_low = low; n_high = high; ascending = o; closed = least.closed }
 
 -- an entry of an ascending list is there once
 

@@ -1,10 +1,11 @@
 //! Forced splits: the least closed set that also has a triangle.
 
-ghost use Rattle.std.specs.Prelude.{ℕ, ◌≤◌, OnOk};
+ghost use Rattle.std.specs.Prelude.{◌≤◌, OnOk, length};
 ghost use Rattle.mesh_defs.specs.Triangle.{IsSplittable};
-ghost use Rattle.mesh_defs.specs.ClosedSet.{IsClosed, among};
+ghost use Rattle.mesh_defs.specs.ClosedSet.{IsClosed, IsLeastClosed, among};
+ghost use Rattle.mesh_defs.specs.Greedy.{with_triangle};
 ghost use Rattle.diamond_rel.specs.GridSet.{IsAscending};
-ghost use Rattle.diamond_rel.specs.Forcing.{IsPrepared, IsGrown};
+ghost use Rattle.diamond_rel.specs.Forcing.{IsPrepared};
 
 use crate::members::{contains, insert};
 use bintree_addr::Tri;
@@ -21,7 +22,9 @@ pub fn force(members: &mut Vec<Tri>, n: u32, t: Tri) -> Result<(), NoMemory>
     requires splittable { IsSplittable n t }
     requires ascending { IsAscending members.old.items }
     requires closed { IsClosed n (among members.old.items) }
-    ensures { OnOk result (IsGrown n members.old.items t members.new.items) }
+    ensures ascending { OnOk result (IsAscending members.new.items) }
+    ensures least { OnOk result (IsLeastClosed n (with_triangle (among members.old.items) t) (among members.new.items)) }
+    ensures longer { OnOk result (length members.old.items ≤ length members.new.items) }
 {
     if contains(members, t) {
         return Ok(());
@@ -48,7 +51,9 @@ fn force_parent(members: &mut Vec<Tri>, n: u32, t: Tri) -> Result<(), NoMemory>
     requires splittable { IsSplittable n t }
     requires ascending { IsAscending members.old.items }
     requires closed { IsClosed n (among members.old.items) }
-    ensures { OnOk result (IsPrepared n members.old.items t members.new.items) }
+    ensures ascending { OnOk result (IsAscending members.new.items) }
+    ensures prepared { OnOk result (IsPrepared n (among members.old.items) (among members.new.items) t) }
+    ensures longer { OnOk result (length members.old.items ≤ length members.new.items) }
 {
     match t.parent() {
         None => Ok(()),
