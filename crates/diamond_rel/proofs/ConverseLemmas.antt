@@ -80,7 +80,7 @@ parent_down n a address big =
     let e = level_of-parent a big in let fits : level_of a ≤ 2 * n = level-le n a address in
     record { low = omega arith; height = omega arith }
 
-IsAddress-parent : (n a : ℕ) → IsAddress n a → 4 ≤ a → IsAddress n (a / 2)
+pub IsAddress-parent : (n a : ℕ) → IsAddress n a → 4 ≤ a → IsAddress n (a / 2)
 IsAddress-parent n a address big = IsAddress-down n (suc (2 * n - level_of a)) (a / 2) (parent_down n a address big)
 
 -- samples and levels
@@ -90,7 +90,7 @@ halves : (a : ℕ) → (a ≡ 2 * (a / 2)) ⊎ (a ≡ 2 * (a / 2) + 1)
 halves a = ⊎_elim (λ even. inl (omega arith)) (λ odd. inr (omega arith)) (cases_lt (a % 2) 1)
 
 -- inside a triangle is inside its parent
-is_inside-up : (n a x y : ℕ) → IsAddress n a → 4 ≤ a → IsSample n x y → is_inside n x y a ≡ true → is_inside n x y (a / 2) ≡ true
+pub is_inside-up : (n a x y : ℕ) → IsAddress n a → 4 ≤ a → IsSample n x y → is_inside n x y a ≡ true → is_inside n x y (a / 2) ≡ true
 is_inside-up n a x y address big s h =
     let d = parent_down n a address big in ⊎_elim
     (λ left. is_inside-left n (2 * n - level_of a) (a / 2) x y d s (subst (λ z. is_inside n x y z ≡ true) left h))
@@ -369,13 +369,13 @@ module _ (n : ℕ) (list : List ℕ) (conforming : IsConforming n list) where
       omega arith
 
   -- an entry at or above a
-  record IsCovered (a : ℕ) : Type 0 where
-    entry : ℕ
-    listed : IsIn entry list
-    under : IsUnder entry a
+  pub record IsCovered (a : ℕ) : Type 0 where
+    pub entry : ℕ
+    pub listed : IsIn entry list
+    pub under : IsUnder entry a
 
   -- each address is a member or has an entry at or above it
-  member_or_covered : (a : ℕ) → IsAddress n a → IsTrue (ancestors_of list a) ⊎ IsCovered a
+  pub member_or_covered : (a : ℕ) → IsAddress n a → IsTrue (ancestors_of list a) ⊎ IsCovered a
   member_or_covered a address =
       let s = sample_of n (2 * n - level_of a) a (IsDown-address n a address) in
       let one : count_by (is_inside n s.0 s.1) list ≡ 1 = conforming.tiles s.0 s.1 s.2 in

@@ -7,3 +7,4 @@ pub mod ForcingLemmas
 pub mod MemberLemmas
 pub mod ConverseLemmas
 pub mod SizeLemmas
+pub mod ClosureLemmas

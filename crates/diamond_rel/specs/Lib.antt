@@ -1,3 +1,4 @@
 pub mod Ancestors
 pub mod GridSet
 pub mod Forcing
+pub mod Falling
