@@ -8,3 +8,4 @@ pub mod MemberLemmas
 pub mod ConverseLemmas
 pub mod SizeLemmas
 pub mod ClosureLemmas
+pub mod RankLemmas
