@@ -315,3 +315,129 @@ module _ (n : ℕ) (priority : ℕ → ℕ) (ranking : List ℕ) (ranked : IsRan
       let same = (IsRankClosure-unique n budget ranking m.0 chosen has has (closure-missing budget has low end m) closure).0 in
       subst (λ i. IsFirstLeaf n priority has (get_or ranking i 0)) same (missing_first has closure.closure.closed m))
       (first_missing has ranking (length ranking) (omega arith))
+
+  -- the best mesh
+
+  -- what lies below has no greater priority
+  priority-under : (v u : ℕ) → IsAddress n u → IsUnder v u → priority u ≤ priority v
+  priority-under v u address self = omega arith
+  priority-under v u address (below w big k) =
+      let falls = falling.child w address big in
+      let rest : priority (w / 2) ≤ priority v = priority-under v (w / 2) (IsAddress-parent n w address big) k in omega arith
+
+  -- no leaf has a greater priority than the first missing entry
+  leaf-le : (has : ℕ → Bool) → IsClosed n has → (m : HasMissing has ranking) → (a : ℕ) → IsIn a (leaves_of n has) → priority a ≤ priority (get_or ranking m.0 0)
+  leaf-le has closed m a leaf = ⊎_elim
+      (λ none. omega arith)
+      (λ some. ⊎_elim
+      (λ same. let e = ap priority same in omega arith)
+      (λ other. no_less (get_or ranking m.0 0) ((missing_first has closed m).first a (Contains-in a (leaves_of n has) leaf) some (λ e. other (sym e))))
+      (cases_eq (get_or ranking m.0 0) a))
+      (cases_lt (priority a) 1)
+    where
+      no_less : (t : ℕ) → RanksBefore priority t a → priority a ≤ priority t
+      no_less t (inl h) = omega arith
+      no_less t (inr h) = omega arith
+
+  -- where none is missing, each leaf has priority 0
+  leaf-none : (has : ℕ → Bool) → IsClosed n has → HoldsBelow has ranking (length ranking) → (a : ℕ) → IsIn a (leaves_of n has) → priority a ≤ 0
+  leaf-none has closed all a leaf =
+      let outer = All-contains (IsOuter n has) (leaves_of n has) a (IsOuter-leaves_of n has closed) (Contains-in a (leaves_of n has) leaf) in
+      ⊎_elim
+      (λ none. omega arith)
+      (λ some. let p = place_of a outer.address some in absurd (outer.outside (subst (λ z. IsTrue (has z)) p.2 (all p.0 p.1 p.1))))
+      (cases_lt (priority a) 1)
+
+  -- the worst of a list, by its entries
+  worst-le : (bound : ℕ) (xs : List ℕ) → ((a : ℕ) → IsIn a xs → priority a ≤ bound) → worst_of priority xs ≤ bound
+  worst-le bound [] h = omega arith
+  worst-le bound (x ∷ xs) h =
+      let first = h x (inl refl) in
+      let rest : worst_of priority xs ≤ bound = worst-le bound xs (λ a k. h a (inr k)) in omega arith
+
+  le-worst : (a : ℕ) (xs : List ℕ) → IsIn a xs → priority a ≤ worst_of priority xs
+  le-worst a [] h = absurd h
+  le-worst a (x ∷ xs) (inl e) = let f : priority x ≡ priority a = ap priority e in omega arith
+  le-worst a (x ∷ xs) (inr h) = let rest : priority a ≤ worst_of priority xs = le-worst a xs h in omega arith
+
+  -- a conforming list whose worst is less than an entry has all up to it split
+  front_split : (others : List ℕ) → IsConforming n others → (j : ℕ) → j < length ranking → worst_of priority others < priority (get_or ranking j 0) →
+      IsSubset (among (take (j + 1) ranking)) (ancestors_of others)
+  front_split others conforming j within better a h =
+      let r = in_front (j + 1) a ranking (IsIn-among a (take (j + 1) ranking) h) in
+      let e = entry r.0 r.2 in
+      let u : ℕ = get_or ranking r.0 0 in
+      let high : priority (get_or ranking j 0) ≤ priority (get_or ranking r.0 0) = ⊎_elim
+          (λ less. no_less r.0 (ranked.ordered r.0 j 0 less within))
+          (λ last. let f : priority (get_or ranking r.0 0) ≡ priority (get_or ranking j 0) = ap (λ i. priority (get_or ranking i 0)) (let g : r.0 ≡ j = (let b = r.1 in omega arith) in g) in omega arith)
+          (cases_lt r.0 j) in
+      subst (λ z. IsTrue (ancestors_of others z)) r.3
+      (⊎_elim
+      (λ member. member)
+      (λ (c : IsCovered n others conforming (get_or ranking r.0 0)).
+      let over = priority-under c.entry (get_or ranking r.0 0) (IsAddress-splittable n (get_or ranking r.0 0) e.0) c.under in
+      let worst = le-worst c.entry others c.listed in absurd (omega arith))
+      (member_or_covered n others conforming (get_or ranking r.0 0) (IsAddress-splittable n (get_or ranking r.0 0) e.0)))
+    where
+      no_less : (i : ℕ) → RanksBefore priority (get_or ranking i 0) (get_or ranking j 0) → priority (get_or ranking j 0) ≤ priority (get_or ranking i 0)
+      no_less i (inl h) = omega arith
+      no_less i (inr h) = omega arith
+
+  -- no conforming list within the budget has a lower worst
+  optimal : (budget : ℕ) (has : ℕ → Bool) → 2 ≤ budget → IsGreedyEnd n budget priority has → (others : List ℕ) → IsConforming n others →
+      length others ≤ budget → worst_of priority (leaves_of n has) ≤ worst_of priority others
+  optimal budget has low end others conforming short =
+      let closure = IsRankClosure-greedy budget has low end in
+      let closed : IsClosed n has = closure.1.closure.closed in
+      ⊎_elim
+      (λ (all : HoldsBelow has ranking (length ranking)). let none = worst-le 0 (leaves_of n has) (leaf-none has closed all) in omega arith)
+      (λ (m : HasMissing has ranking).
+      let top = worst-le (priority (get_or ranking m.0 0)) (leaves_of n has) (leaf-le has closed m) in
+      ⊎_elim
+      (λ better.
+      let at = closure-missing budget has low end m in
+      let next = closure_of n has (get_or ranking m.0 0) closed (entry m.0 m.1).0 in
+      let over = end.stops next.0 record { split = (get_or ranking m.0 0, missing_first has closed m, next.1) } in
+      let step = front-next n ranking has next.0 m.0 m.1 at.closure next.1 in
+      let sub = step.least (ancestors_of others) (IsClosed-ancestors_of n others conforming) (front_split others conforming m.0 m.1 better) in
+      let count = leaves_of-more n next.0 (ancestors_of others) sub in
+      let same = length-counts (leaves_of n (ancestors_of others)) others (AreLeaves-ancestors_of n others conforming) in
+      absurd (omega arith))
+      (λ worse. omega arith)
+      (cases_lt (worst_of priority others) (priority (get_or ranking m.0 0))))
+      (first_missing has ranking (length ranking) (omega arith))
+
+  -- the leaves at the end of greedy refinement are the best mesh
+  pub IsBestMesh-greedy : (budget : ℕ) (has : ℕ → Bool) → 2 ≤ budget → IsGreedyEnd n budget priority has → IsBestMesh n budget priority (leaves_of n has)
+  IsBestMesh-greedy budget has low end =
+      let closure = IsRankClosure-greedy budget has low end in
+      record {
+        conforming = IsConforming-leaves_of n has closure.1.closure.closed;
+        within = closure.1.fits;
+        optimal = optimal budget has low end;
+        greedy = record {
+          ranking = ranking;
+          chosen = closure.0;
+          has = has;
+          ranked = ranked;
+          closure = closure.1;
+          refined = end;
+          leaves = refl;
+        };
+      }
+
+-- a blocking triangle and its need are determined
+pub IsBlockedBy-unique : (n : ℕ) (ranking : List ℕ) (chosen a b need other : ℕ) → IsBlockedBy n ranking chosen a need → IsBlockedBy n ranking chosen b other →
+    (a ≡ b) × (need ≡ other)
+IsBlockedBy-unique n ranking chosen a b need other p q =
+    let first = p.next in let second = q.next in
+    let same : a ≡ b = cc in (
+      same,
+      p.counted.2 ∙ ap length (leaves_of-same n p.counted.0 q.counted.0
+          (IsLeastClosed-unique n (among (take (chosen + 1) ranking)) p.counted.0 q.counted.0 p.counted.1 q.counted.1)) ∙ sym q.counted.2,
+    )
+
+-- for every falling priority
+pub IsBestMesh-end : (n budget : ℕ) (priority : ℕ → ℕ) (has : ℕ → Bool) → IsFalling n priority → 2 ≤ budget → IsGreedyEnd n budget priority has →
+    IsBestMesh n budget priority (leaves_of n has)
+IsBestMesh-end n budget priority has falling = IsBestMesh-greedy n priority (ranking_of n priority) (IsRanking-of n priority) falling budget has

@@ -3,8 +3,10 @@
 #![tactic(auto)]
 
 mod forcing;
+mod laws;
 mod leaves;
 mod members;
 mod split;
 
+pub use laws::{closure_laws, greedy_laws, member_laws, rank_laws};
 pub use split::Split;
