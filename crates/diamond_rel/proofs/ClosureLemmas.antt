@@ -9,10 +9,10 @@ use Rattle.mesh_defs.specs.Greedy.{with_triangle}
 use Rattle.bintree_addr.proofs.LevelLemmas.{level_of-parent}
 use Rattle.bintree_addr.proofs.CentreLemmas.{border_or_mate, not_border_and_mate}
 use Rattle.diamond_rel.specs.Forcing.{IsPrepared}
-use Rattle.diamond_rel.proofs.DescentLemmas.{IsDown, IsDown-left, IsDown-right, IsDown-address, IsAddress-down, IsAddress-splittable, sample_of, All-leaves_of, Tiles-leaves_of}
-use Rattle.diamond_rel.proofs.ConformityLemmas.{IsUnder, self, below, member_above}
-use Rattle.diamond_rel.proofs.ListLemmas.{IsIn, Contains-in, some-count}
-use Rattle.diamond_rel.proofs.ConverseLemmas.{IsUnder-sample, is_inside-up, IsAddress-parent, level_of-first}
+use Rattle.tiling_laws.proofs.DescentLemmas.{IsDown, IsDown-left, IsDown-right, IsDown-address, IsAddress-down, IsAddress-splittable, sample_of, All-leaves_of, Tiles-leaves_of}
+use Rattle.tiling_laws.proofs.ConformityLemmas.{IsUnder, self, below, member_above}
+use Rattle.tiling_laws.proofs.ListLemmas.{IsIn, Contains-in, some-count}
+use Rattle.tiling_laws.proofs.ConverseLemmas.{IsUnder-sample, is_inside-up, IsAddress-parent, level_of-first}
 use Rattle.diamond_rel.proofs.ForcingLemmas.{IsLeastClosed-member, IsPrepared-base, IsPrepared-parent, IsLeastClosed-single, IsLeastClosed-pair}
 
 -- unique and monotone

@@ -6,7 +6,7 @@ use Rattle.mesh_defs.specs.ClosedSet.{IsClosed, IsSubset, IsLeastClosed}
 use Rattle.mesh_defs.specs.Greedy.{with_triangle}
 use Rattle.bintree_addr.proofs.CentreLemmas.{mate_unique, mate_symmetric}
 use Rattle.diamond_rel.specs.Forcing.{IsPrepared}
-use Rattle.diamond_rel.proofs.DescentLemmas.{IsAddress-splittable}
+use Rattle.tiling_laws.proofs.DescentLemmas.{IsAddress-splittable}
 
 -- a set and one more
 

@@ -1,11 +1,5 @@
-pub mod WayLemmas
-pub mod TurnLemmas
-pub mod DescentLemmas
-pub mod ConformityLemmas
-pub mod ListLemmas
 pub mod ForcingLemmas
 pub mod MemberLemmas
-pub mod ConverseLemmas
 pub mod SizeLemmas
 pub mod ClosureLemmas
 pub mod RankLemmas

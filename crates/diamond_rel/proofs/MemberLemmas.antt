@@ -10,7 +10,7 @@ use Rattle.std.specs.Ordering.{nat_cmp}
 use Rattle.mesh_defs.specs.ClosedSet.{among}
 use Rattle.mesh_defs.specs.Greedy.{with_triangle}
 use Rattle.diamond_rel.specs.GridSet.{IsAscending, IsGain}
-use Rattle.diamond_rel.proofs.ListLemmas.{IsIn, IsIn-among, among-in, Contains-in}
+use Rattle.tiling_laws.proofs.ListLemmas.{IsIn, IsIn-among, among-in, Contains-in}
 use Rattle.diamond_rel.proofs.ClosureLemmas.{IsLeastClosed-unique}
 
 -- places

@@ -12,12 +12,12 @@ use Rattle.mesh_defs.specs.BestMesh.{IsGreedyMesh, IsBestMesh}
 use Rattle.mesh_defs.proofs.LevelLemmas.{level-le}
 use Rattle.mesh_defs.proofs.RankingLemmas.{ranking_of, IsRanking-of}
 use Rattle.bintree_addr.proofs.LevelLemmas.{level_of-parent}
-use Rattle.diamond_rel.specs.Ancestors.{ancestors_of}
+use Rattle.tiling_laws.specs.Ancestors.{ancestors_of}
 use Rattle.diamond_rel.specs.Falling.{IsFalling}
-use Rattle.diamond_rel.proofs.DescentLemmas.{IsAddress-splittable}
-use Rattle.diamond_rel.proofs.ConformityLemmas.{IsUnder, self, below, IsConforming-leaves_of}
-use Rattle.diamond_rel.proofs.ListLemmas.{IsIn, IsIn-contains, Contains-in, IsIn-among, among-in, length-counts}
-use Rattle.diamond_rel.proofs.ConverseLemmas.{IsCovered, member_or_covered, IsClosed-ancestors_of, AreLeaves-ancestors_of, IsAddress-parent}
+use Rattle.tiling_laws.proofs.DescentLemmas.{IsAddress-splittable}
+use Rattle.tiling_laws.proofs.ConformityLemmas.{IsUnder, self, below, IsConforming-leaves_of}
+use Rattle.tiling_laws.proofs.ListLemmas.{IsIn, IsIn-contains, Contains-in, IsIn-among, among-in, length-counts}
+use Rattle.tiling_laws.proofs.ConverseLemmas.{IsCovered, member_or_covered, IsClosed-ancestors_of, AreLeaves-ancestors_of, IsAddress-parent}
 use Rattle.diamond_rel.proofs.ForcingLemmas.{with-cases, with-old, with-new}
 use Rattle.diamond_rel.proofs.ClosureLemmas.{IsSubset-closures, IsLeastClosed-unique, closure_of, leaves_of-same, leaves_of-more, leaves_of-none, IsOuter, IsOuter-leaves_of, leaf-outer}
 
@@ -401,7 +401,7 @@ module _ (n : ℕ) (priority : ℕ → ℕ) (ranking : List ℕ) (ranked : IsRan
       let step = front-next n ranking has next.0 m.0 m.1 at.closure next.1 in
       let sub = step.least (ancestors_of others) (IsClosed-ancestors_of n others conforming) (front_split others conforming m.0 m.1 better) in
       let count = leaves_of-more n next.0 (ancestors_of others) sub in
-      let same = length-counts (leaves_of n (ancestors_of others)) others (AreLeaves-ancestors_of n others conforming) in
+      let same = length-counts (leaves_of n (ancestors_of others)) others (AreLeaves-ancestors_of n others conforming).counts in
       absurd (omega arith))
       (λ worse. omega arith)
       (cases_lt (worst_of priority others) (priority (get_or ranking m.0 0))))

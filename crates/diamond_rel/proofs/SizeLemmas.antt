@@ -7,13 +7,13 @@ use Rattle.mesh_defs.specs.ClosedSet.{IsClosed, IsLeastClosed, leaves_under, lea
 use Rattle.mesh_defs.specs.Tiling.{is_inside}
 use Rattle.mesh_defs.proofs.LevelLemmas.{splittable-below, level-le}
 use Rattle.bintree_addr.proofs.LevelLemmas.{level_of-left, level_of-right}
-use Rattle.diamond_rel.specs.Ancestors.{is_above}
+use Rattle.tiling_laws.specs.Ancestors.{is_above}
 use Rattle.diamond_rel.specs.GridSet.{IsAscending, IsGridSet}
-use Rattle.diamond_rel.proofs.TurnLemmas.{one_if}
-use Rattle.diamond_rel.proofs.DescentLemmas.{IsDown, IsDown-left, IsDown-right, IsDown-2, IsDown-3, IsDown-address, IsAddress-down, IsAddress-splittable, one_if-true, one_if-le, true-one_if, one_base, sample_of}
-use Rattle.diamond_rel.proofs.ConformityLemmas.{IsUnder, self, below, IsUnder-left, IsUnder-right, member_above}
-use Rattle.diamond_rel.proofs.ListLemmas.{IsIn, IsIn-among, among-in, Contains-in, count-cons, count-yes, count-some, some-count}
-use Rattle.diamond_rel.proofs.ConverseLemmas.{under-above, above-under, level-under, not_below_both, is_inside-under, IsUnder-sample, level_of-first}
+use Rattle.tiling_laws.proofs.TurnLemmas.{one_if}
+use Rattle.tiling_laws.proofs.DescentLemmas.{IsDown, IsDown-left, IsDown-right, IsDown-2, IsDown-3, IsDown-address, IsAddress-down, IsAddress-splittable, one_if-true, one_if-le, true-one_if, one_base, sample_of}
+use Rattle.tiling_laws.proofs.ConformityLemmas.{IsUnder, self, below, IsUnder-left, IsUnder-right, member_above}
+use Rattle.tiling_laws.proofs.ListLemmas.{IsIn, IsIn-among, among-in, Contains-in, count-cons, count-yes, count-some, some-count}
+use Rattle.tiling_laws.proofs.ConverseLemmas.{under-above, above-under, level-under, not_below_both, is_inside-under, IsUnder-sample, level_of-first}
 
 -- how long an ascending list can be
 

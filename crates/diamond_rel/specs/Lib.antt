@@ -1,4 +1,3 @@
-pub mod Ancestors
 pub mod GridSet
 pub mod Forcing
 pub mod Falling

@@ -4,7 +4,7 @@ ghost use Rattle.std.specs.Prelude.{◌≡◌, ℕ, ◌+◌, ◌≤◌, List, []
 ghost use Rattle.mesh_defs.specs.Triangle.{IsSplittable};
 ghost use Rattle.mesh_defs.specs.Tiling.{IsConforming};
 ghost use Rattle.mesh_defs.specs.ClosedSet.{IsClosed, leaves_of, among};
-ghost use Rattle.diamond_rel.specs.Ancestors.{ancestors_of, AreLeaves};
+ghost use Rattle.tiling_laws.specs.Ancestors.{ancestors_of, AreLeaves};
 ghost use Rattle.diamond_rel.specs.GridSet.{IsGridSet, IsForced, IsGain};
 
 use crate::forcing::force;
@@ -14,6 +14,7 @@ use bintree_addr::Tri;
 use roam_edge::NoMemory;
 use std::alloc::Global;
 use std::marker::Model;
+use tiling_laws::conformity_laws;
 
 /// The triangles that are split: with each its parent, and its mate where it has one.
 ///
@@ -116,6 +117,7 @@ impl Split {
         ensures same_count { (others : List ℕ) → IsConforming self.now.n others
             → length (leaves_of self.now.n (ancestors_of others)) ≡ length others }
     {
+        conformity_laws();
         let mut leaves = Vec::new(alloc);
         push_all_leaves(&self.members, self.n, &mut leaves)?;
         Ok(leaves)

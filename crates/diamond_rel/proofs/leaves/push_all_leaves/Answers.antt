@@ -1,6 +1,6 @@
 -- The leaves below 2, and then those below 3.
 use Rattle.mesh_defs.specs.ClosedSet.{among}
-use Rattle.diamond_rel.proofs.DescentLemmas.{append-leaves_of}
+use Rattle.tiling_laws.proofs.DescentLemmas.{append-leaves_of}
 use Rattle.diamond_rel.proofs.leaves.push_all_leaves.Goals as goal
 
 pub returns : goal.returns

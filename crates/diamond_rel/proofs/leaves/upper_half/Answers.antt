@@ -1,7 +1,7 @@
 -- The level of 3 is that of a base triangle.
 use Rattle.std.proofs.Common.{◌≡◌, ◌∙◌, ap, arith, rules}
 use Rattle.mesh_defs.specs.Triangle.{level_of}
-use Rattle.diamond_rel.proofs.ConverseLemmas.{level_of-first}
+use Rattle.tiling_laws.proofs.ConverseLemmas.{level_of-first}
 use Rattle.diamond_rel.proofs.leaves.upper_half.Goals as goal
 
 pub returns-clause-level : goal.returns-clause-level

@@ -7,7 +7,7 @@ use Rattle.mesh_defs.specs.Triangle.{midpoint, base_triangle, child, corners_at}
 use Rattle.mesh_defs.specs.Tiling.{IsSample, is_left, is_within}
 use Rattle.bintree_addr.specs.Corners.{IsWithin}
 use Rattle.mesh_defs.proofs.LevelLemmas.{pow-twice}
-use Rattle.diamond_rel.proofs.WayLemmas.{Way, east, north_east, north, north_west, west, south_west, south, south_east, IsRun, IsBeside, IsBeside-left, IsLeft-beside, IsRun-first_half, IsRun-second_half}
+use Rattle.tiling_laws.proofs.WayLemmas.{Way, east, north_east, north, north_west, west, south_west, south, south_east, IsRun, IsBeside, IsBeside-left, IsLeft-beside, IsRun-first_half, IsRun-second_half}
 
 -- a quarter turn to the left
 abbrev pub quarter : Way → Way

@@ -11,12 +11,12 @@ use Rattle.mesh_defs.proofs.LevelLemmas.{level-le}
 use Rattle.bintree_addr.proofs.LevelLemmas.{level_of-left, level_of-right, level_of-parent, level_of-below}
 use Rattle.bintree_addr.proofs.CornerLemmas.{corners_of-left, corners_of-right}
 use Rattle.bintree_addr.proofs.CentreLemmas.{same_centre, mate_unique, mate_symmetric}
-use Rattle.diamond_rel.specs.Ancestors.{halves_to, is_above, ancestors_of, AreLeaves}
-use Rattle.diamond_rel.proofs.WayLemmas.{Way, point, IsRun, IsInside, IsInside-between, IsStrictlyBetween-inside, IsRun-first_half, IsRun-second_half, IsInside-first_half, IsInside-second_half, IsInside-middle}
-use Rattle.diamond_rel.proofs.TurnLemmas.{three, IsTurned, leg, IsRun-base, one_if}
-use Rattle.diamond_rel.proofs.DescentLemmas.{IsDown, IsDown-left, IsDown-right, IsDown-address, IsDown-splittable, IsAddress-level, IsAddress-down, IsAddress-splittable, IsSplittable-down, forked_of, one_child_of, one_if-true, one_if-le, is_inside-left, is_inside-right, sample_of, one_base, All-leaves_of, Tiles-leaves_of}
-use Rattle.diamond_rel.proofs.ConformityLemmas.{IsUnder, self, below, IsUnder-up, IsUnder-left, IsUnder-right, member_above, middle, between_ends, point_on_edge}
-use Rattle.diamond_rel.proofs.ListLemmas.{IsIn, IsIn-contains, Contains-in, Any-in, list_any-in, count-some, some-count, one_entry, count-narrower}
+use Rattle.tiling_laws.specs.Ancestors.{halves_to, is_above, ancestors_of, AreLeaves}
+use Rattle.tiling_laws.proofs.WayLemmas.{Way, point, IsRun, IsInside, IsInside-between, IsStrictlyBetween-inside, IsRun-first_half, IsRun-second_half, IsInside-first_half, IsInside-second_half, IsInside-middle}
+use Rattle.tiling_laws.proofs.TurnLemmas.{three, IsTurned, leg, IsRun-base, one_if}
+use Rattle.tiling_laws.proofs.DescentLemmas.{IsDown, IsDown-left, IsDown-right, IsDown-address, IsDown-splittable, IsAddress-level, IsAddress-down, IsAddress-splittable, IsSplittable-down, forked_of, one_child_of, one_if-true, one_if-le, is_inside-left, is_inside-right, sample_of, one_base, All-leaves_of, Tiles-leaves_of}
+use Rattle.tiling_laws.proofs.ConformityLemmas.{IsUnder, self, below, IsUnder-up, IsUnder-left, IsUnder-right, member_above, middle, between_ends, point_on_edge}
+use Rattle.tiling_laws.proofs.ListLemmas.{IsIn, IsIn-contains, Contains-in, Any-in, list_any-in, count-some, some-count, one_entry, count-narrower}
 
 -- ancestors
 
@@ -544,9 +544,9 @@ module _ (n : ℕ) (list : List ℕ) (conforming : IsConforming n list) where
       (λ t e. subst (λ z. is_inside n s.0 s.1 z ≡ true) (sym (eqb-true t a e)) s.3) in
       omega arith
 
-  -- the leaves are the entries, each once
-  pub AreLeaves-ancestors_of : AreLeaves n (ancestors_of list) list
-  AreLeaves-ancestors_of a = ⊎_elim
+  -- each address is a leaf as often as it is an entry
+  count-leaves : (a : ℕ) → count_by (λ t. eqb t a) (leaves_of n (ancestors_of list)) ≡ count_by (λ t. eqb t a) list
+  count-leaves a = ⊎_elim
       (λ none. ⊎_elim
       (λ nothing. omega arith)
       (λ some. let e = some-count (λ t. eqb t a) (leaves_of n (ancestors_of list)) some in
@@ -559,3 +559,7 @@ module _ (n : ℕ) (list : List ℕ) (conforming : IsConforming n list) where
       let second = once_at_most list a address conforming.tiles in
       omega arith)
       (cases_lt (count_by (λ t. eqb t a) list) 1)
+
+  -- the leaves are the entries, each once
+  pub AreLeaves-ancestors_of : AreLeaves n (ancestors_of list) list
+  AreLeaves-ancestors_of = record { counts = count-leaves }

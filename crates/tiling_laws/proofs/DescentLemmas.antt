@@ -13,8 +13,8 @@ use Rattle.mesh_defs.proofs.TilingLemmas.{base_conforming}
 use Rattle.bintree_addr.specs.Corners.{IsWithin}
 use Rattle.bintree_addr.proofs.LevelLemmas.{level_of-left, level_of-right, level_of-parent}
 use Rattle.bintree_addr.proofs.CornerLemmas.{corners_of-left, corners_of-right, IsWithin-corners_of}
-use Rattle.diamond_rel.proofs.WayLemmas.{Way}
-use Rattle.diamond_rel.proofs.TurnLemmas.{IsTurned, leg, IsAxis, IsPlaced, IsPlaced-at, forked-placed, finest-placed, one_if, one_child, IsOff-sample, some_sample}
+use Rattle.tiling_laws.proofs.WayLemmas.{Way}
+use Rattle.tiling_laws.proofs.TurnLemmas.{IsTurned, leg, IsAxis, IsPlaced, IsPlaced-at, forked-placed, finest-placed, one_if, one_child, IsOff-sample, some_sample}
 
 -- levels
 
@@ -165,6 +165,11 @@ All-leaves_of n has Q P down leaf lower upper =
     All-append P (leaves_under (2 * n) has 2) (leaves_under (2 * n) has 3)
     (All-leaves_under n has Q P down leaf (2 * n) 2 (IsDown-2 n) lower)
     (All-leaves_under n has Q P down leaf (2 * n) 3 (IsDown-3 n) upper)
+
+-- each leaf is an address of the grid
+pub IsAddress-leaves_of : (n : ℕ) (has : ℕ → Bool) → All (IsAddress n) (leaves_of n has)
+IsAddress-leaves_of n has =
+    All-leaves_of n has (λ a. Unit {0}) (IsAddress n) (λ levels a d member q. (tt, tt)) (λ levels a d ends q. IsAddress-down n levels a d) tt tt
 
 -- leaves tile
 

@@ -18,5 +18,5 @@ abbrev pub ancestors_of : List ℕ → ℕ → Bool
 ancestors_of triangles a = list_any (λ e. is_above a e) triangles
 
 -- the leaves of the set are the entries of the list, each address as often in the one as in the other
-abbrev pub AreLeaves : ℕ → (ℕ → Bool) → List ℕ → Type 0
-AreLeaves n has triangles = (a : ℕ) → count_by (λ t. nat_eq t a) (leaves_of n has) ≡ count_by (λ t. nat_eq t a) triangles
+pub record AreLeaves (n : ℕ) (has : ℕ → Bool) (triangles : List ℕ) : Type 0 where
+  pub counts : (a : ℕ) → count_by (λ t. nat_eq t a) (leaves_of n has) ≡ count_by (λ t. nat_eq t a) triangles

@@ -4,7 +4,7 @@ use Rattle.std.proofs.lemmas.Bool.{cases_lt, eqb-true, or_cases, or_left, or_rig
 use Rattle.std.proofs.lemmas.List.Sums.{sum_by-cons, sum_by-append, sum_by-le-sum_by}
 use Rattle.std.specs.List.{list_any}
 use Rattle.mesh_defs.specs.ClosedSet.{among}
-use Rattle.diamond_rel.proofs.TurnLemmas.{one_if}
+use Rattle.tiling_laws.proofs.TurnLemmas.{one_if}
 
 -- a is an entry
 abbrev pub IsIn : ℕ → List ℕ → Type 0

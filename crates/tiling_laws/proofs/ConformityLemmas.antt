@@ -11,9 +11,9 @@ use Rattle.mesh_defs.specs.ClosedSet.{IsClosed, leaves_of}
 use Rattle.bintree_addr.specs.Corners.{IsWithin}
 use Rattle.bintree_addr.proofs.CornerLemmas.{corners_of-left, corners_of-right, IsWithin-corners_of}
 use Rattle.bintree_addr.proofs.CentreLemmas.{same_centre}
-use Rattle.diamond_rel.proofs.WayLemmas.{Way, IsRun, IsInside, IsInside-between, IsStrictlyBetween-inside, IsRun-first_half, IsRun-second_half, inside_halves, not_inside_one}
-use Rattle.diamond_rel.proofs.TurnLemmas.{IsTurned, leg, IsAxis, three, six, IsRun-base, IsRun-short_base, IsRun-right_leg}
-use Rattle.diamond_rel.proofs.DescentLemmas.{IsDown, IsDown-left, IsDown-right, IsSplittable-down, IsAddress-down, forked_of, finest_of, All-leaves_of, Tiles-leaves_of}
+use Rattle.tiling_laws.proofs.WayLemmas.{Way, IsRun, IsInside, IsInside-between, IsStrictlyBetween-inside, IsRun-first_half, IsRun-second_half, inside_halves, not_inside_one}
+use Rattle.tiling_laws.proofs.TurnLemmas.{IsTurned, leg, IsAxis, three, six, IsRun-base, IsRun-short_base, IsRun-right_leg}
+use Rattle.tiling_laws.proofs.DescentLemmas.{IsDown, IsDown-left, IsDown-right, IsSplittable-down, IsAddress-down, forked_of, finest_of, All-leaves_of, Tiles-leaves_of}
 
 -- at and below a triangle
 
