@@ -9,8 +9,9 @@ use Rattle.std.specs.List.Sorted.{IsBinarySearchResult}
 use Rattle.std.specs.Ordering.{nat_cmp}
 use Rattle.mesh_defs.specs.ClosedSet.{among}
 use Rattle.mesh_defs.specs.Greedy.{with_triangle}
-use Rattle.diamond_rel.specs.GridSet.{IsAscending, IsGain}
+use Rattle.diamond_rel.specs.GridSet.{IsAscending, IsGridSet, IsGain}
 use Rattle.tiling_laws.proofs.ListLemmas.{IsIn, IsIn-among, among-in, Contains-in}
+use Rattle.diamond_rel.proofs.ForcingLemmas.{IsLeastClosed-member}
 use Rattle.diamond_rel.proofs.ClosureLemmas.{IsLeastClosed-unique}
 
 -- places
@@ -164,3 +165,12 @@ gain_unique n members t gain other p q =
     let same : p.after ≡ q.after = ascending_unique p.after q.after p.forced.ascending q.forced.ascending
     (IsLeastClosed-unique n (with_triangle (among members) t) (among p.after) (among q.after) p.forced.least q.forced.least) in
     let e = ap length same in let f = p.grown in let g = q.grown in omega arith
+
+-- a member has no gain
+pub gain-member : (n : ℕ) (members : List ℕ) (t gain : ℕ) → IsGridSet n members → among members t ≡ true → IsGain n members t gain → gain ≡ 0
+gain-member n members t gain valid is g =
+    gain_unique n members t gain 0 g record {
+      after = members;
+      forced = record { ascending = valid.ascending; least = IsLeastClosed-member n (among members) t valid.closed is };
+      grown = omega arith;
+    }

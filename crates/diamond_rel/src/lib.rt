@@ -10,3 +10,6 @@ mod split;
 
 pub use laws::{closure_laws, greedy_laws, member_laws, rank_laws};
 pub use split::Split;
+
+#[cfg(test)]
+mod tests;

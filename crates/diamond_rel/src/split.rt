@@ -1,6 +1,6 @@
 //! A closed set of split triangles, which stands for a conforming triangulation.
 
-ghost use Rattle.std.specs.Prelude.{◌≡◌, ℕ, ◌+◌, ◌≤◌, List, [], length, IfOk, OnOk, OnErr};
+ghost use Rattle.std.specs.Prelude.{◌≡◌, ℕ, ◌+◌, ◌≤◌, List, [], length, IsTrue, IfOk, OnOk, OnErr};
 ghost use Rattle.mesh_defs.specs.Triangle.{IsSplittable};
 ghost use Rattle.mesh_defs.specs.Tiling.{IsConforming};
 ghost use Rattle.mesh_defs.specs.ClosedSet.{IsClosed, leaves_of, among};
@@ -67,9 +67,10 @@ impl Split {
         contains(&self.members, t)
     }
 
-    /// How many triangles are split: two less than the leaves.
+    /// How many triangles are split.
     pub fn size(&self) -> u32
         ensures value { result ≡ length self.now.members }
+        ensures leaves { length (leaves_of self.now.n (among self.now.members)) ≡ result + 2 }
         ensures valid { IsGridSet self.now.n self.now.members }
     {
         self.members.len() as u32
@@ -81,6 +82,7 @@ impl Split {
     pub fn gain(&self, alloc: Global, t: Tri) -> Result<u32, NoMemory>
         requires splittable { IsSplittable self.now.n t }
         ensures ok { IfOk result (IsGain self.now.n self.now.members t) }
+        ensures member { IfOk result (λ gain. IsTrue (among self.now.members t) → gain ≡ 0) }
     {
         let mut scratch = Vec::from_slice(alloc, &self.members)?;
         force(&mut scratch, self.n, t)?;
