@@ -99,10 +99,10 @@ impl Split {
         ensures gain { IfOk result (λ gain. length self.new.members ≡ length self.old.members + gain) }
         ensures err { OnErr result (self.new ≡ self.old) }
     {
-        let mut scratch = Vec::from_slice(self.members.allocator().clone()?, &self.members)?;
-        force(&mut scratch, self.n, t)?;
-        let gain = (scratch.len() - self.members.len()) as u32;
-        self.members = scratch;
+        let mut grown = Vec::from_slice(self.members.allocator().clone()?, &self.members)?;
+        force(&mut grown, self.n, t)?;
+        let gain = (grown.len() - self.members.len()) as u32;
+        self.members = grown;
         Ok(gain)
     }
 
