@@ -34,6 +34,18 @@ IsLeastClosed-unique n wanted has other p q a =
     (IsSubset-closures n wanted wanted has other (λ b h. h) p q a)
     (IsSubset-closures n wanted wanted other has (λ b h. h) q p a)
 
+-- tests that agree are least closed sets alike
+pub IsLeastClosed-same : (n : ℕ) (wanted has other : ℕ → Bool) → ((a : ℕ) → has a ≡ other a) → IsLeastClosed n wanted has → IsLeastClosed n wanted other
+IsLeastClosed-same n wanted has other same p = record {
+  closed = record {
+    splittable = λ a h. p.closed.splittable a (same a ∙ h);
+    parent = λ a h big. sym (same (a / 2)) ∙ p.closed.parent a (same a ∙ h) big;
+    mate = λ a b h m. sym (same b) ∙ p.closed.mate a b (same a ∙ h) m;
+  };
+  holds = λ a h. sym (same a) ∙ p.holds a h;
+  least = λ some c holds a h. p.least some c holds a (same a ∙ h);
+}
+
 -- existence
 
 -- what one forced split goes to

@@ -19,7 +19,7 @@ use Rattle.tiling_laws.proofs.ConformityLemmas.{IsUnder, self, below, IsConformi
 use Rattle.tiling_laws.proofs.ListLemmas.{IsIn, IsIn-contains, Contains-in, IsIn-among, among-in, length-counts}
 use Rattle.tiling_laws.proofs.ConverseLemmas.{IsCovered, member_or_covered, IsClosed-ancestors_of, AreLeaves-ancestors_of, IsAddress-parent}
 use Rattle.diamond_rel.proofs.ForcingLemmas.{with-cases, with-old, with-new}
-use Rattle.diamond_rel.proofs.ClosureLemmas.{IsSubset-closures, IsLeastClosed-unique, closure_of, leaves_of-same, leaves_of-more, leaves_of-none, IsOuter, IsOuter-leaves_of, leaf-outer}
+use Rattle.diamond_rel.proofs.ClosureLemmas.{IsSubset-closures, IsLeastClosed-unique, IsLeastClosed-same, closure_of, leaves_of-same, leaves_of-more, leaves_of-none, IsOuter, IsOuter-leaves_of, leaf-outer}
 
 -- rank closures are unique
 
@@ -315,6 +315,90 @@ module _ (n : ℕ) (priority : ℕ → ℕ) (ranking : List ℕ) (ranked : IsRan
       let same = (IsRankClosure-unique n budget ranking m.0 chosen has has (closure-missing budget has low end m) closure).0 in
       subst (λ i. IsFirstLeaf n priority has (get_or ranking i 0)) same (missing_first has closure.closure.closed m))
       (first_missing has ranking (length ranking) (omega arith))
+
+  -- from the rank closure
+
+  -- the empty set is the closure of the empty front
+  nothing_front : IsFrontClosure n ranking 0 (λ _. false)
+  nothing_front = record {
+    closed = record {
+      splittable = λ a h. absurd (false≢true h);
+      parent = λ a h. absurd (false≢true h);
+      mate = λ a b h. absurd (false≢true h);
+    };
+    holds = λ a h. absurd (false≢true h);
+    least = λ other c holds a h. absurd (false≢true h);
+  }
+
+  -- a front's entries are members of its closure
+  front_holds : (k : ℕ) (has : ℕ → Bool) → IsFrontClosure n ranking k has → HoldsBelow has ranking k
+  front_holds k has p i less within = p.holds (get_or ranking i 0) (among-in (get_or ranking i 0) (take k ranking) (front_in k i ranking less within))
+
+  -- a set that is reached and is the closure of the first k
+  record IsReachedFront (budget k : ℕ) : Type 0 where
+    set : ℕ → Bool
+    steps : ℕ
+    reached : IsReachedIn steps n priority budget set
+    front : IsFrontClosure n ranking k set
+
+  -- each front within the budget is reached
+  reached_fronts : (budget chosen : ℕ) (has : ℕ → Bool) → IsFrontClosure n ranking chosen has → chosen ≤ length ranking → length (leaves_of n has) ≤ budget →
+      (k : ℕ) → k ≤ chosen → IsReachedFront budget k
+  reached_fronts budget chosen has p within fits zero le =
+      record { set = λ _. false; steps = zero; reached = λ a. refl; front = nothing_front }
+  reached_fronts budget chosen has p within fits (suc k) le =
+      let r : IsReachedFront budget k = reached_fronts budget chosen has p within fits k (omega arith) in
+      ⊎_elim
+      (λ member. record {
+        set = r.set;
+        steps = r.steps;
+        reached = r.reached;
+        front = front-up n ranking r.set k (suc k) r.front (omega arith) (λ i less b. ⊎_elim
+            (λ early. front_holds k r.set r.front i early b)
+            (λ last. subst (λ z. IsTrue (r.set (get_or ranking z 0))) (let e : k ≡ i = omega arith in e) member)
+            (cases_lt i k));
+      })
+      (λ other.
+      let m : HasMissing r.set ranking = (k, omega arith, other, front_holds k r.set r.front) in
+      let next = closure_of n r.set (get_or ranking k 0) r.front.closed (entry k (omega arith)).0 in
+      let step : IsFrontClosure n ranking (k + 1) next.0 = front-next n ranking r.set next.0 k (omega arith) r.front next.1 in
+      let sub = IsSubset-closures n (among (take (k + 1) ranking)) (among (take chosen ranking)) next.0 has
+      (front-longer ranking (k + 1) chosen (omega arith)) step p in
+      let count = leaves_of-more n next.0 has sub in
+      record {
+        set = next.0;
+        steps = suc r.steps;
+        reached = (r.set, r.reached, record { split = (get_or ranking k 0, missing_first r.set r.front.closed m, next.1) }, omega arith);
+        front = subst (λ z. IsFrontClosure n ranking z next.0) (let e : k + 1 ≡ suc k = omega arith in e) step;
+      })
+      (cases_Bool (r.set (get_or ranking k 0)))
+
+  -- a test that agrees with one that is reached is reached
+  reached-same : (budget steps : ℕ) (has other : ℕ → Bool) → ((a : ℕ) → has a ≡ other a) → IsReachedIn steps n priority budget has →
+      IsReachedIn steps n priority budget other
+  reached-same budget zero has other same none = λ a. sym (same a) ∙ none a
+  reached-same budget (suc steps) has other same r = (
+    r.0,
+    r.1,
+    record { split = (r.2.split.0, r.2.split.1, IsLeastClosed-same n (with_triangle r.0 r.2.split.0) has other same r.2.split.2) },
+    subst (λ (l : List ℕ). length l ≤ budget) (leaves_of-same n has other same) r.3,
+  )
+
+  -- the rank closure is where greedy refinement ends
+  pub IsGreedyEnd-closure : (budget chosen : ℕ) (has : ℕ → Bool) → IsRankClosure n budget ranking chosen has → IsGreedyEnd n budget priority has
+  IsGreedyEnd-closure budget chosen has p =
+      let r = reached_fronts budget chosen has p.closure p.front p.fits chosen (omega arith) in
+      let same = IsLeastClosed-unique n (among (take chosen ranking)) r.set has r.front p.closure in
+      record {
+        reached = (r.steps, reached-same budget r.steps r.set has same r.reached);
+        stops = λ next step.
+            let found = first_is_missing has p.closure.closed step.split.0 step.split.1 in
+            let m : HasMissing has ranking = found.0 in
+            let le = front-le n ranking has chosen p.closure m in
+            let up = front-up n ranking has chosen m.0 p.closure le m.3 in
+            let least = front-next n ranking has next m.0 m.1 up (subst (λ z. IsLeastClosed n (with_triangle has z) next) (sym found.1) step.split.2) in
+            p.longest (m.0 + 1) next (omega arith) (let b = m.1 in omega arith) least;
+      }
 
   -- the best mesh
 

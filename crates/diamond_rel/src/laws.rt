@@ -43,13 +43,16 @@ pub fn rank_laws()
 
 /// Greedy refinement over priorities that fall from parent to child.
 ///
-/// It ends at the rank closure; the first leaf in rank there, if there is one, is the blocking
+/// It ends at the rank closure and nowhere else; the first leaf in rank there, if there is one, is the blocking
 /// triangle, and the set with it has the need as number of leaves. No conforming list within the
 /// budget has a lower worst.
 pub fn greedy_laws()
     ensures closure { (n budget : ℕ) (priority : ℕ → ℕ) (ranking : List ℕ) (has : ℕ → Bool) →
         IsRanking n priority ranking → IsFalling n priority → 2 ≤ budget →
         IsGreedyEnd n budget priority has → ((chosen : ℕ) × IsRankClosure n budget ranking chosen has) }
+    ensures end { (n budget : ℕ) (priority : ℕ → ℕ) (ranking : List ℕ) (chosen : ℕ) (has : ℕ → Bool) →
+        IsRanking n priority ranking → IsFalling n priority →
+        IsRankClosure n budget ranking chosen has → IsGreedyEnd n budget priority has }
     ensures blocked { (n budget : ℕ) (priority : ℕ → ℕ) (ranking : List ℕ) (chosen : ℕ)
         (has next : ℕ → Bool) (f : ℕ) →
         IsRanking n priority ranking → IsFalling n priority → 2 ≤ budget →

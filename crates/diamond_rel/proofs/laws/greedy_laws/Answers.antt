@@ -1,9 +1,12 @@
 -- Each clause is a lemma.
-use Rattle.diamond_rel.proofs.RankLemmas.{IsRankClosure-greedy, IsBlockedBy-greedy, first_leaf-blocked, IsBestMesh-end}
+use Rattle.diamond_rel.proofs.RankLemmas.{IsRankClosure-greedy, IsGreedyEnd-closure, IsBlockedBy-greedy, first_leaf-blocked, IsBestMesh-end}
 use Rattle.diamond_rel.proofs.laws.greedy_laws.Goals as goal
 
 pub returns-clause-closure : goal.returns-clause-closure
 returns-clause-closure c n budget priority ranking has ranked falling = IsRankClosure-greedy n priority ranking ranked falling budget has
+
+pub returns-clause-end : goal.returns-clause-end
+returns-clause-end c n budget priority ranking chosen has ranked falling = IsGreedyEnd-closure n priority ranking ranked falling budget chosen has
 
 pub returns-clause-blocked : goal.returns-clause-blocked
 returns-clause-blocked c n budget priority ranking chosen has next f ranked falling =
