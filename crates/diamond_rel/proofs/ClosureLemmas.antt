@@ -1,15 +1,15 @@
 -- Least closed sets: they are unique, grow with what is wanted, and exist; and how leaves follow from members.
-use Rattle.std.proofs.Common.{◌≡◌, ℕ, zero, suc, ◌+◌, ◌-◌, ◌*◌, ◌/◌, ◌<◌, ◌≤◌, ◌⊎◌, inl, inr, Bool, true, false, List, [], ◌∷◌, ◌++◌, length, All, IsTrue, refl, sym, ◌∙◌, ap, ap₂, subst, arith, ⊎_elim, length-append, count_by}
+use Rattle.std.proofs.Common.{◌≡◌, ℕ, zero, suc, ◌+◌, ◌-◌, ◌*◌, ◌/◌, ◌<◌, ◌≤◌, Bool, true, false, List, [], ◌∷◌, ◌++◌, length, All, IsTrue, refl, sym, ◌∙◌, ap₂, subst, arith, ⊎_elim, length-append, count_by}
 use Rattle.std.proofs.lemmas.Bool.{cases_lt, cases_Bool, false≢true, both_ways}
 use Rattle.std.proofs.lemmas.List.Elements.{All-contains}
-use Rattle.mesh_defs.specs.Triangle.{level_of, IsAddress, IsSplittable, IsMate, HasBorderBase}
+use Rattle.mesh_defs.specs.Triangle.{level_of, IsAddress, IsSplittable, IsMate}
 use Rattle.mesh_defs.specs.Tiling.{IsSample, is_inside}
 use Rattle.mesh_defs.specs.ClosedSet.{IsClosed, IsSubset, IsLeastClosed, leaves_under, leaves_of}
 use Rattle.mesh_defs.specs.Greedy.{with_triangle}
 use Rattle.bintree_addr.proofs.LevelLemmas.{level_of-parent}
 use Rattle.bintree_addr.proofs.CentreLemmas.{border_or_mate, not_border_and_mate}
 use Rattle.diamond_rel.specs.Forcing.{IsPrepared}
-use Rattle.tiling_laws.proofs.DescentLemmas.{IsDown, IsDown-left, IsDown-right, IsDown-address, IsAddress-down, IsAddress-splittable, sample_of, All-leaves_of, Tiles-leaves_of}
+use Rattle.tiling_laws.proofs.DescentLemmas.{IsDown-address, IsAddress-down, IsAddress-splittable, sample_of, All-leaves_of, Tiles-leaves_of}
 use Rattle.tiling_laws.proofs.ConformityLemmas.{IsUnder, self, below, member_above}
 use Rattle.tiling_laws.proofs.ListLemmas.{IsIn, Contains-in, some-count}
 use Rattle.tiling_laws.proofs.ConverseLemmas.{IsUnder-sample, is_inside-up, IsAddress-parent, level_of-first}
@@ -115,6 +115,7 @@ leaves_under-same (suc levels) has other a same =
     (leaves_under levels other (2 * a)) (leaves_under levels other (2 * a + 1)) a (same a)
     (leaves_under-same levels has other (2 * a) same) (leaves_under-same levels has other (2 * a + 1) same)
 
+-- the same for all leaves
 pub leaves_of-same : (n : ℕ) (has other : ℕ → Bool) → ((b : ℕ) → has b ≡ other b) → leaves_of n has ≡ leaves_of n other
 unfolding leaves_of
 leaves_of-same n has other same =
@@ -133,6 +134,7 @@ step_some : (c : Bool) (m s : List ℕ) (a : ℕ) → 1 ≤ length m → 1 ≤ l
 step_some true m s a some = omega (arith, length-append m s)
 step_some false m s a some = omega arith
 
+-- there is a leaf below each triangle
 leaves_under-some : (levels : ℕ) (has : ℕ → Bool) (a : ℕ) → 1 ≤ length (leaves_under levels has a)
 leaves_under-some zero has a = omega arith
 leaves_under-some (suc levels) has a =
@@ -147,6 +149,7 @@ leaves_under-more (suc levels) has other a within =
     (leaves_under-more levels has other (2 * a) within) (leaves_under-more levels has other (2 * a + 1) within)
     (leaves_under-some levels other (2 * a))
 
+-- the same for all leaves
 pub leaves_of-more : (n : ℕ) (has other : ℕ → Bool) → IsSubset has other → length (leaves_of n has) ≤ length (leaves_of n other)
 unfolding leaves_of
 leaves_of-more n has other within =
@@ -159,10 +162,12 @@ step_none : (b : Bool) (l r : List ℕ) (a : ℕ) → b ≡ false → length (el
 step_none true l r a e = absurd (false≢true (sym e))
 step_none false l r a e = refl
 
+-- a triangle that is no member is its one leaf
 leaves_under-none : (levels : ℕ) (has : ℕ → Bool) (a : ℕ) → has a ≡ false → length (leaves_under levels has a) ≡ 1
 leaves_under-none zero has a none = refl
 leaves_under-none (suc levels) has a none = step_none (has a) (leaves_under levels has (2 * a)) (leaves_under levels has (2 * a + 1)) a none
 
+-- so there are two
 pub leaves_of-none : (n : ℕ) (has : ℕ → Bool) → ((a : ℕ) → has a ≡ false) → length (leaves_of n has) ≡ 2
 unfolding leaves_of
 leaves_of-none n has none =
@@ -183,8 +188,8 @@ pub IsOuter-leaves_of : (n : ℕ) (has : ℕ → Bool) → IsClosed n has → Al
 IsOuter-leaves_of n has closed =
     All-leaves_of n has (λ a. 4 ≤ a → IsTrue (has (a / 2))) (IsOuter n has)
     (λ levels a d is known. (
-    (λ _. let half : 2 * a / 2 ≡ a = omega arith in subst (λ z. IsTrue (has z)) (sym half) is),
-    (λ _. let half : (2 * a + 1) / 2 ≡ a = omega arith in subst (λ z. IsTrue (has z)) (sym half) is),
+      (λ _. let half : 2 * a / 2 ≡ a = omega arith in subst (λ z. IsTrue (has z)) (sym half) is),
+      (λ _. let half : (2 * a + 1) / 2 ≡ a = omega arith in subst (λ z. IsTrue (has z)) (sym half) is),
     ))
     (λ levels a d ends known. record {
       address = IsAddress-down n levels a d;
@@ -218,9 +223,9 @@ leaf-outer n has a closed outer =
         is_inside n x y a ≡ true → is_inside n x y e ≡ true → ⊥
     under_leaf e leaf deeper x y s h k =
         let big : 4 ≤ e = ⊎_elim
-            (λ small. let z = level_of-first e leaf.address.low small in absurd (omega arith))
-            (λ large. large)
-            (cases_lt e 4) in
+        (λ small. let z = level_of-first e leaf.address.low small in absurd (omega arith))
+        (λ large. large)
+        (cases_lt e 4) in
         let l = level_of-parent e big in
         let u = IsUnder-sample n x y (level_of e - 1 - level_of a) a (e / 2) s outer.address (IsAddress-parent n e leaf.address big) (omega arith) h
         (is_inside-up n e x y leaf.address big s k) in

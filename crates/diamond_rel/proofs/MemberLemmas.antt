@@ -1,6 +1,6 @@
 -- Ascending lists: what a binary search finds in them, and an insert at its place.
-use Rattle.std.proofs.Common.{◌≡◌, ℕ, zero, suc, ◌+◌, ◌-◌, ◌<◌, ◌≤◌, ◌⊎◌, inl, inr, Bool, true, false, eqb, ◌||◌, List, [], ◌∷◌, ◌++◌, length, take, drop, get_or, All, IsTrue, Result, Ok, Err, is_ok, refl, sym, ◌∙◌, ap, ap₂, subst, arith, ⊎_elim, eq-eqb, take-append-drop, length-append, length-take, length-drop}
-use Rattle.std.proofs.lemmas.Bool.{cases_lt, cases_order, cases_Bool, false≢true, false_from_ne_true, or_cases, or_left, or_right, eqb-true}
+use Rattle.std.proofs.Common.{◌≡◌, ℕ, zero, suc, ◌<◌, ◌≤◌, ◌⊎◌, inl, inr, Bool, true, false, eqb, ◌||◌, List, [], ◌∷◌, length, take, drop, get_or, All, Result, Ok, Err, is_ok, refl, sym, ◌∙◌, ap, ap₂, subst, arith, ⊎_elim, take-append-drop}
+use Rattle.std.proofs.lemmas.Bool.{cases_lt, cases_Bool, false≢true, false_from_ne_true, eqb-true}
 use Rattle.std.proofs.lemmas.List.Elements.{All-nil, All-cons, All-head, All-tail, All-contains}
 use Rattle.std.proofs.lemmas.List.Folds.{list_any-append}
 use Rattle.std.proofs.lemmas.List.Sorted.{searched}
@@ -70,6 +70,7 @@ is_ok-searched xs t (Ok i) o r =
     sym (among-in t xs (subst (λ z. IsIn z xs) h.1 (at_place i xs h.0)))
 is_ok-searched xs t (Err i) o r = sym (not_there xs t i (IsPlaceFor-searched xs t i o r))
 
+-- what a search finds is an entry
 pub found-searched : (xs : List ℕ) (t i : ℕ) → IsAscending xs → IsBinarySearchResult (λ y. nat_cmp y t) xs (Ok i) → IsIn t xs
 found-searched xs t i o r =
     let h = searched xs t (Ok i) r (rising-at xs o) in subst (λ z. IsIn z xs) h.1 (at_place i xs h.0)
@@ -87,12 +88,14 @@ ascending-insert xs t zero o p = (All-places (λ y. t < y) xs (λ k b. p.after k
 ascending-insert [] t (suc i) o p = let h = p.within in absurd (omega arith)
 ascending-insert (x ∷ xs) t (suc i) o p =
     let less : x < t = p.before zero (omega arith) in
-    let later : All (λ y. x < y) (insert xs i t) = All-insert (λ y. x < y) xs i t o.0 less in
-    (later, ascending-insert xs t i o.1 record {
-      within = let h = p.within in omega arith;
-      before = λ k b. p.before (suc k) (omega arith);
-      after = λ k b c. p.after (suc k) (omega arith) (omega arith);
-    })
+    let later : All (λ y. x < y) (insert xs i t) = All-insert (λ y. x < y) xs i t o.0 less in (
+      later,
+      ascending-insert xs t i o.1 record {
+        within = let h = p.within in omega arith;
+        before = λ k b. p.before (suc k) (omega arith);
+        after = λ k b c. p.after (suc k) (omega arith) (omega arith);
+      },
+    )
   where
     All-insert : (P : ℕ → Type 0) (ys : List ℕ) (j y : ℕ) → All P ys → P y → All P (insert ys j y)
     All-insert P [] zero y all q = All-cons P y [] q (All-nil P)

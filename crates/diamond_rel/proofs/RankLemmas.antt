@@ -1,22 +1,21 @@
 -- Rank closures and greedy refinement over falling priorities: they end at the same set, and it is the best.
-use Rattle.std.proofs.Common.{◌≡◌, ◌≢◌, ℕ, zero, suc, ◌+◌, ◌-◌, ◌*◌, ◌/◌, ◌<◌, ◌≤◌, ◌⊎◌, inl, inr, Bool, true, false, List, [], ◌∷◌, length, take, get_or, All, Contains, AllPairs, IsTrue, Some, slice_get, max, refl, sym, ◌∙◌, ap, subst, arith, ⊎_elim}
-use Rattle.std.proofs.lemmas.Bool.{cases_lt, cases_order, cases_eq, cases_Bool, false≢true, both_ways, false_from_ne_true}
+use Rattle.std.proofs.Common.{◌≡◌, ℕ, zero, suc, ◌+◌, ◌*◌, ◌/◌, ◌<◌, ◌≤◌, ◌⊎◌, inl, inr, Bool, false, List, [], ◌∷◌, length, take, get_or, Contains, IsTrue, Some, slice_get, refl, sym, ◌∙◌, ap, subst, arith, ⊎_elim}
+use Rattle.std.proofs.lemmas.Bool.{cases_lt, cases_order, cases_eq, cases_Bool, false≢true, both_ways}
 use Rattle.std.proofs.lemmas.List.Elements.{All-contains}
 use Rattle.mesh_defs.specs.Triangle.{level_of, IsAddress, IsSplittable}
 use Rattle.mesh_defs.specs.Tiling.{IsConforming}
 use Rattle.mesh_defs.specs.ClosedSet.{IsClosed, IsSubset, IsLeastClosed, leaves_of, among}
 use Rattle.mesh_defs.specs.Priority.{worst_of}
 use Rattle.mesh_defs.specs.Ranking.{RanksBefore, IsRanking, IsFrontClosure, IsRankClosure, IsBlockedBy}
-use Rattle.mesh_defs.specs.Greedy.{IsFirstLeaf, with_triangle, IsGreedyStep, IsReachedIn, IsGreedyEnd}
-use Rattle.mesh_defs.specs.BestMesh.{IsGreedyMesh, IsBestMesh}
+use Rattle.mesh_defs.specs.Greedy.{IsFirstLeaf, with_triangle, IsReachedIn, IsGreedyEnd}
+use Rattle.mesh_defs.specs.BestMesh.{IsBestMesh}
 use Rattle.mesh_defs.proofs.LevelLemmas.{level-le}
 use Rattle.mesh_defs.proofs.RankingLemmas.{ranking_of, IsRanking-of}
-use Rattle.bintree_addr.proofs.LevelLemmas.{level_of-parent}
 use Rattle.tiling_laws.specs.Ancestors.{ancestors_of}
 use Rattle.diamond_rel.specs.Falling.{IsFalling}
 use Rattle.tiling_laws.proofs.DescentLemmas.{IsAddress-splittable}
 use Rattle.tiling_laws.proofs.ConformityLemmas.{IsUnder, self, below, IsConforming-leaves_of}
-use Rattle.tiling_laws.proofs.ListLemmas.{IsIn, IsIn-contains, Contains-in, IsIn-among, among-in, length-counts}
+use Rattle.tiling_laws.proofs.ListLemmas.{IsIn, Contains-in, IsIn-among, among-in, length-counts}
 use Rattle.tiling_laws.proofs.ConverseLemmas.{IsCovered, member_or_covered, IsClosed-ancestors_of, AreLeaves-ancestors_of, IsAddress-parent}
 use Rattle.diamond_rel.proofs.ForcingLemmas.{with-cases, with-old, with-new}
 use Rattle.diamond_rel.proofs.ClosureLemmas.{IsSubset-closures, IsLeastClosed-unique, IsLeastClosed-same, closure_of, leaves_of-same, leaves_of-more, leaves_of-none, IsOuter, IsOuter-leaves_of, leaf-outer}
@@ -33,6 +32,7 @@ chosen_unique n budget ranking i j has other p q = ⊎_elim
     differ)
     (cases_order i j)
 
+-- and so is the set
 pub IsRankClosure-unique : (n budget : ℕ) (ranking : List ℕ) (i j : ℕ) (has other : ℕ → Bool) →
     IsRankClosure n budget ranking i has → IsRankClosure n budget ranking j other → (i ≡ j) × ((a : ℕ) → has a ≡ other a)
 IsRankClosure-unique n budget ranking i j has other p q =
@@ -52,6 +52,7 @@ in_front (suc k) a (x ∷ xs) (inr h) =
     let r : (i : ℕ) × (i < k) × (i < length xs) × (get_or xs i 0 ≡ a) = in_front k a xs h in
     (suc r.0, (let b = r.1 in omega arith), (let b = r.2 in omega arith), r.3)
 
+-- an early entry is in the front
 front_in : (k i : ℕ) (xs : List ℕ) → i < k → i < length xs → IsIn (get_or xs i 0) (take k xs)
 front_in zero i xs h b = absurd (omega arith)
 front_in (suc k) i [] h b = absurd (omega arith)
@@ -66,12 +67,14 @@ place_in a (x ∷ xs) (suc k, b, e) =
     let r : (i : ℕ) × (i < length xs) × (get_or xs i 0 ≡ a) = place_in a xs (k, omega arith, e) in
     (suc r.0, (let c = r.1 in omega arith), r.2)
 
+-- what stands at a place is an entry
 at_place : (i : ℕ) (xs : List ℕ) → i < length xs → Contains xs (get_or xs i 0)
 at_place i [] b = absurd (omega arith)
 at_place zero (x ∷ xs) b = (zero, b, refl)
 at_place (suc i) (x ∷ xs) b =
     let r : Contains xs (get_or xs i 0) = at_place i xs (omega arith) in (suc r.0, (let c = r.1 in omega arith), r.2)
 
+-- what is read at a place
 slice_get-at : (i : ℕ) (xs : List ℕ) → i < length xs → slice_get xs i ≡ Some (get_or xs i 0)
 slice_get-at i [] b = absurd (omega arith)
 slice_get-at zero (x ∷ xs) b = refl
@@ -85,12 +88,15 @@ front-longer xs k j le a h =
 
 -- the front before the first entry that is no member
 
+-- the first k entries are members
 abbrev HoldsBelow : (ℕ → Bool) → List ℕ → ℕ → Type 0
 HoldsBelow has xs k = (i : ℕ) → i < k → i < length xs → IsTrue (has (get_or xs i 0))
 
+-- a first entry that is no member
 abbrev HasMissing : (ℕ → Bool) → List ℕ → Type 0
 HasMissing has xs = (j : ℕ) × (j < length xs) × (has (get_or xs j 0) ≡ false) × HoldsBelow has xs j
 
+-- the first k are members, or some entry is missing
 first_missing : (has : ℕ → Bool) (xs : List ℕ) (k : ℕ) → k ≤ length xs → HoldsBelow has xs k ⊎ HasMissing has xs
 first_missing has xs zero le = inl (λ i h. absurd (omega arith))
 first_missing has xs (suc k) le = ⊎_elim
@@ -179,9 +185,9 @@ module _ (n : ℕ) (priority : ℕ → ℕ) (ranking : List ℕ) (ranked : IsRan
           let falls : priority t ≤ priority (t / 2) = falling.child t address big in
           let p = place_of (t / 2) (IsAddress-parent n t address big) (omega arith) in
           let first : RanksBefore priority (t / 2) t = ⊎_elim
-              (λ more. inl more)
-              (λ same. inr (omega arith, omega arith))
-              (cases_lt (priority t) (priority (t / 2))) in
+          (λ more. inl more)
+          (λ same. inr (omega arith, omega arith))
+          (cases_lt (priority t) (priority (t / 2))) in
           ⊎_elim
           (λ early. subst (λ z. IsTrue (has z)) p.2 (m.3 p.0 early p.1))
           (λ late. absurd (⊎_elim
@@ -217,34 +223,43 @@ module _ (n : ℕ) (priority : ℕ → ℕ) (ranking : List ℕ) (ranked : IsRan
       let p = place_of f outer.address first.positive in
       ⊎_elim
       (λ (all : HoldsBelow has ranking (length ranking)). absurd (outer.outside (subst (λ z. IsTrue (has z)) p.2 (all p.0 p.1 p.1))))
-      (λ (m : HasMissing has ranking). (m, ⊎_elim
-      (λ same. same)
-      (λ other. absurd (not_both_before priority f (get_or ranking m.0 0)
-      (first.first (get_or ranking m.0 0) (missing_first has closed m).leaf (missing_first has closed m).positive other)
-      ((missing_first has closed m).first f first.leaf first.positive (λ e. other (sym e)))))
-      (cases_eq (get_or ranking m.0 0) f)))
+      (λ (m : HasMissing has ranking). (
+        m,
+        ⊎_elim
+            (λ same. same)
+            (λ other. absurd (not_both_before priority f (get_or ranking m.0 0)
+            (first.first (get_or ranking m.0 0) (missing_first has closed m).leaf (missing_first has closed m).positive other)
+            ((missing_first has closed m).first f first.leaf first.positive (λ e. other (sym e)))))
+            (cases_eq (get_or ranking m.0 0) f),
+      ))
       (first_missing has ranking (length ranking) (omega arith))
 
   -- each set that is reached is the closure of a front
   reached_front : (budget steps : ℕ) (has : ℕ → Bool) → IsReachedIn steps n priority budget has → (k : ℕ) × (k ≤ length ranking) × IsFrontClosure n ranking k has
-  reached_front budget zero has none = (zero, omega arith, record {
-    closed = record {
-      splittable = λ a h. absurd (both_ways (has a) (none a) h);
-      parent = λ a h. absurd (both_ways (has a) (none a) h);
-      mate = λ a b h. absurd (both_ways (has a) (none a) h);
-    };
-    holds = λ a h. absurd (false≢true h);
-    least = λ other c holds a h. absurd (both_ways (has a) (none a) h);
-  })
+  reached_front budget zero has none = (
+    zero,
+    omega arith,
+    record {
+      closed = record {
+        splittable = λ a h. absurd (both_ways (has a) (none a) h);
+        parent = λ a h. absurd (both_ways (has a) (none a) h);
+        mate = λ a b h. absurd (both_ways (has a) (none a) h);
+      };
+      holds = λ a h. absurd (false≢true h);
+      least = λ other c holds a h. absurd (both_ways (has a) (none a) h);
+    },
+  )
   reached_front budget (suc steps) has r =
       let before : ℕ → Bool = r.0 in
       let front = reached_front budget steps before r.1 in
       let f : ℕ = r.2.split.0 in
       let found = first_is_missing before front.2.closed f r.2.split.1 in
       let m : HasMissing before ranking = found.0 in
-      let up = front-up n ranking before front.0 m.0 front.2 (front-le n ranking before front.0 front.2 m) m.3 in
-      (m.0 + 1, (let b = m.1 in omega arith),
-      front-next n ranking before has m.0 m.1 up (subst (λ z. IsLeastClosed n (with_triangle before z) has) (sym found.1) r.2.split.2))
+      let up = front-up n ranking before front.0 m.0 front.2 (front-le n ranking before front.0 front.2 m) m.3 in (
+        m.0 + 1,
+        (let b = m.1 in omega arith),
+        front-next n ranking before has m.0 m.1 up (subst (λ z. IsLeastClosed n (with_triangle before z) has) (sym found.1) r.2.split.2),
+      )
 
   -- each set that is reached is within the budget
   reached_fits : (budget steps : ℕ) (has : ℕ → Bool) → 2 ≤ budget → IsReachedIn steps n priority budget has → length (leaves_of n has) ≤ budget
@@ -452,9 +467,9 @@ module _ (n : ℕ) (priority : ℕ → ℕ) (ranking : List ℕ) (ranked : IsRan
       let e = entry r.0 r.2 in
       let u : ℕ = get_or ranking r.0 0 in
       let high : priority (get_or ranking j 0) ≤ priority (get_or ranking r.0 0) = ⊎_elim
-          (λ less. no_less r.0 (ranked.ordered r.0 j 0 less within))
-          (λ last. let f : priority (get_or ranking r.0 0) ≡ priority (get_or ranking j 0) = ap (λ i. priority (get_or ranking i 0)) (let g : r.0 ≡ j = (let b = r.1 in omega arith) in g) in omega arith)
-          (cases_lt r.0 j) in
+      (λ less. no_less r.0 (ranked.ordered r.0 j 0 less within))
+      (λ last. let f : priority (get_or ranking r.0 0) ≡ priority (get_or ranking j 0) = ap (λ i. priority (get_or ranking i 0)) (let g : r.0 ≡ j = (let b = r.1 in omega arith) in g) in omega arith)
+      (cases_lt r.0 j) in
       subst (λ z. IsTrue (ancestors_of others z)) r.3
       (⊎_elim
       (λ member. member)

@@ -1,22 +1,23 @@
 -- How many members and leaves a closed set has.
-use Rattle.std.proofs.Common.{◌≡◌, ℕ, zero, suc, ◌+◌, ◌-◌, ◌*◌, ◌/◌, ◌%◌, ◌^◌, ◌<◌, ◌≤◌, ◌⊎◌, inl, inr, Bool, true, false, eqb, ◌||◌, List, [], ◌∷◌, ◌++◌, length, All, IsTrue, refl, sym, ◌∙◌, ap, subst, arith, ⊎_elim, eq-eqb, pow_mono, length-append, count_by}
-use Rattle.std.proofs.lemmas.Bool.{cases_lt, cases_Bool, false≢true, or_cases, or_left, or_right, eqb-true, false_from_ne_true}
-use Rattle.std.proofs.lemmas.List.Elements.{All-contains, All-head, All-tail}
-use Rattle.mesh_defs.specs.Triangle.{level_of, IsAddress, IsSplittable}
+use Rattle.std.proofs.Common.{◌≡◌, ℕ, zero, suc, ◌+◌, ◌-◌, ◌*◌, ◌/◌, ◌%◌, ◌^◌, ◌<◌, ◌≤◌, ◌⊎◌, inl, inr, Bool, true, false, eqb, ◌||◌, List, [], ◌∷◌, ◌++◌, length, refl, sym, ◌∙◌, ap, subst, arith, ⊎_elim, eq-eqb, pow_mono, length-append, count_by}
+use Rattle.std.proofs.lemmas.Bool.{cases_lt, false≢true, or_cases, or_left, or_right, eqb-true}
+use Rattle.std.proofs.lemmas.List.Elements.{All-contains}
+use Rattle.mesh_defs.specs.Triangle.{level_of, IsAddress}
 use Rattle.mesh_defs.specs.ClosedSet.{IsClosed, IsLeastClosed, leaves_under, leaves_of, among}
 use Rattle.mesh_defs.specs.Tiling.{is_inside}
-use Rattle.mesh_defs.proofs.LevelLemmas.{splittable-below, level-le}
+use Rattle.mesh_defs.proofs.LevelLemmas.{splittable-below}
 use Rattle.bintree_addr.proofs.LevelLemmas.{level_of-left, level_of-right}
 use Rattle.tiling_laws.specs.Ancestors.{is_above}
 use Rattle.diamond_rel.specs.GridSet.{IsAscending, IsGridSet}
 use Rattle.tiling_laws.proofs.TurnLemmas.{one_if}
-use Rattle.tiling_laws.proofs.DescentLemmas.{IsDown, IsDown-left, IsDown-right, IsDown-2, IsDown-3, IsDown-address, IsAddress-down, IsAddress-splittable, one_if-true, one_if-le, true-one_if, one_base, sample_of}
+use Rattle.tiling_laws.proofs.DescentLemmas.{IsDown, IsDown-left, IsDown-right, IsDown-2, IsDown-3, IsDown-address, IsAddress-down, IsAddress-splittable, one_base, sample_of}
 use Rattle.tiling_laws.proofs.ConformityLemmas.{IsUnder, self, below, IsUnder-left, IsUnder-right, member_above}
-use Rattle.tiling_laws.proofs.ListLemmas.{IsIn, IsIn-among, among-in, Contains-in, count-cons, count-yes, count-some, some-count}
+use Rattle.tiling_laws.proofs.ListLemmas.{IsIn, IsIn-among, among-in, Contains-in, count-cons, count-yes, some-count}
 use Rattle.tiling_laws.proofs.ConverseLemmas.{under-above, above-under, level-under, not_below_both, is_inside-under, IsUnder-sample, level_of-first}
 
 -- how long an ascending list can be
 
+-- entries from k up to m are at most m - k
 length-within : (k m : ℕ) (xs : List ℕ) → IsAscending xs → ((a : ℕ) → IsIn a xs → (k ≤ a) × (a < m)) → length xs ≤ m - k
 length-within k m [] o within = omega arith
 length-within k m (x ∷ xs) o within =
@@ -42,12 +43,14 @@ length-grown n wanted after low high o least =
 
 -- an entry of an ascending list is there once
 
+-- where no entry passes, none is counted
 count-none : (p : ℕ → Bool) (xs : List ℕ) → ((a : ℕ) → IsIn a xs → p a ≡ true → ⊥) → count_by p xs ≡ 0
 count-none p xs none = ⊎_elim
     (λ zero. omega arith)
     (λ some. let e = some-count p xs some in absurd (none e.0 e.1 e.2))
     (cases_lt (count_by p xs) 1)
 
+-- an entry of an ascending list is counted once
 count-ascending : (a : ℕ) (xs : List ℕ) → IsAscending xs → IsIn a xs → count_by (λ t. eqb t a) xs ≡ 1
 count-ascending a [] o h = absurd h
 count-ascending a (x ∷ xs) o (inl e) =
@@ -70,15 +73,18 @@ count-ascending a (x ∷ xs) o (inr h) =
 
 -- at and below a
 
+-- m is a or lies below it
 abbrev is_under : ℕ → ℕ → Bool
 is_under a m = eqb m a || is_above a m
 
+-- from the test
 under-true : (a m : ℕ) → is_under a m ≡ true → IsUnder a m
 under-true a m h = ⊎_elim
     (λ same. subst (λ z. IsUnder a z) (sym (eqb-true m a same)) self)
     (λ above. let parts = under-above a m above in below m parts.1 parts.2)
     (or_cases (eqb m a) (is_above a m) h)
 
+-- to the test
 true-under : (a m : ℕ) → 2 ≤ a → IsUnder a m → is_under a m ≡ true
 true-under a m low self = or_left (eqb a a) (is_above a a) (eq-eqb a a refl)
 true-under a m low (below y big u) = or_right (eqb y a) (is_above a y) (above-under a y low big u)
@@ -142,6 +148,7 @@ count-three p q r s (x ∷ xs) same =
     let first = same x (inl refl) in
     omega arith
 
+-- two tests of which each entry passes one
 count-two : (p q : ℕ → Bool) (xs : List ℕ) → ((m : ℕ) → IsIn m xs → one_if (p m) + one_if (q m) ≡ 1) → count_by p xs + count_by q xs ≡ length xs
 count-two p q [] same = refl
 count-two p q (x ∷ xs) same =
@@ -158,6 +165,7 @@ length_step true left right a total both one = length-append left right ∙ both
 length_step false left right a total both one = one refl
 
 module _ (n : ℕ) (members : List ℕ) (ascending : IsAscending members) (closed : IsClosed n (among members)) where
+  -- each member is an address
   address_of : (m : ℕ) → IsIn m members → IsAddress n m
   address_of m h = IsAddress-splittable n m (closed.splittable m (among-in m members h))
 

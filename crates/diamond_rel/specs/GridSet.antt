@@ -1,7 +1,7 @@
 -- A closed set as the code has it: the members in ascending order. The definition is this project's own;
 -- forced splits are those of Duchaineau et al., "ROAMing Terrain", IEEE Visualization 1997, section 4.
 -- Words: GridSet, IsAscending, IsGridSet, IsForced, IsGain.
-use Rattle.std.specs.Prelude.{◌≡◌, ℕ, ◌+◌, ◌<◌, ◌≤◌, Bool, List, [], ◌∷◌, length, All}
+use Rattle.std.specs.Prelude.{◌≡◌, ℕ, ◌+◌, ◌<◌, ◌≤◌, List, [], ◌∷◌, length, All}
 use Rattle.mesh_defs.specs.ClosedSet.{IsClosed, IsLeastClosed, among}
 use Rattle.mesh_defs.specs.Greedy.{with_triangle}
 

@@ -1,17 +1,17 @@
 -- The leaves of a closed set are conforming: a grid point inside an edge of a leaf would be the midpoint of a
 -- base at or below it, and a corner of a leaf is a corner of the square or the midpoint of a member's base.
-use Rattle.std.proofs.Common.{◌≡◌, ℕ, zero, suc, ◌+◌, ◌*◌, ◌/◌, ◌^◌, ◌<◌, ◌≤◌, ◌⊎◌, inl, inr, Bool, true, false, List, All, Contains, IsTrue, refl, sym, ◌∙◌, ap, subst, arith, ⊎_elim}
+use Rattle.std.proofs.Common.{◌≡◌, ℕ, zero, suc, ◌+◌, ◌*◌, ◌/◌, ◌^◌, ◌<◌, ◌≤◌, ◌⊎◌, inl, inr, Bool, true, false, All, IsTrue, refl, sym, ◌∙◌, ap, subst, arith, ⊎_elim}
 use Rattle.std.proofs.lemmas.Bool.{both_ways}
 use Rattle.std.proofs.lemmas.List.Elements.{All-contains, All-weaker}
 use Rattle.mesh_defs.specs.declared.point.Point.{Point}
 use Rattle.mesh_defs.specs.declared.point.Corners.{Corners}
-use Rattle.mesh_defs.specs.Triangle.{level_of, base_triangle, IsAddress, IsSplittable, midpoint, child, corners_of, IsCorner, IsEdge, IsMate}
+use Rattle.mesh_defs.specs.Triangle.{level_of, base_triangle, IsAddress, IsSplittable, midpoint, child, corners_of, IsCorner, IsEdge}
 use Rattle.mesh_defs.specs.Tiling.{IsBetween, IsStrictlyBetween, IsConforming}
 use Rattle.mesh_defs.specs.ClosedSet.{IsClosed, leaves_of}
 use Rattle.bintree_addr.specs.Corners.{IsWithin}
 use Rattle.bintree_addr.proofs.CornerLemmas.{corners_of-left, corners_of-right, IsWithin-corners_of}
 use Rattle.bintree_addr.proofs.CentreLemmas.{same_centre}
-use Rattle.tiling_laws.proofs.WayLemmas.{Way, IsRun, IsInside, IsInside-between, IsStrictlyBetween-inside, IsRun-first_half, IsRun-second_half, inside_halves, not_inside_one}
+use Rattle.tiling_laws.proofs.WayLemmas.{Way, IsInside-between, IsStrictlyBetween-inside, IsRun-first_half, IsRun-second_half, inside_halves, not_inside_one}
 use Rattle.tiling_laws.proofs.TurnLemmas.{IsTurned, leg, IsAxis, three, six, IsRun-base, IsRun-short_base, IsRun-right_leg}
 use Rattle.tiling_laws.proofs.DescentLemmas.{IsDown, IsDown-left, IsDown-right, IsSplittable-down, IsAddress-down, forked_of, finest_of, All-leaves_of, Tiles-leaves_of}
 
@@ -27,10 +27,12 @@ pub IsUnder-up : (v x : ℕ) → 4 ≤ v → IsUnder v x → IsUnder (v / 2) x
 IsUnder-up v x big self = below v big self
 IsUnder-up v x big (below y h u) = below y h (IsUnder-up v (y / 2) big u)
 
+-- what lies below the left child lies below the triangle
 pub IsUnder-left : (v x : ℕ) → 2 ≤ v → IsUnder (2 * v) x → IsUnder v x
 IsUnder-left v x low u =
     let half : 2 * v / 2 ≡ v = omega arith in subst (λ w. IsUnder w x) half (IsUnder-up (2 * v) x (omega arith) u)
 
+-- and so does what lies below the right child
 pub IsUnder-right : (v x : ℕ) → 2 ≤ v → IsUnder (2 * v + 1) x → IsUnder v x
 IsUnder-right v x low u =
     let half : (2 * v + 1) / 2 ≡ v = omega arith in subst (λ w. IsUnder w x) half (IsUnder-up (2 * v + 1) x (omega arith) u)
@@ -56,9 +58,11 @@ between_ends p q r s t e f b =
 abbrev pub HasCentre : ℕ → ℕ → Point → Type 0
 HasCentre n v r = (x : ℕ) × IsSplittable n x × IsUnder v x × (middle n x ≡ r)
 
+-- from the left child
 from_left : (n v : ℕ) (r : Point) → 2 ≤ v → HasCentre n (2 * v) r → HasCentre n v r
 from_left n v r low h = (h.0, h.1, IsUnder-left v h.0 low h.2, h.3)
 
+-- from the right child
 from_right : (n v : ℕ) (r : Point) → 2 ≤ v → HasCentre n (2 * v + 1) r → HasCentre n v r
 from_right n v r low h = (h.0, h.1, IsUnder-right v h.0 low h.2, h.3)
 
@@ -115,6 +119,7 @@ point_on_edge n (suc levels) v p q r d (inr (inl e)) b =
 
 -- corners
 
+-- 0 or m
 abbrev IsEnd : ℕ → ℕ → Type 0
 IsEnd m i = (i ≡ 0) ⊎ (i ≡ m)
 
@@ -131,10 +136,12 @@ IsSquareCorner-base m (suc _) p (inl e) = (inr (ap (λ r. r.x) e), inr (ap (λ r
 IsSquareCorner-base m (suc _) p (inr (inl e)) = (inl (ap (λ r. r.x) e), inr (ap (λ r. r.y) e))
 IsSquareCorner-base m (suc _) p (inr (inr e)) = (inr (ap (λ r. r.x) e), inl (ap (λ r. r.y) e))
 
+-- the corners of 2 are corners of the square
 pub IsSquareCorner-2 : (n : ℕ) (p : Point) → IsCorner (corners_of n 2) p → IsSquareCorner (2 ^ n) p
 unfolding corners_of level_of
 IsSquareCorner-2 n = IsSquareCorner-base (2 ^ n) zero
 
+-- and so are those of 3
 pub IsSquareCorner-3 : (n : ℕ) (p : Point) → IsCorner (corners_of n 3) p → IsSquareCorner (2 ^ n) p
 unfolding corners_of level_of
 IsSquareCorner-3 n = IsSquareCorner-base (2 ^ n) 1
@@ -145,6 +152,7 @@ corner_of_left c p (inl e) = inl (sym e)
 corner_of_left c p (inr (inl e)) = inr (inl e)
 corner_of_left c p (inr (inr e)) = inr (inr (inl e))
 
+-- the same for the right child
 pub corner_of_right : (c : Corners) (p : Point) → IsCorner (child 1 c) p → (midpoint c.v0 c.v1 ≡ p) ⊎ IsCorner c p
 corner_of_right c p (inl e) = inl (sym e)
 corner_of_right c p (inr (inl e)) = inr (inr (inr e))

@@ -1,22 +1,23 @@
 -- Each conforming list is the leaves of the set of all proper ancestors of its entries, and that set is closed.
-use Rattle.std.proofs.Common.{◌≡◌, ◌≢◌, ℕ, zero, suc, ◌+◌, ◌-◌, ◌*◌, ◌/◌, ◌%◌, ◌^◌, ◌<◌, ◌≤◌, ◌⊎◌, inl, inr, Bool, true, false, eqb, ltb, List, All, Contains, IsTrue, refl, sym, ◌∙◌, ap, ap₂, subst, arith, ⊎_elim, eq-eqb, lt-ltb, ltb-true, count_by}
-use Rattle.std.proofs.lemmas.Bool.{cases_lt, cases_eq, cases_order, and_parts, and_from, or_cases, or_left, or_right, eqb-true, false≢true, both_ways, cases_Bool}
+use Rattle.std.proofs.Common.{◌≡◌, ◌≢◌, ℕ, zero, suc, ◌+◌, ◌-◌, ◌*◌, ◌/◌, ◌%◌, ◌<◌, ◌≤◌, ◌⊎◌, inl, inr, true, eqb, ltb, List, All, IsTrue, refl, sym, ◌∙◌, ap, ap₂, subst, arith, ⊎_elim, eq-eqb, lt-ltb, ltb-true, count_by, ◌↔◌, ◌^◌}
+use Rattle.std.proofs.lemmas.Bool.{cases_lt, and_parts, and_from, or_cases, or_left, or_right, eqb-true, false≢true, both_ways}
 use Rattle.std.proofs.lemmas.List.Elements.{All-contains}
+use Rattle.std.proofs.lemmas.Nat.{shr-shr}
 use Rattle.mesh_defs.specs.declared.point.Point.{Point}
 use Rattle.mesh_defs.specs.declared.point.Corners.{Corners}
 use Rattle.mesh_defs.specs.Triangle.{level_of, IsAddress, IsSplittable, midpoint, child, corners_of, IsCorner, IsEdge, IsMate}
 use Rattle.mesh_defs.specs.Tiling.{IsSample, is_inside, IsBetween, IsStrictlyBetween, IsConforming}
 use Rattle.mesh_defs.specs.ClosedSet.{IsClosed, leaves_of}
 use Rattle.mesh_defs.proofs.LevelLemmas.{level-le}
-use Rattle.bintree_addr.proofs.LevelLemmas.{level_of-left, level_of-right, level_of-parent, level_of-below}
+use Rattle.bintree_addr.proofs.LevelLemmas.{level_of-parent, level_of-below}
 use Rattle.bintree_addr.proofs.CornerLemmas.{corners_of-left, corners_of-right}
 use Rattle.bintree_addr.proofs.CentreLemmas.{same_centre, mate_unique, mate_symmetric}
 use Rattle.tiling_laws.specs.Ancestors.{halves_to, is_above, ancestors_of, AreLeaves}
-use Rattle.tiling_laws.proofs.WayLemmas.{Way, point, IsRun, IsInside, IsInside-between, IsStrictlyBetween-inside, IsRun-first_half, IsRun-second_half, IsInside-first_half, IsInside-second_half, IsInside-middle}
-use Rattle.tiling_laws.proofs.TurnLemmas.{three, IsTurned, leg, IsRun-base, one_if}
-use Rattle.tiling_laws.proofs.DescentLemmas.{IsDown, IsDown-left, IsDown-right, IsDown-address, IsDown-splittable, IsAddress-level, IsAddress-down, IsAddress-splittable, IsSplittable-down, forked_of, one_child_of, one_if-true, one_if-le, is_inside-left, is_inside-right, sample_of, one_base, All-leaves_of, Tiles-leaves_of}
-use Rattle.tiling_laws.proofs.ConformityLemmas.{IsUnder, self, below, IsUnder-up, IsUnder-left, IsUnder-right, member_above, middle, between_ends, point_on_edge}
-use Rattle.tiling_laws.proofs.ListLemmas.{IsIn, IsIn-contains, Contains-in, Any-in, list_any-in, count-some, some-count, one_entry, count-narrower}
+use Rattle.tiling_laws.proofs.WayLemmas.{Way, point, IsInside-between, IsStrictlyBetween-inside, IsRun-first_half, IsRun-second_half, IsInside-first_half, IsInside-second_half, IsInside-middle}
+use Rattle.tiling_laws.proofs.TurnLemmas.{three, IsTurned, leg, IsRun-base}
+use Rattle.tiling_laws.proofs.DescentLemmas.{IsDown, IsDown-left, IsDown-right, IsDown-address, IsDown-splittable, IsAddress-down, IsAddress-splittable, forked_of, one_child_of, one_if-true, one_if-le, is_inside-left, is_inside-right, sample_of, one_base, All-leaves_of, Tiles-leaves_of}
+use Rattle.tiling_laws.proofs.ConformityLemmas.{IsUnder, self, below, IsUnder-up, IsUnder-left, IsUnder-right, middle, between_ends, point_on_edge}
+use Rattle.tiling_laws.proofs.ListLemmas.{IsIn, Contains-in, Any-in, list_any-in, count-some, some-count, one_entry, count-narrower}
 
 -- ancestors
 
@@ -37,6 +38,7 @@ under-above a e h =
     let low : 1 < a = ltb-true 1 a parts.0 in
     let more = is_above-parts e a e low parts.1 in (low, more.0, more.1)
 
+-- what lies above e by its parent f is reached by halving
 halves_to-under : (steps a e f : ℕ) → f ≡ e / 2 → e ≤ steps → 2 ≤ e → IsUnder a f → halves_to steps e a ≡ true
 halves_to-under zero a e f half h some u = absurd (omega arith)
 halves_to-under (suc steps) a e f half h some self = or_left (eqb (e / 2) a) (halves_to steps (e / 2) a) (eq-eqb (e / 2) a (sym half))
@@ -50,12 +52,40 @@ unfolding is_above
 above-under a e low big u =
     and_from (ltb 1 a) (halves_to e e a) (lt-ltb 1 a low) (halves_to-under e a e (e / 2) refl (omega arith) (omega arith) u)
 
+-- by powers of 2
+
+-- what lies at and below a comes to a by halving
+under-power : (a x : ℕ) → IsUnder a x → (k : ℕ) × (x / 2 ^ k ≡ a)
+under-power a x self = (zero, omega arith)
+under-power a x (below y big u) =
+    let r : (k : ℕ) × (y / 2 / 2 ^ k ≡ a) = under-power a (y / 2) u in
+    (1 + r.0, sym (shr-shr y 1 r.0) ∙ r.1)
+
+-- and what comes to an address by halving lies at and below it
+power-under : (a e k : ℕ) → 2 ≤ a → e / 2 ^ (k + 1) ≡ a → (4 ≤ e) × IsUnder a (e / 2)
+power-under a e zero low is = let half : e / 2 ≡ a = is in (omega arith, subst (λ z. IsUnder a z) (sym half) self)
+power-under a e (suc k) low is =
+    let half : e / 2 / 2 ^ (k + 1) ≡ a = shr-shr e 1 (k + 1) ∙ ap (λ j. e / 2 ^ j) (let f : 1 + (k + 1) ≡ suc k + 1 = omega arith in f) ∙ is in
+    let r : (4 ≤ e / 2) × IsUnder a (e / 2 / 2) = power-under a (e / 2) k low half in
+    (omega arith, below (e / 2) r.0 r.1)
+
+-- a proper ancestor of e is an address that is e divided by a power of 2, rounded down
+pub is_above-power : (a e : ℕ) → IsTrue (is_above a e) ↔ ((2 ≤ a) × ((k : ℕ) × (e / 2 ^ (k + 1) ≡ a)))
+is_above-power a e = (
+  (λ h. let parts = under-above a e h in
+      let r = under-power a (e / 2) parts.2 in
+      (parts.0, (r.0, ap (λ j. e / 2 ^ j) (let f : r.0 + 1 ≡ 1 + r.0 = omega arith in f) ∙ sym (shr-shr e 1 r.0) ∙ r.1))),
+  (λ (h : (2 ≤ a) × ((k : ℕ) × (e / 2 ^ (k + 1) ≡ a))).
+      let r = power-under a e h.1.0 h.0 h.1.1 in above-under a e h.0 r.0 r.1),
+)
+
 -- levels
 
 -- 2 and 3 have level 0, the others a parent of the level before
 pub level_of-first : (a : ℕ) → 2 ≤ a → a < 4 → level_of a ≡ 0
 level_of-first a low high = let h : level_of a < 1 = (level_of-below a 1 low).1 high in omega arith
 
+-- an address of level 0 is 2 or 3
 first-level_of : (a : ℕ) → 2 ≤ a → level_of a ≡ 0 → a < 4
 first-level_of a low e = (level_of-below a 1 low).0 (omega arith)
 
@@ -80,6 +110,7 @@ parent_down n a address big =
     let e = level_of-parent a big in let fits : level_of a ≤ 2 * n = level-le n a address in
     record { low = omega arith; height = omega arith }
 
+-- and it is an address
 pub IsAddress-parent : (n a : ℕ) → IsAddress n a → 4 ≤ a → IsAddress n (a / 2)
 IsAddress-parent n a address big = IsAddress-down n (suc (2 * n - level_of a)) (a / 2) (parent_down n a address big)
 
@@ -123,6 +154,7 @@ same_children n x y p a b s levels d (inl e) (inr f) h k =
 same_children n x y p a b s levels d (inr e) (inl f) h k =
     absurd (not_both_children n levels p x y d s (subst (λ z. is_inside n x y z ≡ true) f k) (subst (λ z. is_inside n x y z ≡ true) e h))
 
+-- of the base triangles a sample is inside one
 same_base : (n x y a b : ℕ) → IsSample n x y → (a ≡ 2) ⊎ (a ≡ 3) → (b ≡ 2) ⊎ (b ≡ 3) →
     is_inside n x y a ≡ true → is_inside n x y b ≡ true → a ≡ b
 same_base n x y a b s (inl e) (inl f) h k = e ∙ sym f
@@ -136,6 +168,7 @@ same_base n x y a b s (inr e) (inl f) h k =
     let lower = one_if-true (is_inside n x y 2) (subst (λ z. is_inside n x y z ≡ true) f k) in
     let upper = one_if-true (is_inside n x y 3) (subst (λ z. is_inside n x y z ≡ true) e h) in absurd (omega arith)
 
+-- two triangles of a level with a common sample are the same
 pub same_level : (n x y level a b : ℕ) → IsSample n x y → IsAddress n a → IsAddress n b → level_of a ≡ level → level_of b ≡ level →
     is_inside n x y a ≡ true → is_inside n x y b ≡ true → a ≡ b
 same_level n x y zero a b s p q e f h k =
@@ -217,6 +250,7 @@ on_first_half w k c r some t b =
     IsStrictlyBetween-inside (three w) (2 * k) c.v0 c.v1 r base
     (IsInside-first_half (three w) k c.v0 r (IsInside-between (three w) k c.v0 (midpoint c.v0 c.v1) r some first b))
 
+-- the same for the second half
 on_second_half : (w : Way) (k : ℕ) (c : Corners) (r : Point) → 0 < k → IsTurned w (leg w k) c →
     IsStrictlyBetween (midpoint c.v0 c.v1) c.v1 r → IsStrictlyBetween c.v0 c.v1 r
 on_second_half w k c r some t b =
@@ -246,6 +280,7 @@ edge_of_left n levels a m d h = at h.from h.to (subst (λ c. IsEdge c h.from h.t
           between = on_first_half f.0 f.1 (corners_of n a) m f.2 f.3 (between_ends p q m (corners_of n a).v0 (middle n a) e.0 e.1 b);
         }
 
+-- the same for the right child
 edge_of_right : (n levels a : ℕ) (m : Point) → IsDown n (suc levels) a → HasOnEdge n (2 * a + 1) m → HasOnEdge n a m ⊎ HasOnEdge n (2 * a) m
 edge_of_right n levels a m d h = at h.from h.to (subst (λ c. IsEdge c h.from h.to) (corners_of-right n a d.low) h.edge) h.between
   where
@@ -276,6 +311,7 @@ not_below_both n levels a b d address u v =
 same_sums : (i j : ℕ) → (i + j) / 2 ≡ (j + i) / 2
 same_sums i j = ap (λ z. z / 2) (let e : i + j ≡ j + i = omega arith in e)
 
+-- the midpoint of a is that of its mate b
 middle_mate : (n a b : ℕ) → IsMate n a b → middle n a ≡ middle n b
 middle_mate n a b mate = ⊎_elim
     (λ e. ap₂ midpoint e.0 e.1)
@@ -339,12 +375,14 @@ module _ (n : ℕ) (list : List ℕ) (conforming : IsConforming n list) where
     big : 4 ≤ entry
     under : IsUnder a (entry / 2)
 
+  -- from the test
   IsAbove-member : (a : ℕ) → IsTrue (ancestors_of list a) → IsAbove a
   IsAbove-member a h =
       let e = Any-in (λ e. is_above a e) list h in
       let parts = under-above a e.0 e.2 in
       record { entry = e.0; listed = e.1; low = parts.0; big = parts.1; under = parts.2 }
 
+  -- to the test
   member-IsAbove : (a e : ℕ) → IsIn e list → 2 ≤ a → 4 ≤ e → IsUnder a (e / 2) → IsTrue (ancestors_of list a)
   member-IsAbove a e h low big u = list_any-in (λ e. is_above a e) list e h (above-under a e low big u)
 
@@ -352,6 +390,7 @@ module _ (n : ℕ) (list : List ℕ) (conforming : IsConforming n list) where
   IsUnder-above : (a : ℕ) (h : IsAbove a) → IsUnder a h.entry
   IsUnder-above a h = below h.entry h.big h.under
 
+  -- a member has a lesser level than its entry
   level-above : (a : ℕ) (h : IsAbove a) → level_of a < level_of h.entry
   level-above a h = let e = level_of-parent h.entry h.big in let u = level-under a (h.entry / 2) h.under in omega arith
 
@@ -394,9 +433,9 @@ module _ (n : ℕ) (list : List ℕ) (conforming : IsConforming n list) where
           is_inside n x y e ≡ true → level_of a < level_of e → IsTrue (ancestors_of list a)
       deeper_entry a address x y s h e listed other k deeper =
           let big : 4 ≤ e = ⊎_elim
-              (λ small. let z = level_of-first e other.low small in absurd (omega arith))
-              (λ large. large)
-              (cases_lt e 4) in
+          (λ small. let z = level_of-first e other.low small in absurd (omega arith))
+          (λ large. large)
+          (cases_lt e 4) in
           let l = level_of-parent e big in
           member-IsAbove a e listed address.low big
           (IsUnder-sample n x y (level_of e - 1 - level_of a) a (e / 2) s address (IsAddress-parent n e other big) (omega arith) h
@@ -438,11 +477,11 @@ module _ (n : ℕ) (list : List ℕ) (conforming : IsConforming n list) where
       let left = IsDown-left n levels a d in
       let right = IsDown-right n levels a d in
       let to_left : IsCorner (child 0 (corners_of n a)) m → (e : ℕ) × IsIn e list × IsCorner (corners_of n e) m = λ k.
-          corner_entry levels (2 * a) m left (child_of_member a (2 * a) is (IsAddress-down n levels (2 * a) left) (omega arith) (omega arith))
-          (subst (λ c. IsCorner c m) (sym (corners_of-left n a low)) k) in
+      corner_entry levels (2 * a) m left (child_of_member a (2 * a) is (IsAddress-down n levels (2 * a) left) (omega arith) (omega arith))
+      (subst (λ c. IsCorner c m) (sym (corners_of-left n a low)) k) in
       let to_right : IsCorner (child 1 (corners_of n a)) m → (e : ℕ) × IsIn e list × IsCorner (corners_of n e) m = λ k.
-          corner_entry levels (2 * a + 1) m right (child_of_member a (2 * a + 1) is (IsAddress-down n levels (2 * a + 1) right) (omega arith) (omega arith))
-          (subst (λ c. IsCorner c m) (sym (corners_of-right n a low)) k) in
+      corner_entry levels (2 * a + 1) m right (child_of_member a (2 * a + 1) is (IsAddress-down n levels (2 * a + 1) right) (omega arith) (omega arith))
+      (subst (λ c. IsCorner c m) (sym (corners_of-right n a low)) k) in
       ⊎_elim
       (λ e. to_left (inr (inl e)))
       (λ base. ⊎_elim (λ e. to_left (inr (inr e))) (λ e. to_right (inr (inl e))) base)
@@ -497,8 +536,8 @@ module _ (n : ℕ) (list : List ℕ) (conforming : IsConforming n list) where
   IsEntryLeaf-leaves =
       All-leaves_of n (ancestors_of list) (λ a. 4 ≤ a → IsTrue (ancestors_of list (a / 2))) IsEntryLeaf
       (λ levels a d is known. (
-      (λ _. let half : 2 * a / 2 ≡ a = omega arith in subst (λ z. IsTrue (ancestors_of list z)) (sym half) is),
-      (λ _. let half : (2 * a + 1) / 2 ≡ a = omega arith in subst (λ z. IsTrue (ancestors_of list z)) (sym half) is),
+        (λ _. let half : 2 * a / 2 ≡ a = omega arith in subst (λ z. IsTrue (ancestors_of list z)) (sym half) is),
+        (λ _. let half : (2 * a + 1) / 2 ≡ a = omega arith in subst (λ z. IsTrue (ancestors_of list z)) (sym half) is),
       ))
       (λ levels a d ends known. record {
         address = IsAddress-down n levels a d;

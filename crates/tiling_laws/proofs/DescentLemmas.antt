@@ -1,17 +1,13 @@
 -- Down the bintree: levels and addresses below a triangle, samples in it, and what holds of leaves.
-use Rattle.std.proofs.Common.{◌≡◌, ℕ, zero, suc, ◌+◌, ◌-◌, ◌*◌, ◌/◌, ◌%◌, ◌^◌, ◌<◌, ◌≤◌, ◌⊎◌, inl, inr, Bool, true, false, cond, List, [], ◌∷◌, ◌++◌, All, Contains, IsTrue, refl, sym, ◌∙◌, ap, ap₂, append_assoc, subst, arith, ⊎_elim, pow_mono, pow-add, count_by}
-use Rattle.std.proofs.lemmas.Bool.{false≢true}
+use Rattle.std.proofs.Common.{◌≡◌, ℕ, zero, suc, ◌+◌, ◌-◌, ◌*◌, ◌^◌, ◌<◌, ◌≤◌, ◌⊎◌, inl, inr, Bool, true, false, cond, List, [], ◌∷◌, ◌++◌, All, refl, ◌∙◌, ap, ap₂, append_assoc, arith, pow_mono, pow-add, count_by}
 use Rattle.std.proofs.lemmas.List.Elements.{All-cons, All-nil, All-append}
 use Rattle.std.proofs.lemmas.List.Sums.{sum_by-append}
-use Rattle.mesh_defs.specs.declared.point.Point.{Point}
-use Rattle.mesh_defs.specs.declared.point.Corners.{Corners}
-use Rattle.mesh_defs.specs.Triangle.{level_of, IsAddress, IsSplittable, midpoint, child, corners_at, corners_of}
+use Rattle.mesh_defs.specs.Triangle.{level_of, IsAddress, IsSplittable, child, corners_of}
 use Rattle.mesh_defs.specs.Tiling.{IsSample, is_within, is_inside, Tiles}
 use Rattle.mesh_defs.specs.ClosedSet.{leaves_under, leaves_of}
 use Rattle.mesh_defs.proofs.LevelLemmas.{level-le, lt-pow-level}
 use Rattle.mesh_defs.proofs.TilingLemmas.{base_conforming}
-use Rattle.bintree_addr.specs.Corners.{IsWithin}
-use Rattle.bintree_addr.proofs.LevelLemmas.{level_of-left, level_of-right, level_of-parent}
+use Rattle.bintree_addr.proofs.LevelLemmas.{level_of-left, level_of-right}
 use Rattle.bintree_addr.proofs.CornerLemmas.{corners_of-left, corners_of-right, IsWithin-corners_of}
 use Rattle.tiling_laws.proofs.WayLemmas.{Way}
 use Rattle.tiling_laws.proofs.TurnLemmas.{IsTurned, leg, IsAxis, IsPlaced, IsPlaced-at, forked-placed, finest-placed, one_if, one_child, IsOff-sample, some_sample}
@@ -28,6 +24,7 @@ pub IsDown-left : (n levels a : ℕ) → IsDown n (suc levels) a → IsDown n le
 IsDown-left n levels a d =
     let low : 2 ≤ a = d.low in let h = d.height in let l = level_of-left a low in record { low = omega arith; height = omega arith }
 
+-- the same for the right child
 pub IsDown-right : (n levels a : ℕ) → IsDown n (suc levels) a → IsDown n levels (2 * a + 1)
 IsDown-right n levels a d =
     let low : 2 ≤ a = d.low in let h = d.height in let l = level_of-right a low in record { low = omega arith; height = omega arith }
@@ -44,6 +41,7 @@ IsAddress-level n a low fits =
     let four : 2 ^ (2 * n + 2) ≡ 2 ^ (2 * n) * 4 = pow-add 2 (2 * n) 2 in
     record { low = low; high = omega arith }
 
+-- what has levels below it is an address
 pub IsAddress-down : (n levels a : ℕ) → IsDown n levels a → IsAddress n a
 IsAddress-down n levels a d = let h = d.height in IsAddress-level n a d.low (omega arith)
 
@@ -64,12 +62,14 @@ pub IsDown-2 : (n : ℕ) → IsDown n (2 * n) 2
 unfolding level_of
 IsDown-2 n = record { low = omega arith; height = omega arith }
 
+-- and so has 3
 pub IsDown-3 : (n : ℕ) → IsDown n (2 * n) 3
 unfolding level_of
 IsDown-3 n = record { low = omega arith; height = omega arith }
 
 -- shapes
 
+-- the way and the legs of an address
 IsPlaced-of : (n a : ℕ) → level_of a ≤ 2 * n → IsPlaced n (level_of a) (corners_of n a)
 unfolding corners_of
 IsPlaced-of n a fits = IsPlaced-at (level_of a) n a fits
@@ -103,10 +103,12 @@ one_child_of n levels a x y d s =
 pub one_if-true : (b : Bool) → b ≡ true → one_if b ≡ 1
 one_if-true b e = ap one_if e
 
+-- what counts one passes
 pub true-one_if : (b : Bool) → 1 ≤ one_if b → b ≡ true
 true-one_if true h = refl
 true-one_if false h = absurd (omega arith)
 
+-- a test counts at most one
 pub one_if-le : (b : Bool) → one_if b ≤ 1
 one_if-le true = omega arith
 one_if-le false = omega arith
@@ -118,6 +120,7 @@ is_inside-left n levels a x y d s h =
     let one = one_child_of n levels a x y d s in let some = one_if-true (is_inside n x y (2 * a)) h in
     true-one_if (is_inside n x y a) (omega arith)
 
+-- and so is inside the right child
 pub is_inside-right : (n levels a x y : ℕ) → IsDown n (suc levels) a → IsSample n x y →
     is_inside n x y (2 * a + 1) ≡ true → is_inside n x y a ≡ true
 is_inside-right n levels a x y d s h =

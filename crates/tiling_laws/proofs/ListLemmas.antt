@@ -1,7 +1,7 @@
 -- Membership by recursion, and counts of entries that pass a test.
-use Rattle.std.proofs.Common.{◌≡◌, ℕ, zero, suc, ◌+◌, ◌<◌, ◌≤◌, ◌⊎◌, inl, inr, Bool, true, false, cond, eqb, ◌||◌, List, [], ◌∷◌, ◌++◌, length, Contains, refl, sym, ◌∙◌, ap, subst, arith, ⊎_elim, count_by, eq-eqb, length-append}
-use Rattle.std.proofs.lemmas.Bool.{cases_lt, eqb-true, or_cases, or_left, or_right, cond-true, cond-false, cases_Bool, false≢true}
-use Rattle.std.proofs.lemmas.List.Sums.{sum_by-cons, sum_by-append, sum_by-le-sum_by}
+use Rattle.std.proofs.Common.{◌≡◌, ℕ, zero, suc, ◌+◌, ◌<◌, ◌≤◌, ◌⊎◌, inl, inr, Bool, true, false, cond, eqb, List, [], ◌∷◌, ◌++◌, length, Contains, refl, sym, ◌∙◌, ap, subst, arith, ⊎_elim, count_by, eq-eqb}
+use Rattle.std.proofs.lemmas.Bool.{eqb-true, or_cases, or_left, or_right, cond-true, cond-false, cases_Bool, false≢true}
+use Rattle.std.proofs.lemmas.List.Sums.{sum_by-cons, sum_by-le-sum_by}
 use Rattle.std.specs.List.{list_any}
 use Rattle.mesh_defs.specs.ClosedSet.{among}
 use Rattle.tiling_laws.proofs.TurnLemmas.{one_if}
@@ -17,6 +17,7 @@ IsIn-contains a [] (k, h, e) = absurd (omega arith)
 IsIn-contains a (x ∷ xs) (zero, h, e) = inl e
 IsIn-contains a (x ∷ xs) (suc k, h, e) = inr (IsIn-contains a xs (k, omega arith, e))
 
+-- to membership by a place
 pub Contains-in : (a : ℕ) (xs : List ℕ) → IsIn a xs → Contains xs a
 Contains-in a [] h = absurd h
 Contains-in a (x ∷ xs) (inl e) = (zero, omega arith, e)
@@ -31,6 +32,7 @@ IsIn-among a (x ∷ xs) h = ⊎_elim
     (λ rest. inr (IsIn-among a xs rest))
     (or_cases (eqb x a) (among xs a) h)
 
+-- to the test of membership
 pub among-in : (a : ℕ) (xs : List ℕ) → IsIn a xs → among xs a ≡ true
 among-in a [] h = absurd h
 among-in a (x ∷ xs) (inl e) = or_left (eqb x a) (among xs a) (eq-eqb x a e)
@@ -50,6 +52,7 @@ Any-in p (x ∷ xs) h = ⊎_elim
     (λ rest. let e : (e : ℕ) × IsIn e xs × (p e ≡ true) = Any-in p xs rest in (e.0, inr e.1, e.2))
     (or_cases (p x) (list_any p xs) h)
 
+-- an entry that passes makes the test pass
 pub list_any-in : (p : ℕ → Bool) (xs : List ℕ) (e : ℕ) → IsIn e xs → p e ≡ true → list_any p xs ≡ true
 list_any-in p [] e h is = absurd h
 list_any-in p (x ∷ xs) e (inl same) is = or_left (p x) (list_any p xs) (subst (λ z. p z ≡ true) (sym same) is)
@@ -61,9 +64,11 @@ list_any-in p (x ∷ xs) e (inr h) is = or_right (p x) (list_any p xs) (list_any
 pub count-cons : (p : ℕ → Bool) (x : ℕ) (xs : List ℕ) → count_by p (x ∷ xs) ≡ one_if (p x) + count_by p xs
 count-cons p x xs = sum_by-cons (λ t. cond (p t) 1 0) x xs
 
+-- an entry that passes adds one
 pub count-yes : (p : ℕ → Bool) (x : ℕ) (xs : List ℕ) → p x ≡ true → count_by p (x ∷ xs) ≡ 1 + count_by p xs
 count-yes p x xs is = count-cons p x xs ∙ ap (λ k. k + count_by p xs) (cond-true (p x) 1 0 is)
 
+-- an entry that fails adds nothing
 pub count-no : (p : ℕ → Bool) (x : ℕ) (xs : List ℕ) → p x ≡ false → count_by p (x ∷ xs) ≡ count_by p xs
 count-no p x xs is = count-cons p x xs ∙ ap (λ k. k + count_by p xs) (cond-false (p x) 1 0 is) ∙ omega arith
 
@@ -126,6 +131,7 @@ length-without a (x ∷ xs) h = ⊎_elim
     later other (inl e) = absurd (false≢true (sym other ∙ eq-eqb x a e))
     later other (inr k) = k
 
+-- and its count goes
 count-without : (p : ℕ → Bool) (a : ℕ) (xs : List ℕ) → IsIn a xs → count_by p xs ≡ one_if (p a) + count_by p (without a xs)
 unfolding without
 count-without p a [] h = absurd h

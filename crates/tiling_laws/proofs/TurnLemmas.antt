@@ -1,13 +1,12 @@
 -- Triangles by the way from the apex to v0: their edges, their children, and the samples strictly inside them.
-use Rattle.std.proofs.Common.{◌≡◌, ◌≢◌, ℕ, zero, suc, ◌+◌, ◌-◌, ◌*◌, ◌/◌, ◌%◌, ◌^◌, ◌<◌, ◌≤◌, ◌⊎◌, inl, inr, Bool, true, false, cond, ◌&&◌, refl, sym, ap, subst, arith, ⊎_elim, pow_pos, ltb-true, lt-ltb}
+use Rattle.std.proofs.Common.{◌≡◌, ◌≢◌, ℕ, zero, suc, ◌+◌, ◌-◌, ◌*◌, ◌/◌, ◌%◌, ◌^◌, ◌<◌, ◌≤◌, ◌⊎◌, inl, inr, Bool, true, false, cond, ◌&&◌, refl, subst, arith, ⊎_elim, pow_pos, ltb-true, lt-ltb}
 use Rattle.std.proofs.lemmas.Bool.{cases_lt, and_parts, and_from, false≢true}
-use Rattle.mesh_defs.specs.declared.point.Point.{Point}
 use Rattle.mesh_defs.specs.declared.point.Corners.{Corners}
-use Rattle.mesh_defs.specs.Triangle.{midpoint, base_triangle, child, corners_at}
+use Rattle.mesh_defs.specs.Triangle.{base_triangle, child, corners_at}
 use Rattle.mesh_defs.specs.Tiling.{IsSample, is_left, is_within}
 use Rattle.bintree_addr.specs.Corners.{IsWithin}
 use Rattle.mesh_defs.proofs.LevelLemmas.{pow-twice}
-use Rattle.tiling_laws.proofs.WayLemmas.{Way, east, north_east, north, north_west, west, south_west, south, south_east, IsRun, IsBeside, IsBeside-left, IsLeft-beside, IsRun-first_half, IsRun-second_half}
+use Rattle.tiling_laws.proofs.WayLemmas.{Way, east, north_east, north, north_west, west, south_west, south, south_east, IsRun, IsBeside, IsBeside-left, IsLeft-beside}
 
 -- a quarter turn to the left
 abbrev pub quarter : Way → Way
@@ -92,6 +91,7 @@ IsAxis south_west = ⊥
 IsAxis south = Unit {0}
 IsAxis south_east = ⊥
 
+-- its base has as many diagonal steps as a leg has
 pub IsRun-short_base : (w : Way) (k : ℕ) (c : Corners) → IsAxis w → IsTurned w k c → IsRun (three w) k c.v0 c.v1
 IsRun-short_base east k c a t = (omega arith, omega arith)
 IsRun-short_base north_east k c a t = absurd a
@@ -126,6 +126,7 @@ IsRun-right_leg south_east k c t = (omega arith, omega arith)
 
 -- children
 
+-- the left child is turned by five eighths
 pub IsTurned-left : (w : Way) (k : ℕ) (c : Corners) → IsTurned w (leg w k) c → IsTurned (five w) k (child 0 c)
 IsTurned-left east k c t = ((omega arith, omega arith), (omega arith, omega arith))
 IsTurned-left north_east k c t = ((omega arith, omega arith), (omega arith, omega arith))
@@ -136,6 +137,7 @@ IsTurned-left south_west k c t = ((omega arith, omega arith), (omega arith, omeg
 IsTurned-left south k c t = ((omega arith, omega arith), (omega arith, omega arith))
 IsTurned-left south_east k c t = ((omega arith, omega arith), (omega arith, omega arith))
 
+-- the right child is turned by three eighths
 pub IsTurned-right : (w : Way) (k s : ℕ) (c : Corners) → IsTurned w (leg w k) c → IsTurned (three w) k (child (suc s) c)
 IsTurned-right east k s c t = ((omega arith, omega arith), (omega arith, omega arith))
 IsTurned-right north_east k s c t = ((omega arith, omega arith), (omega arith, omega arith))
@@ -148,6 +150,7 @@ IsTurned-right south_east k s c t = ((omega arith, omega arith), (omega arith, o
 
 -- points strictly inside, by the sides of the three runs
 
+-- strictly inside: beside the left leg, the base and the right leg
 abbrev pub IsIn : Way → ℕ → ℕ → Corners → Type 0
 IsIn w x y c = IsBeside w c.apex x y × IsBeside (three w) c.v0 x y × IsBeside (six w) c.v1 x y
 
@@ -391,6 +394,7 @@ leg_some south_east k h = omega arith
 
 -- samples
 
+-- 1 for a test that passes
 abbrev pub one_if : Bool → ℕ
 one_if b = cond b 1 0
 

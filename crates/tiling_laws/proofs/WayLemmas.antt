@@ -1,10 +1,10 @@
 -- Runs of grid points: from a point so many steps in one of the eight ways. The edges of triangles are runs,
 -- and on a run each fact of lines and sides is linear.
-use Rattle.std.proofs.Common.{◌≡◌, ℕ, zero, suc, ◌+◌, ◌*◌, ◌-◌, ◌/◌, ◌<◌, ◌≤◌, ◌⊎◌, inl, inr, refl, ap, ap₂, subst, arith, ⊎_elim, mul-le-mul_left}
+use Rattle.std.proofs.Common.{◌≡◌, ℕ, suc, ◌+◌, ◌*◌, ◌-◌, ◌<◌, ◌≤◌, ◌⊎◌, inl, inr, ap, ap₂, subst, arith, ⊎_elim, mul-le-mul_left}
 use Rattle.std.proofs.lemmas.Bool.{cases_lt}
 use Rattle.mesh_defs.specs.declared.point.Point.{Point}
 use Rattle.mesh_defs.specs.Triangle.{midpoint}
-use Rattle.mesh_defs.specs.Tiling.{IsBetween, IsStrictlyBetween}
+use Rattle.mesh_defs.specs.Tiling.{IsStrictlyBetween}
 
 -- the eight ways, counterclockwise
 pub data Way : Type 0 where

@@ -1,10 +1,10 @@
 //! Laws of the definitions, each a clause of a function with an empty body.
 
-ghost use Rattle.std.specs.Prelude.{◌≡◌, ℕ, ◌+◌, ◌*◌, ◌/◌, ◌<◌, ◌≤◌, Bool, IsTrue, List, [], ◌∷◌, length, All, Contains, count_by};
+ghost use Rattle.std.specs.Prelude.{◌≡◌, ℕ, ◌+◌, ◌*◌, ◌/◌, ◌<◌, ◌≤◌, Bool, IsTrue, List, [], ◌∷◌, length, All, Contains, count_by, ◌↔◌, ◌^◌};
 ghost use Rattle.mesh_defs.specs.Triangle.{level_of, IsAddress, IsSplittable};
 ghost use Rattle.mesh_defs.specs.Tiling.{IsSample, is_inside, Tiles, IsConforming};
 ghost use Rattle.mesh_defs.specs.ClosedSet.{IsClosed, leaves_of};
-ghost use Rattle.tiling_laws.specs.Ancestors.{ancestors_of, AreLeaves};
+ghost use Rattle.tiling_laws.specs.Ancestors.{is_above, ancestors_of, AreLeaves};
 
 /// Samples in triangles: no sample lies on an edge, so each is inside one triangle of each level.
 pub fn sample_laws()
@@ -25,7 +25,10 @@ pub fn leaf_laws()
 /// A list is conforming exactly if it is the leaves of a closed set, each once.
 ///
 /// The closed set of a conforming list is that of all proper ancestors of its entries.
+///
+/// `above` says what a proper ancestor is: an address to which halving leads.
 pub fn conformity_laws()
+    ensures above { (a e : ℕ) → (IsTrue (is_above a e) ↔ ((2 ≤ a) × ((k : ℕ) × (e / 2 ^ (k + 1) ≡ a)))) }
     ensures conforming { (n : ℕ) (has : ℕ → Bool) → IsClosed n has → IsConforming n (leaves_of n has) }
     ensures closed { (n : ℕ) (others : List ℕ) → IsConforming n others → IsClosed n (ancestors_of others) }
     ensures each_once { (n : ℕ) (others : List ℕ) → IsConforming n others → AreLeaves n (ancestors_of others) others }

@@ -9,3 +9,6 @@
 mod laws;
 
 pub use laws::{conformity_laws, leaf_laws, sample_laws};
+
+#[cfg(test)]
+mod tests;

@@ -1,5 +1,5 @@
 -- With what it stands on in the set, a triangle with no mate goes in alone, and another with its mate.
-use Rattle.std.proofs.Common.{◌≡◌, Some, None}
+use Rattle.std.proofs.Common.{◌≡◌, Some}
 use Rattle.mesh_defs.specs.ClosedSet.{among}
 use Rattle.diamond_rel.proofs.ForcingLemmas.{IsLeastClosed-single, IsLeastClosed-pair}
 use Rattle.diamond_rel.proofs.forcing.+force.Goals as goal

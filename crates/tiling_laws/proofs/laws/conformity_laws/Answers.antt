@@ -2,9 +2,12 @@
 use Rattle.mesh_defs.specs.ClosedSet.{leaves_of}
 use Rattle.tiling_laws.specs.Ancestors.{ancestors_of}
 use Rattle.tiling_laws.proofs.ConformityLemmas.{IsConforming-leaves_of}
-use Rattle.tiling_laws.proofs.ConverseLemmas.{IsClosed-ancestors_of, AreLeaves-ancestors_of}
+use Rattle.tiling_laws.proofs.ConverseLemmas.{is_above-power, IsClosed-ancestors_of, AreLeaves-ancestors_of}
 use Rattle.tiling_laws.proofs.ListLemmas.{length-counts}
 use Rattle.tiling_laws.proofs.laws.conformity_laws.Goals as goal
+
+pub returns-clause-above : goal.returns-clause-above
+returns-clause-above c = is_above-power
 
 pub returns-clause-conforming : goal.returns-clause-conforming
 returns-clause-conforming c = IsConforming-leaves_of

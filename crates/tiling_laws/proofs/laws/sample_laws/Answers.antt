@@ -1,5 +1,5 @@
 -- Each clause is a lemma.
-use Rattle.std.proofs.Common.{◌-◌, ◌*◌, refl, sym, arith}
+use Rattle.std.proofs.Common.{◌-◌, ◌*◌, refl, arith}
 use Rattle.mesh_defs.specs.Triangle.{level_of}
 use Rattle.tiling_laws.proofs.DescentLemmas.{IsDown-address, IsDown-splittable, sample_of, one_child_of}
 use Rattle.tiling_laws.proofs.ConverseLemmas.{same_level}

@@ -2,11 +2,7 @@
 use Rattle.std.proofs.Common.{◌≡◌, ℕ, ◌+◌, ◌∙◌, List, length, ap, subst, sym, rules}
 use Rattle.mesh_defs.specs.Tiling.{IsConforming}
 use Rattle.mesh_defs.specs.ClosedSet.{leaves_of, among}
-use Rattle.tiling_laws.specs.Ancestors.{ancestors_of}
 use Rattle.diamond_rel.specs.GridSet.{IsGridSet, GridSet}
-use Rattle.tiling_laws.proofs.ConformityLemmas.{IsConforming-leaves_of}
-use Rattle.tiling_laws.proofs.ConverseLemmas.{IsClosed-ancestors_of, AreLeaves-ancestors_of}
-use Rattle.tiling_laws.proofs.ListLemmas.{length-counts}
 use Rattle.diamond_rel.proofs.SizeLemmas.{length-leaves_of}
 use Rattle.diamond_rel.proofs.split.Split.leaves.Goals as goal
 

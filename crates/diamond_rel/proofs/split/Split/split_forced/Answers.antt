@@ -1,5 +1,5 @@
 -- The grown set has fewer than 2 ^ 24 members.
-use Rattle.std.proofs.Common.{◌≤◌, ◌^◌, length, arith, rules}
+use Rattle.std.proofs.Common.{◌≤◌, ◌^◌, length, rules}
 use Rattle.mesh_defs.specs.ClosedSet.{among}
 use Rattle.mesh_defs.specs.Greedy.{with_triangle}
 use Rattle.diamond_rel.proofs.SizeLemmas.{length-grown}
