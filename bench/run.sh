@@ -89,3 +89,19 @@ cat <<TABLE
 | the same files by a loop of the shell | $frames files of 48 bytes | $loop s, $(a_frame "$loop") us a file | program / loop $(ratio "$many" "$loop") | at most 1 |
 | the same files by one cp | $frames files of 48 bytes | $copy s, $(a_frame "$copy") us a file | program / cp $(ratio "$many" "$copy") | at most 1 |
 TABLE
+
+# Single calls, by the program roam_bench where it is built.
+single=$top/crates/roam_bench/out/roam_bench
+if [ -x "$single" ]; then
+  # fastest CASE: the line of the run with the least seconds.
+  fastest() {
+    local k
+    for ((k = 0; k < runs; k++)); do "$single" "$1"; done | sort -t ' ' -k 7 -n | head -n 1
+  }
+  read -r _ _ calls _ found _ seconds <<<"$(fastest mates)"
+  echo "| the mate of every address, n = 11 | $calls calls, $found mates | $seconds s | | under 3 s |"
+  read -r _ _ calls _ found _ seconds <<<"$(fastest forced)"
+  echo "| the deepest corner triangle split by force on the empty set, n = 11 | $calls calls, $found triangles split | $(awk -v s="$seconds" -v n="$calls" 'BEGIN { printf "%.1f", 1000000 * s / n }') us a call | | under 1 ms |"
+else
+  echo "bench/run.sh: $single is not built, so single calls are not timed; rt ci builds it" >&2
+fi

@@ -7,6 +7,8 @@
 #![tactic(auto)]
 
 use bintree_addr::Tri;
+use diamond_rel::Split;
+use std::alloc::Global;
 use std::time::Instant;
 use std::{env, io};
 
@@ -15,13 +17,14 @@ const LEVEL: u32 = 11;
 
 fn main(rt: HostRuntime) -> io::Result<()> {
     for word in env::args(&rt)? {
-        if word.as_str() == "mates" {
-            let start = Instant::now(&rt)?;
-            let (calls, found) = mates();
-            let passed = start.elapsed(&rt)?;
-            let seconds = passed.as_secs_f64();
-            println!(rt; "mates calls {calls} found {found} seconds {seconds:.3}")?;
-        }
+        let start = Instant::now(&rt)?;
+        let (calls, found) = match word.as_str() {
+            "mates" => mates(),
+            "forced" => forced(rt.alloc()),
+            _ => continue,
+        };
+        let seconds = start.elapsed(&rt)?.as_secs_f64();
+        println!(rt; "{word} calls {calls} found {found} seconds {seconds:.6}")?;
     }
     Ok(())
 }
@@ -37,6 +40,29 @@ fn mates() -> (u32, u32) {
         calls = calls.saturating_add(1);
         if tri.level() <= 2 * LEVEL && tri.mate(LEVEL).is_some() {
             found = found.saturating_add(1);
+        }
+    }
+    (calls, found)
+}
+
+/// How often the forced split is made.
+const FORCED_CALLS: u32 = 1000;
+
+/// Splits the deepest triangle at the lower left corner by force, on the empty set each time, and counts
+/// the calls and the triangles that were split.
+fn forced(alloc: Global) -> (u32, u32) {
+    let mut calls = 0u32;
+    let mut found = 0u32;
+    for _ in 0..FORCED_CALLS {
+        let mut set = Split::base(alloc, LEVEL);
+        let Some(tri) = Tri::new(1 << (2 * LEVEL)) else {
+            continue;
+        };
+        if tri.level() < 2 * LEVEL
+            && let Ok(gain) = set.split_forced(tri)
+        {
+            calls = calls.saturating_add(1);
+            found = found.saturating_add(gain);
         }
     }
     (calls, found)

@@ -1,0 +1,5 @@
+pub mod ForcingLemmas
+pub mod MemberLemmas
+pub mod SizeLemmas
+pub mod ClosureLemmas
+pub mod RankLemmas

@@ -1,0 +1,3 @@
+pub mod GridSet
+pub mod Forcing
+pub mod Falling
