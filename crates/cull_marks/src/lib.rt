@@ -10,6 +10,8 @@
 mod laws;
 mod plane;
 mod planes;
+#[cfg(test)]
+mod tests;
 
 pub use bintree_addr::Cuboid;
 pub use laws::mark_laws;
