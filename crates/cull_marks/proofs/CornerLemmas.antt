@@ -1,11 +1,10 @@
 -- Two of the eight corners decide whether all of them, or some of them, are outside a plane.
-use Rattle.std.proofs.Common.{◌≡◌, ℕ, zero, suc, Bool, true, false, ◌&&◌, ◌||◌, List, [], ◌∷◌, get_or, refl, sym, ◌∙◌, arith, if◌then◌else◌, ℤ, pos, negsuc, ◌+ℤ◌, ◌*ℤ◌, ◌≤ℤ◌, int_lt}
+use Rattle.std.proofs.Common.{◌≡◌, ℕ, zero, suc, Bool, true, false, List, [], ◌∷◌, get_or, refl, sym, ◌∙◌, arith, if◌then◌else◌, ℤ, pos, ◌≤ℤ◌, int_lt}
 use Rattle.std.specs.List.{list_any, list_all}
 use Rattle.std.proofs.lemmas.Int.{ints}
 use Rattle.mesh_defs.specs.BoundingBox.{BoundingBox}
 use Rattle.mesh_defs.specs.View.{ViewPlane, is_outside, outside_corners, is_all_outside, is_some_outside}
 use Rattle.cull_marks.specs.Plane.{value_of, far_end, far_value, near_value}
-use Rattle.cull_marks.specs.Nesting.{IsInside}
 use Rattle.cull_marks.proofs.SlopeLemmas.{below_far, above_near}
 
 -- ---- lists of answers

@@ -1,6 +1,6 @@
 -- How large the numbers of a plane are, and which corner of a box lies farthest on the inside of a plane.
 -- Words: IsPlane, value_of, far_end, far_value, near_value.
-use Rattle.std.specs.Prelude.{ℕ, ◌≤◌, ◌^◌, if◌then◌else◌, ℤ, pos, ◌+ℤ◌, ◌*ℤ◌, int_lt, unsigned_abs}
+use Rattle.std.specs.Prelude.{◌≤◌, ◌^◌, if◌then◌else◌, ℤ, pos, ◌+ℤ◌, ◌*ℤ◌, int_lt, unsigned_abs}
 use Rattle.mesh_defs.specs.BoundingBox.{BoundingBox}
 use Rattle.mesh_defs.specs.View.{ViewPlane}
 

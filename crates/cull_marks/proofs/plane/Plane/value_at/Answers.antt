@@ -1,4 +1,4 @@
-use Rattle.std.proofs.Common.{◌^◌, ◌≤◌, ◌*ℤ◌, ◌+ℤ◌, arith, unsigned_abs, FitsSigned, w64}
+use Rattle.std.proofs.Common.{◌*ℤ◌, ◌+ℤ◌, arith, FitsSigned, w64}
 use Rattle.std.proofs.lemmas.Int.{ints, to_z-of_z}
 use Rattle.cull_marks.proofs.SlopeLemmas.{product_small, small_fits}
 use Rattle.cull_marks.proofs.plane.Plane.value_at.Goals as goal

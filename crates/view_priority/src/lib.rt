@@ -1,0 +1,16 @@
+//! Priorities of triangles: how much each needs to be split, seen from the camera.
+//!
+//! The distance from a `Camera` to a triangle's box and the triangle's thickness give its priority, which
+//! is 0 for what the view planes leave out. `rank` answers it with the triangle, `bounds` between what it
+//! stays while the camera moves by no more than a slack; a `Meter` counts both.
+//! Queues and the choice of triangles are the business of the crates above.
+
+#![tactic(auto)]
+
+mod camera;
+mod gap;
+mod meter;
+
+pub use camera::Camera;
+pub use gap::distance;
+pub use meter::Meter;
