@@ -5,6 +5,7 @@ use Rattle.std.proofs.lemmas.Int.{ints}
 use Rattle.mesh_defs.specs.BoundingBox.{BoundingBox}
 use Rattle.mesh_defs.specs.View.{ViewPlane, is_outside, outside_corners, is_all_outside, is_some_outside}
 use Rattle.cull_marks.specs.Plane.{value_of, far_end, far_value, near_value}
+use Rattle.cull_marks.specs.Nesting.{IsOrdered}
 use Rattle.cull_marks.proofs.SlopeLemmas.{below_far, above_near}
 
 -- ---- lists of answers
@@ -97,12 +98,6 @@ any-at_corner p box true true false e = any-true (outside_corners box p) 3 e
 any-at_corner p box false true false e = any-true (outside_corners box p) 2 e
 any-at_corner p box true false false e = any-true (outside_corners box p) 1 e
 any-at_corner p box false false false e = any-true (outside_corners box p) 0 e
-
--- the ends of the box are in order
-pub record IsOrdered (box : BoundingBox) : Type 0 where
-  pub x : box.x0 ≤ℤ box.x1
-  pub y : box.y0 ≤ℤ box.y1
-  pub z : box.z0 ≤ℤ box.z1
 
 corner_in : (box : BoundingBox) (s t u : Bool) → IsOrdered box →
     IsPointIn box (end_by s box.x0 box.x1) (end_by t box.y0 box.y1) (end_by u box.z0 box.z1)

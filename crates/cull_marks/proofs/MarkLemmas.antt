@@ -8,8 +8,8 @@ use Rattle.mesh_defs.specs.declared.mark.Mark.TheVariants.{Inside, Cut, Outside}
 use Rattle.mesh_defs.specs.BoundingBox.{BoundingBox}
 use Rattle.mesh_defs.specs.View.{ViewPlane, is_all_outside, is_some_outside, outside_corners, mark_of}
 use Rattle.cull_marks.specs.Plane.{far_value, near_value}
-use Rattle.cull_marks.specs.Nesting.{IsInside}
-use Rattle.cull_marks.proofs.CornerLemmas.{IsOrdered, IsPointIn, value_of-below_far, value_of-above_near, lower_is_outside, higher_is_not, all_outside-far, some_outside-near, all-false}
+use Rattle.cull_marks.specs.Nesting.{IsInside, IsOrdered}
+use Rattle.cull_marks.proofs.CornerLemmas.{IsPointIn, value_of-below_far, value_of-above_near, lower_is_outside, higher_is_not, all_outside-far, some_outside-near, all-false}
 
 -- ---- one plane
 

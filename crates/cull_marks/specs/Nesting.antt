@@ -2,6 +2,12 @@
 use Rattle.std.specs.Prelude.{◌≤ℤ◌}
 use Rattle.mesh_defs.specs.BoundingBox.{BoundingBox}
 
+-- the lower ends of the box are at most the upper ones
+pub record IsOrdered (box : BoundingBox) : Type 0 where
+  pub x : box.x0 ≤ℤ box.x1
+  pub y : box.y0 ≤ℤ box.y1
+  pub z : box.z0 ≤ℤ box.z1
+
 -- the inner box, whose ends are in order, lies in the outer one
 pub record IsInside (inner outer : BoundingBox) : Type 0 where
   pub x_low : outer.x0 ≤ℤ inner.x0

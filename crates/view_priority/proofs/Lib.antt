@@ -1,1 +1,4 @@
 pub mod RootLemmas
+pub mod RatioLemmas
+pub mod MoveLemmas
+pub mod NestLemmas

@@ -10,7 +10,9 @@
 mod camera;
 mod gap;
 mod meter;
+mod ratio;
 
 pub use camera::Camera;
 pub use gap::distance;
 pub use meter::Meter;
+pub use ratio::priority;
