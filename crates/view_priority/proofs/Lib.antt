@@ -2,3 +2,4 @@ pub mod RootLemmas
 pub mod RatioLemmas
 pub mod MoveLemmas
 pub mod NestLemmas
+pub mod PriorityLemmas

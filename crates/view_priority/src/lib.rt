@@ -8,11 +8,18 @@
 #![tactic(auto)]
 
 mod camera;
+mod evaluation;
 mod gap;
+mod laws;
 mod meter;
+mod ranks;
 mod ratio;
+mod sight;
 
 pub use camera::Camera;
+pub use evaluation::{bounds, rank};
 pub use gap::distance;
+pub use laws::{distance_laws, priority_laws};
 pub use meter::Meter;
+pub use ranks::Bounds;
 pub use ratio::priority;
