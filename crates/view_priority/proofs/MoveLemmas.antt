@@ -1,5 +1,5 @@
 -- How far a distance can change while the camera moves.
-use Rattle.std.proofs.Common.{◌≡◌, ℕ, ◌+◌, ◌*◌, ◌<◌, ◌≤◌, Bool, true, false, refl, sym, ◌∙◌, arith, ℤ, ◌-ℤ◌, int_lt, unsigned_abs, if◌then◌else◌, ◌≤ℤ◌}
+use Rattle.std.proofs.Common.{ℕ, ◌+◌, ◌*◌, ◌<◌, ◌≤◌, arith, ℤ, ◌-ℤ◌, unsigned_abs, ◌≤ℤ◌}
 use Rattle.std.proofs.Math.Nat.{mul-le-mul}
 use Rattle.std.proofs.lemmas.Int.{ints}
 use Rattle.mesh_defs.specs.BoundingBox.{BoundingBox, CameraAt, IsRoot, gap, squared_distance, root_of, distance_of}
@@ -43,8 +43,7 @@ distance_of-moved roots box from to order =
     let j = unsigned_abs (to.y -ℤ from.y) in
     let k = unsigned_abs (to.z -ℤ from.z) in
     let longer = squares _ _ _ _ _ _ (gap-moved from.x to.x box.x0 box.x1 order.x) (gap-moved from.y to.y box.y0 box.y1 order.y)
-        (gap-moved from.z to.z box.z0 box.z1 order.z) in
+    (gap-moved from.z to.z box.z0 box.z1 order.z) in
     let limit = root-moved _ _ _ i j k (root_of (squared_distance box from)) root_from.next_square_above in
     root-at_most (squared_distance box to) (root_of (squared_distance box to))
     (root_of (squared_distance box from) + moved from to) root_to.square_within (omega arith)
-

@@ -9,7 +9,7 @@ use Rattle.mesh_defs.specs.Ranking.{RanksBefore}
 use Rattle.mesh_defs.specs.Thickness.{thickness_of}
 use Rattle.mesh_defs.specs.BoundingBox.{BoundingBox, CameraAt, IsRoot, root_of, distance_of, box_of}
 use Rattle.mesh_defs.specs.View.{View, ViewPlane, mark_of}
-use Rattle.mesh_defs.specs.Priority.{ratio_of, seen_ratio, priority_of}
+use Rattle.mesh_defs.specs.Priority.{seen_ratio, priority_of}
 use Rattle.cull_marks.specs.Nesting.{IsInside, IsOrdered}
 use Rattle.view_priority.specs.Camera.{moved, view_from}
 use Rattle.view_priority.specs.Bounds.{priority_at}

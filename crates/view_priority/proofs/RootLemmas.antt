@@ -1,5 +1,5 @@
 -- Square roots, rounded down: unique, and they keep the order.
-use Rattle.std.proofs.Common.{◌⊎◌, inl, inr, ◌≡◌, ℕ, suc, ◌+◌, ◌*◌, ◌-◌, ◌^◌, ◌<◌, ◌≤◌, ℤ, refl, sym, arith}
+use Rattle.std.proofs.Common.{◌⊎◌, inl, inr, ◌≡◌, ℕ, ◌+◌, ◌*◌, ◌-◌, ◌^◌, ◌<◌, ◌≤◌, ℤ, refl, arith}
 use Rattle.std.proofs.Math.Nat.{mul-le-mul}
 use Rattle.std.proofs.lemmas.Bool.{cases_lt}
 use Rattle.mesh_defs.specs.BoundingBox.{BoundingBox, CameraAt, IsRoot, gap, squared_distance, root_of, distance_of}
@@ -10,7 +10,7 @@ root-at_most s r k within above = by_cases (cases_lt k r)
   where
     by_cases : ((k < r) ⊎ (r ≤ k)) → r ≤ k
     by_cases (inl more) =
-      let next : k + 1 ≤ r = omega arith in absurd (omega (arith, mul-le-mul next next))
+        let next : k + 1 ≤ r = omega arith in absurd (omega (arith, mul-le-mul next next))
     by_cases (inr le) = le
 
 -- the root of a lesser number is no greater

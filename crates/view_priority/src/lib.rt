@@ -15,6 +15,8 @@ mod meter;
 mod ranks;
 mod ratio;
 mod sight;
+#[cfg(test)]
+mod tests;
 
 pub use camera::Camera;
 pub use evaluation::{bounds, rank};

@@ -1,4 +1,4 @@
-use Rattle.std.proofs.Common.{◌≤◌, ◌+◌, ◌-◌, arith, ap, ◌∙◌}
+use Rattle.std.proofs.Common.{◌+◌, ◌-◌, arith, ap, ◌∙◌}
 use Rattle.view_priority.proofs.PriorityLemmas.{priority_at-by_parts, priority_of-below_hi, priority_of-above_lo}
 use Rattle.view_priority.proofs.evaluation.bounds.Goals as goal
 
@@ -22,7 +22,7 @@ returns-clause-above c = λ to within.
     let n = c.args.w.now.n in
     let heights = c.args.w.now.heights in
     let le = priority_of-below_hi n heights c.args.camera.now to c.args.spacing c.args.planes.now c.args.t c.args.slack
-        c.distance_laws.ensures.moved (c.distance_laws.ensures.ordered n heights c.args.spacing c.args.t) within in
+    c.distance_laws.ensures.moved (c.distance_laws.ensures.ordered n heights c.args.spacing c.args.t) within in
     omega arith
 
 pub returns-clause-below : goal.returns-clause-below
@@ -31,5 +31,5 @@ returns-clause-below c = λ to within.
     let n = c.args.w.now.n in
     let heights = c.args.w.now.heights in
     let le = priority_of-above_lo n heights c.args.camera.now to c.args.spacing c.args.planes.now c.args.t c.args.slack
-        c.distance_laws.ensures.moved (c.distance_laws.ensures.ordered n heights c.args.spacing c.args.t) within in
+    c.distance_laws.ensures.moved (c.distance_laws.ensures.ordered n heights c.args.spacing c.args.t) within in
     omega arith

@@ -1,4 +1,4 @@
-use Rattle.std.proofs.Common.{◌≤◌, arith}
+use Rattle.std.proofs.Common.{arith}
 use Rattle.view_priority.specs.Camera.{view_from}
 use Rattle.view_priority.proofs.PriorityLemmas.{priority_of-by_parts}
 use Rattle.view_priority.proofs.evaluation.rank.Goals as goal

@@ -1,7 +1,4 @@
-use Rattle.std.proofs.Common.{◌≡◌, ℕ, ◌+◌, ◌*◌, ◌/◌, ◌≤◌, List, max, arith}
-use Rattle.mesh_defs.specs.Triangle.{level_of, IsSplittable}
-use Rattle.mesh_defs.specs.Thickness.{thickness_of}
-use Rattle.mesh_defs.specs.BoundingBox.{box_of, low_of, high_of}
+use Rattle.std.proofs.Common.{◌+◌, ◌*◌, arith}
 use Rattle.mesh_defs.specs.Priority.{priority_of}
 use Rattle.view_priority.proofs.NestLemmas.{box_of-left, box_of-right}
 use Rattle.view_priority.proofs.PriorityLemmas.{priority_of-inside, priority_of-none, parent-by_children, no_rank-before}
