@@ -8,6 +8,8 @@
 #![tactic(auto)]
 
 mod laws;
+#[cfg(test)]
+mod plain;
 mod plane;
 mod planes;
 #[cfg(test)]

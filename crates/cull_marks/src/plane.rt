@@ -87,7 +87,7 @@ impl Plane {
     }
 
     /// The value at a point: at least 0 inside.
-    fn value_at(&self, x: i64, y: i64, z: i64) -> i64
+    pub(crate) fn value_at(&self, x: i64, y: i64, z: i64) -> i64
         requires x_reach { unsigned_abs x ≤ 2 ^ 21 }
         requires y_reach { unsigned_abs y ≤ 2 ^ 21 }
         requires z_reach { unsigned_abs z ≤ 2 ^ 21 }

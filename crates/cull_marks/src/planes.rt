@@ -14,7 +14,7 @@ use std::marker::Model;
 /// The view planes in force, at most six, in the order in which they were added.
 #[derive(Drop)]
 pub struct Planes {
-    list: ArrayVec<Plane, 6>,
+    pub(crate) list: ArrayVec<Plane, 6>,
 }
 
 impl Model for Planes {
@@ -61,6 +61,7 @@ impl Planes {
 
     /// How the cuboid lies to the planes.
     ///
+    /// Two corners decide a plane; the plain form, in `plain.rt` for the tests, looks at all eight.
     /// Cost (not proved): at most two corners a plane.
     #[tactic(auto, unfolding(mesh_defs::specs::View::mark_of))]
     pub fn mark(&self, cuboid: &Cuboid) -> Mark

@@ -54,6 +54,8 @@ fn one_plane_marks_by_the_corners_of_the_box(rt: HostRuntime) -> Result<(), Fail
         planes.add(Plane::new(a, b, c, d).ok_or("a plane")?);
         assert_eq!(rt; planes.mark(&BASE), base, "{a} {b} {c} {d}");
         assert_eq!(rt; planes.mark(&LEFT), left, "{a} {b} {c} {d}");
+        assert_eq!(rt; planes.mark_by_all_corners(&BASE), base, "{a} {b} {c} {d}");
+        assert_eq!(rt; planes.mark_by_all_corners(&LEFT), left, "{a} {b} {c} {d}");
     }
     Ok(())
 }
