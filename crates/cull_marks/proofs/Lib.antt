@@ -1,0 +1,3 @@
+pub mod SlopeLemmas
+pub mod CornerLemmas
+pub mod MarkLemmas

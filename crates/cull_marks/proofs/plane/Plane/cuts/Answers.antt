@@ -1,0 +1,13 @@
+use Rattle.std.proofs.Common.{rules, sym, ap, ◌∙◌, FitsSigned, w64, int_lt, pos}
+use Rattle.std.proofs.lemmas.Int.{to_z-of_z}
+use Rattle.cull_marks.specs.Cuboid.{as_box}
+use Rattle.cull_marks.proofs.CornerLemmas.{some_outside-near}
+use Rattle.cull_marks.proofs.plane.Plane.cuts.Goals as goal
+
+pub returns : goal.returns
+returns c =
+    let box = c.args.cuboid.now in
+    let value_fits : FitsSigned w64 c.farthest_outside.result = search rules in
+    let by_corner = some_outside-near c.args.self.now (as_box box)
+    (record { x = box.x_ordered; y = box.y_ordered; z = box.z_ordered }) in
+    simp to_z-of_z (ap (λ v. int_lt v (pos 0)) c.farthest_outside.ensures ∙ sym by_corner)

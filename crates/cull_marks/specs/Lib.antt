@@ -1,0 +1,3 @@
+pub mod Cuboid
+pub mod Plane
+pub mod Nesting

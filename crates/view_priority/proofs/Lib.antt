@@ -1,0 +1,5 @@
+pub mod RootLemmas
+pub mod RatioLemmas
+pub mod MoveLemmas
+pub mod NestLemmas
+pub mod PriorityLemmas

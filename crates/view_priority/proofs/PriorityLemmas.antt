@@ -1,0 +1,117 @@
+-- Priorities of children and parents, and of one triangle from two cameras.
+use Rattle.std.proofs.Common.{◌≡◌, ◌⊎◌, inl, inr, ℕ, ◌+◌, ◌-◌, ◌*◌, ◌/◌, ◌%◌, ◌<◌, ◌≤◌, List, subst, ℤ, ◌-ℤ◌, unsigned_abs, refl, sym, ◌∙◌, arith}
+use Rattle.std.proofs.lemmas.Bool.{cases_lt}
+use Rattle.std.proofs.lemmas.Int.{ints}
+use Rattle.mesh_defs.specs.declared.mark.Mark.{Mark}
+use Rattle.mesh_defs.specs.declared.mark.Mark.TheVariants.{Inside, Cut, Outside}
+use Rattle.mesh_defs.specs.Triangle.{IsSplittable}
+use Rattle.mesh_defs.specs.Ranking.{RanksBefore}
+use Rattle.mesh_defs.specs.Thickness.{thickness_of}
+use Rattle.mesh_defs.specs.BoundingBox.{BoundingBox, CameraAt, IsRoot, root_of, distance_of, box_of}
+use Rattle.mesh_defs.specs.View.{View, ViewPlane, mark_of}
+use Rattle.mesh_defs.specs.Priority.{seen_ratio, priority_of}
+use Rattle.cull_marks.specs.Nesting.{IsInside, IsOrdered}
+use Rattle.view_priority.specs.Camera.{moved, view_from}
+use Rattle.view_priority.specs.Bounds.{priority_at}
+use Rattle.view_priority.proofs.RatioLemmas.{seen_ratio-order, seen_ratio-inherited}
+use Rattle.view_priority.proofs.NestLemmas.{distance_of-inside}
+
+-- what all laws on marks and roots say, for one pair of boxes
+pub priority_of-inside : ((s : ℕ) → IsRoot s (root_of s)) → (n : ℕ) (heights : List ℕ) (view : View) (a b : ℕ) →
+    IsInside (box_of n heights view.spacing b) (box_of n heights view.spacing a) →
+    (mark_of view.planes (box_of n heights view.spacing a) ≡ Outside →
+    mark_of view.planes (box_of n heights view.spacing b) ≡ Outside) →
+    thickness_of n heights b ≤ thickness_of n heights a →
+    priority_of n heights view b ≤ priority_of n heights view a
+unfolding priority_of
+priority_of-inside roots n heights view a b inside stays thinner =
+    seen_ratio-inherited _ _ _ _ _ _ stays thinner
+    (distance_of-inside roots (box_of n heights view.spacing b) (box_of n heights view.spacing a) view.camera inside)
+
+-- no thickness, no priority
+seen_ratio-none : (mark : Mark) (d : ℕ) → seen_ratio mark 0 d ≡ 0
+seen_ratio-none Inside d = omega arith
+seen_ratio-none Cut d = omega arith
+seen_ratio-none Outside d = refl
+
+pub priority_of-none : (n : ℕ) (heights : List ℕ) (view : View) (a : ℕ) → thickness_of n heights a ≡ 0 →
+    priority_of n heights view a ≡ 0
+unfolding priority_of
+priority_of-none n heights view a none = rw none (seen_ratio-none _ _)
+
+-- ---- children and parents
+
+halves : (b : ℕ) → (b ≡ 2 * (b / 2)) ⊎ (b ≡ 2 * (b / 2) + 1)
+halves b = parity (cases_lt (b % 2) 1)
+  where
+    parity : ((b % 2 < 1) ⊎ (1 ≤ b % 2)) → (b ≡ 2 * (b / 2)) ⊎ (b ≡ 2 * (b / 2) + 1)
+    parity (inl even) = inl (omega arith)
+    parity (inr odd) = inr (omega arith)
+
+-- what holds from each child to its parent holds from b to b / 2
+pub parent-by_children : (priority : ℕ → ℕ) (n b : ℕ) → ((a : ℕ) → IsSplittable n a → priority (2 * a) ≤ priority a) →
+    ((a : ℕ) → IsSplittable n a → priority (2 * a + 1) ≤ priority a) → IsSplittable n (b / 2) →
+    priority b ≤ priority (b / 2)
+parent-by_children priority n b left right splittable = by_half (halves b)
+  where
+    by_half : ((b ≡ 2 * (b / 2)) ⊎ (b ≡ 2 * (b / 2) + 1)) → priority b ≤ priority (b / 2)
+    by_half (inl even) = subst (λ x. priority x ≤ priority (b / 2)) (sym even) (left (b / 2) splittable)
+    by_half (inr odd) = subst (λ x. priority x ≤ priority (b / 2)) (sym odd) (right (b / 2) splittable)
+
+-- a child of no greater priority does not rank before its parent
+pub no_rank-before : (priority : ℕ → ℕ) (b : ℕ) → priority b ≤ priority (b / 2) → RanksBefore priority b (b / 2) → ⊥
+no_rank-before priority b le (inl more) = omega arith
+no_rank-before priority b le (inr (same, less)) = omega arith
+
+-- ---- for the code
+
+-- the priority from the parts that the code finds
+pub priority_of-by_parts : (n : ℕ) (heights : List ℕ) (camera : CameraAt) (spacing : ℕ) (planes : List ViewPlane)
+    (t p e d : ℕ) (mark : Mark) → p ≡ seen_ratio mark e d → mark ≡ mark_of planes (box_of n heights spacing t) →
+    e ≡ thickness_of n heights t → d ≡ distance_of (box_of n heights spacing t) camera →
+    p ≡ priority_of n heights (view_from camera spacing planes) t
+unfolding priority_of
+priority_of-by_parts n heights camera spacing planes t p e d mark p_is mark_is e_is d_is =
+    p_is ∙ rw (mark_is, e_is, d_is) refl
+
+-- likewise at a distance of one's own
+pub priority_at-by_parts : (n : ℕ) (heights : List ℕ) (camera : CameraAt) (spacing : ℕ) (planes : List ViewPlane)
+    (t p e d k : ℕ) (mark : Mark) → p ≡ seen_ratio mark e d → mark ≡ mark_of planes (box_of n heights spacing t) →
+    e ≡ thickness_of n heights t → d ≡ k → p ≡ priority_at n heights (view_from camera spacing planes) t k
+unfolding priority_at
+priority_at-by_parts n heights camera spacing planes t p e d k mark p_is mark_is e_is d_is =
+    p_is ∙ rw (mark_is, e_is, d_is) refl
+
+-- ---- another camera
+
+back : (i j : ℤ) → unsigned_abs (j -ℤ i) ≡ unsigned_abs (i -ℤ j)
+back i j = omega (arith, ints)
+
+-- a move back is as long as the move
+moved-swapped : (from to : CameraAt) → moved from to ≡ moved to from
+moved-swapped from to = rw (back from.x to.x, back from.y to.y, back from.z to.z) refl
+
+module _ (n : ℕ) (heights : List ℕ) (from to : CameraAt) (spacing : ℕ) (planes : List ViewPlane) (t slack : ℕ)
+    (farther : (box : BoundingBox) (from to : CameraAt) → IsOrdered box →
+    distance_of box to ≤ distance_of box from + moved from to)
+    (ordered : IsOrdered (box_of n heights spacing t)) where
+  -- within the slack the priority is at most that at the distance less the slack
+  pub priority_of-below_hi : moved from to ≤ slack →
+      priority_of n heights (view_from to spacing planes) t ≤
+      priority_at n heights (view_from from spacing planes) t
+      (distance_of (box_of n heights spacing t) from - slack)
+  unfolding priority_of priority_at
+  priority_of-below_hi within =
+      let back = farther (box_of n heights spacing t) to from ordered in
+      let same = moved-swapped from to in
+      seen_ratio-order (mark_of planes (box_of n heights spacing t)) _ _ _ _ (omega arith) (omega arith)
+
+  -- and at least that at the distance and the slack
+  pub priority_of-above_lo : moved from to ≤ slack →
+      priority_at n heights (view_from from spacing planes) t
+      (distance_of (box_of n heights spacing t) from + slack) ≤
+      priority_of n heights (view_from to spacing planes) t
+  unfolding priority_of priority_at
+  priority_of-above_lo within =
+      let there = farther (box_of n heights spacing t) from to ordered in
+      seen_ratio-order (mark_of planes (box_of n heights spacing t)) _ _ _ _ (omega arith) (omega arith)

@@ -1,0 +1,3 @@
+pub mod Camera
+pub mod Meter
+pub mod Bounds

@@ -1,0 +1,95 @@
+//! The priority of a triangle, and between what it stays while the camera moves.
+
+ghost use Rattle.std.specs.Prelude.{◌≡◌, ◌+◌, ◌-◌, ◌*◌, ◌/◌, ◌<◌, ◌≤◌, ◌^◌};
+ghost use Rattle.mesh_defs.specs.Triangle.{level_of};
+ghost use Rattle.mesh_defs.specs.BoundingBox.{CameraAt, box_of, distance_of};
+ghost use Rattle.mesh_defs.specs.Priority.{priority_of};
+ghost use Rattle.view_priority.specs.Camera.{moved, view_from};
+ghost use Rattle.view_priority.specs.Meter.{counted};
+ghost use Rattle.view_priority.specs.Bounds.{priority_at};
+
+use crate::ratio::seen_priority;
+use crate::sight::sight_of;
+use crate::{Bounds, Camera, Meter, distance_laws, priority_laws};
+use bintree_addr::{Rank, Tri};
+use cull_marks::Planes;
+use wedgie_tree::Wedges;
+
+/// A triangle with its priority in a view. The meter counts one more.
+///
+/// No child ranks before its parent.
+/// Cost (not proved): a step a level, the corners of the box at each plane, and a square root.
+pub fn rank(
+    w: &Wedges,
+    camera: &Camera,
+    spacing: u32,
+    planes: &Planes,
+    t: Tri,
+    meter: &mut Meter,
+) -> Rank
+    requires level { level_of t ≤ 2 * w.now.n }
+    requires spacing_low { 1 ≤ spacing }
+    requires spacing_high { spacing ≤ 1024 }
+    ensures tri { result.tri ≡ t }
+    ensures value { result.p
+        ≡ priority_of w.now.n w.now.heights (view_from camera.now spacing planes.now) t }
+    ensures parent { 4 ≤ t →
+        result.p ≤ priority_of w.now.n w.now.heights (view_from camera.now spacing planes.now) (t / 2) }
+    ensures count { meter.new ≡ counted meter.old }
+{
+    priority_laws();
+    meter.tick();
+    let sight = sight_of(w, camera, spacing, planes, t);
+    Rank {
+        p: seen_priority(sight.mark, sight.thickness, sight.distance),
+        tri: t,
+    }
+}
+
+/// Between what a triangle's rank stays while the camera moves by at most the slack, added up over the
+/// three axes, and heights, spacing and planes stay. The meter counts one more.
+pub fn bounds(
+    w: &Wedges,
+    camera: &Camera,
+    spacing: u32,
+    planes: &Planes,
+    t: Tri,
+    slack: u64,
+    meter: &mut Meter,
+) -> Bounds
+    requires level { level_of t ≤ 2 * w.now.n }
+    requires spacing_low { 1 ≤ spacing }
+    requires spacing_high { spacing ≤ 1024 }
+    requires slack { slack ≤ 2 ^ 32 }
+    ensures hi_tri { result.hi.tri ≡ t }
+    ensures lo_tri { result.lo.tri ≡ t }
+    ensures hi { let view = view_from camera.now spacing planes.now in
+        result.hi.p ≡ priority_at w.now.n w.now.heights view t
+        (distance_of (box_of w.now.n w.now.heights spacing t) camera.now - slack) }
+    ensures lo { let view = view_from camera.now spacing planes.now in
+        result.lo.p ≡ priority_at w.now.n w.now.heights view t
+        (distance_of (box_of w.now.n w.now.heights spacing t) camera.now + slack) }
+
+    // At every camera within the slack the priority lies between the two.
+    ensures above { (to : CameraAt) → moved camera.now to ≤ slack →
+        priority_of w.now.n w.now.heights (view_from to spacing planes.now) t ≤ result.hi.p }
+    ensures below { (to : CameraAt) → moved camera.now to ≤ slack →
+        result.lo.p ≤ priority_of w.now.n w.now.heights (view_from to spacing planes.now) t }
+    ensures count { meter.new ≡ counted meter.old }
+{
+    distance_laws();
+    meter.tick();
+    let sight = sight_of(w, camera, spacing, planes, t);
+    let near = sight.distance.saturating_sub(slack);
+    let far = sight.distance + slack;
+    Bounds {
+        hi: Rank {
+            p: seen_priority(sight.mark, sight.thickness, near),
+            tri: t,
+        },
+        lo: Rank {
+            p: seen_priority(sight.mark, sight.thickness, far),
+            tri: t,
+        },
+    }
+}

@@ -1,0 +1,52 @@
+//! Laws of priorities, as clauses of functions with empty bodies.
+
+ghost use Rattle.std.specs.Prelude.{◌≡◌, ℕ, ◌+◌, ◌*◌, ◌/◌, ◌≤◌, List};
+ghost use Rattle.mesh_defs.specs.Triangle.{level_of, IsSplittable};
+ghost use Rattle.mesh_defs.specs.BoundingBox.{BoundingBox, CameraAt, box_of, distance_of};
+ghost use Rattle.mesh_defs.specs.View.{View};
+ghost use Rattle.mesh_defs.specs.Priority.{priority_of};
+ghost use Rattle.mesh_defs.specs.Ranking.{RanksBefore};
+ghost use Rattle.cull_marks.specs.Nesting.{IsInside, IsOrdered};
+ghost use Rattle.view_priority.specs.Camera.{moved};
+
+use bintree_addr::{corner_laws, level_laws};
+use cull_marks::mark_laws;
+use mesh_defs::roots;
+use wedgie_tree::wedge_laws;
+
+/// Priorities do not rise from a triangle to its children, since a child's box lies in its parent's.
+///
+/// So no child ranks before its parent. A finest triangle has priority 0.
+pub fn priority_laws()
+    ensures left_box { (n : ℕ) (heights : List ℕ) (spacing a : ℕ) → IsSplittable n a →
+        IsInside (box_of n heights spacing (2 * a)) (box_of n heights spacing a) }
+    ensures right_box { (n : ℕ) (heights : List ℕ) (spacing a : ℕ) → IsSplittable n a →
+        IsInside (box_of n heights spacing (2 * a + 1)) (box_of n heights spacing a) }
+    ensures left { (n : ℕ) (heights : List ℕ) (view : View) (a : ℕ) → IsSplittable n a →
+        priority_of n heights view (2 * a) ≤ priority_of n heights view a }
+    ensures right { (n : ℕ) (heights : List ℕ) (view : View) (a : ℕ) → IsSplittable n a →
+        priority_of n heights view (2 * a + 1) ≤ priority_of n heights view a }
+
+    // The same from the child's side: b is a child of b / 2.
+    ensures parent { (n : ℕ) (heights : List ℕ) (view : View) (b : ℕ) → 4 ≤ b → level_of b ≤ 2 * n →
+        priority_of n heights view b ≤ priority_of n heights view (b / 2) }
+    ensures order { (n : ℕ) (heights : List ℕ) (view : View) (b : ℕ) → 4 ≤ b → level_of b ≤ 2 * n →
+        RanksBefore (priority_of n heights view) b (b / 2) → ⊥ }
+    ensures finest { (n : ℕ) (heights : List ℕ) (view : View) (a : ℕ) → level_of a ≡ 2 * n →
+        priority_of n heights view a ≡ 0 }
+{
+    corner_laws();
+    level_laws();
+    mark_laws();
+    roots();
+    wedge_laws();
+}
+
+/// A camera that moves by some length, added up over the three axes, is at most so much farther from a box.
+pub fn distance_laws()
+    ensures ordered { (n : ℕ) (heights : List ℕ) (spacing a : ℕ) → IsOrdered (box_of n heights spacing a) }
+    ensures moved { (box : BoundingBox) (from to : CameraAt) → IsOrdered box →
+        distance_of box to ≤ distance_of box from + moved from to }
+{
+    roots();
+}
