@@ -1,10 +1,10 @@
 -- The ends of boxes: by the corners, and in order.
-use Rattle.std.proofs.Common.{◌≡◌, ℕ, ◌+◌, ◌*◌, ◌^◌, ◌<◌, ◌≤◌, List, sym, ap, ◌∙◌, arith}
+use Rattle.std.proofs.Common.{◌≡◌, ℕ, ◌*◌, ◌^◌, ◌<◌, ◌≤◌, List, ap, ◌∙◌, arith}
 use Rattle.std.proofs.lemmas.Int.{to_z-of_z, ints}
 use lib.IntN.{ℤ, pos}
 use lib.Signed.{◌≤ℤ◌, mag}
 use mir.Syntax.{w64}
-use mir.Val.{to_z, of_z, SFits}
+use mir.Val.{to_z, of_z}
 use Rattle.mesh_defs.specs.declared.point.Corners.{Corners}
 use Rattle.mesh_defs.specs.Triangle.{corners_of}
 use Rattle.mesh_defs.specs.BoundingBox.{box_of, low_of, high_of, least_of_3, greatest_of_3}

@@ -1,5 +1,5 @@
 -- The least and the greatest value over the points that pass a test.
-use Rattle.std.proofs.Common.{◌≡◌, ℕ, zero, suc, ◌+◌, ◌^◌, ◌<◌, ◌≤◌, ◌⊎◌, Bool, true, false, cond, ◌||◌, min, max, List, [], ◌∷◌, ◌++◌, length, map, refl, sym, ◌∙◌, arith, ⊎_elim, inl, inr, subst}
+use Rattle.std.proofs.Common.{◌≡◌, ℕ, zero, suc, ◌+◌, ◌^◌, ◌<◌, ◌≤◌, ◌⊎◌, Bool, true, false, cond, ◌||◌, min, max, List, [], ◌∷◌, ◌++◌, length, map, refl, arith, ⊎_elim, inl, inr}
 use Rattle.std.proofs.lemmas.Bool.{cases_lt}
 use Rattle.std.specs.List.{filter, flat_map, range_with_len}
 use Rattle.mesh_defs.specs.declared.point.Point.{Point}

@@ -1,11 +1,11 @@
 -- The least and the greatest height in a triangle: by its children, and of a finest one by its corners.
-use Rattle.std.proofs.Common.{◌≡◌, ℕ, ◌+◌, ◌-◌, ◌*◌, ◌^◌, ◌<◌, ◌≤◌, ◌⊎◌, Bool, true, ◌||◌, min, max, List, map, refl, sym, ap, ◌∙◌, arith, ⊎_elim, subst}
+use Rattle.std.proofs.Common.{◌≡◌, ℕ, ◌+◌, ◌-◌, ◌*◌, ◌^◌, ◌<◌, ◌≤◌, true, ◌||◌, min, max, List, map, refl, sym, arith, ⊎_elim, subst}
 use Rattle.std.specs.List.{filter}
 use Rattle.mesh_defs.specs.declared.point.Point.{Point}
 use Rattle.mesh_defs.specs.declared.point.Corners.{Corners}
-use Rattle.mesh_defs.specs.Triangle.{level_of, corners_of, child, IsCorner, IsSplittable}
+use Rattle.mesh_defs.specs.Triangle.{level_of, corners_of, IsCorner, IsSplittable}
 use Rattle.mesh_defs.specs.Thickness.{height_of}
-use Rattle.mesh_defs.specs.BoundingBox.{points_of, holds_point, is_in_closed, low_of, high_of, least, least_of_3, greatest_of_3}
+use Rattle.mesh_defs.specs.BoundingBox.{points_of, holds_point, low_of, high_of, least_of_3, greatest_of_3}
 use Rattle.bintree_addr.specs.Corners.{IsWithin}
 use Rattle.wedgie_tree.proofs.ExtremeLemmas.{IsIn, IsIn-points_of, under, under-split, le-under, under-le, greatest-split, greatest-le, le-greatest, least-bounded}
 use Rattle.wedgie_tree.proofs.AreaLemmas.{AddressLaws, HasArea, HasArea-at, is_in_closed-children, apex-held, v0-held, v1-held, finest-corner}

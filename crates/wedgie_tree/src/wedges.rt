@@ -143,3 +143,6 @@ impl Wedges {
         }
     }
 }
+
+#[cfg(test)]
+mod tests;

@@ -1,7 +1,5 @@
-use Rattle.std.proofs.Common.{◌≡◌, ◌^◌, ◌+◌, ◌*◌, ◌<◌, ◌≤◌, length, arith}
-use Rattle.mesh_defs.specs.declared.point.Corners.{Corners}
+use Rattle.std.proofs.Common.{◌^◌, ◌+◌, ◌*◌, ◌<◌, ◌≤◌, arith}
 use Rattle.mesh_defs.specs.Triangle.{level_of}
-use Rattle.bintree_addr.specs.Corners.{IsWithin}
 use Rattle.wedgie_tree.specs.Table.{IsWedge}
 use Rattle.wedgie_tree.proofs.PlaceLemmas.{IsWithin-of, IsWithin-largest}
 use Rattle.wedgie_tree.proofs.TableLemmas.{AllUnder-filled, HasEntry-set}

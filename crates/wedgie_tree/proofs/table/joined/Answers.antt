@@ -1,5 +1,4 @@
-use Rattle.std.proofs.Common.{◌≡◌, ◌+◌, ◌*◌, ◌≤◌, max, arith, sym, subst}
-use Rattle.mesh_defs.specs.declared.point.Corners.{Corners}
+use Rattle.std.proofs.Common.{◌≡◌, ◌+◌, ◌*◌, ◌≤◌, max, arith}
 use Rattle.mesh_defs.specs.Thickness.{thickness_of, deviation}
 use Rattle.mesh_defs.specs.Triangle.{corners_of}
 use Rattle.wedgie_tree.proofs.PlaceLemmas.{IsWithin-of}
