@@ -184,6 +184,9 @@ usage four_words mesh g s out
 usage four_words_after_the_command mesh g s out 2
 usage six_words_after_the_command mesh g s out 2 1 1
 usage an_unknown_command fly g s out 2 1
+usage info_without_a_grid info
+usage info_with_a_script info g s
+usage info_with_the_words_of_mesh info g s out 2 1
 usage a_command_in_capitals MESH g s out 2 1
 usage a_budget_of_1 mesh g s out 1 1
 usage a_budget_of_0 mesh g s out 0 1

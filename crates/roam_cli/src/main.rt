@@ -60,7 +60,9 @@ fn explanation(status: Status) -> Option<&'static str>
     match status {
         Status::NoMemory => Some("roam: out of memory"),
         Status::Usage => {
-            Some("usage: roam mesh GRID SCRIPT PREFIX 2 1   (PREFIX has 1 to 200 bytes)")
+            Some(
+                "usage: roam info GRID, or roam mesh GRID SCRIPT PREFIX 2 1   (PREFIX has 1 to 200 bytes)",
+            )
         }
         Status::ReadFault => Some("roam: the grid or the script could not be opened or read"),
         Status::WriteFault => Some("roam: a mesh or the report could not be written"),

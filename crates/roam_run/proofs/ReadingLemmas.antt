@@ -155,8 +155,8 @@ module _ (files : Option (List NamedFile)) (rest : Option (List ℕ)) (name : Li
       → ((unread : List ℕ) → rest ≡ Some unread → rest' ≡ Some (drop count unread))
       → OnOk answer (HasEnded ended files rest')
   grid-ended ended rest' count answer none at_end takes = on-ok answer _ (λ grid is. record {
-      at_end = at_end;
-      nothing_left = λ all told.
-          let here = reading.told all told in
-          takes here.0 here.1 ∙ ap (λ k. Some (drop k here.0)) none ∙ ap Some (nothing here.0 here.1);
-    })
+    at_end = at_end;
+    nothing_left = λ all told.
+        let here = reading.told all told in
+        takes here.0 here.1 ∙ ap (λ k. Some (drop k here.0)) none ∙ ap Some (nothing here.0 here.1);
+  })

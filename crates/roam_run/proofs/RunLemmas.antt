@@ -51,20 +51,20 @@ module _ (meshes : Option (List Mesh)) (report report' : Option (List ℕ)) (lin
   pub line-ends : ((all : List ℕ) → report ≡ Some all → report' ≡ Some (all ++ line))
       → EndsAs (told meshes report) (told meshes report') (outcome (ReportLine line ∷ []) status) status
   line-ends came = record {
-      complete = λ e. (stands-line meshes report report' line came, refl);
-      cut_short = λ e. absurd (no_write_fault (rw e at complete));
-    }
+    complete = λ e. (stands-line meshes report report' line came, refl);
+    cut_short = λ e. absurd (no_write_fault (rw e at complete));
+  }
     where
-    no_write_fault : is_complete WriteFault ≡ true → ⊥
-    no_write_fault e = cc
+      no_write_fault : is_complete WriteFault ≡ true → ⊥
+      no_write_fault e = cc
 
   -- the last line of a run was cut short
   pub line-cut : ((all : List ℕ) → report ≡ Some all → (front : List ℕ) × IsFront front line × (report' ≡ Some (all ++ front)))
       → EndsAs (told meshes report) (told meshes report') (outcome (ReportLine line ∷ []) status) WriteFault
   line-cut part = record {
-      complete = λ e. cc;
-      cut_short = λ e. cut-only-line meshes report report' line [] part;
-    }
+    complete = λ e. cc;
+    cut_short = λ e. cut-only-line meshes report report' line [] part;
+  }
 
 -- the refusal of a grid ends a run of a command
 pub refused-ends : (before now : Told) (line : List ℕ) (fault : PgmFault) (answer : Result HeightField PgmFault) (of : Result HeightField PgmFault → Outcome) (status : Status)

@@ -69,7 +69,7 @@ abbrev pub CommandReadFault : Told → Told → ℕ → ℕ → Option (List ℕ
 CommandReadFault before now opens opens' rest (MeshOf command) files =
     ((opens' ≡ opens + 1) × Stands before now [])
     ⊎ ((opens' ≡ opens + 2) × (grid : HeightField) × (grid_of (bytes_of files command.grid) ≡ Ok grid)
-        × StandsForRead before now rest (record { prefix = command.prefix; text = frame_text grid }) (bytes_of files command.script))
+    × StandsForRead before now rest (record { prefix = command.prefix; text = frame_text grid }) (bytes_of files command.script))
 CommandReadFault before now opens opens' rest (InfoOf grid) files = (opens' ≡ opens + 1) × Stands before now []
 
 -- the bytes are a whole header of an accepted grid: behind them each raster of its size is read

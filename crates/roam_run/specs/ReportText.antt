@@ -17,9 +17,9 @@ frame_line number = codes "frame " ++ decimal number ++ codes " triangles 2 vert
 abbrev pub info_line : HeightField → List ℕ
 info_line grid =
     codes "side " ++ decimal (side_of grid.n) ++ codes " maxval " ++ decimal grid.maxval
-        ++ codes " low " ++ decimal (least grid.heights) ++ codes " high " ++ decimal (greatest grid.heights)
-        ++ codes " thickness " ++ decimal (max (thickness_of grid.n grid.heights 2) (thickness_of grid.n grid.heights 3))
-        ++ codes "\n"
+    ++ codes " low " ++ decimal (least grid.heights) ++ codes " high " ++ decimal (greatest grid.heights)
+    ++ codes " thickness " ++ decimal (max (thickness_of grid.n grid.heights 2) (thickness_of grid.n grid.heights 3))
+    ++ codes "\n"
 
 -- why a grid is refused
 abbrev pub grid_fault_text : PgmFault → List ℕ

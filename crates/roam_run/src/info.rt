@@ -6,11 +6,10 @@ ghost use Rattle.mesh_defs.specs.HeightField.{side_of};
 ghost use Rattle.mesh_defs.specs.Thickness.{thickness_of};
 ghost use Rattle.roam_run.specs.ReportText.{info_line};
 
+use crate::text::{Text, push_bytes, push_number};
 use arrayvec::ArrayVec;
 use bintree_addr::Tri;
 use wedgie_tree::Wedges;
-
-use crate::text::{Text, push_bytes, push_number};
 
 /// The line on a grid, of which the wedges are.
 pub(crate) fn info_report(wedges: &Wedges) -> Text

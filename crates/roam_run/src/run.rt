@@ -125,7 +125,11 @@ fn run_mesh<F: Shelf, M: MeshSink, R: Sink>(
         }
         Err(GridStop::NoMemory) => Status::NoMemory,
         Err(GridStop::Failed) => Status::ReadFault,
-        Err(GridStop::Refused(fault)) => end_with_line(grid_report(fault).as_slice(), Status::GridRefused, report),
+        Err(GridStop::Refused(fault)) => end_with_line(
+            grid_report(fault).as_slice(),
+            Status::GridRefused,
+            report,
+        ),
     }
 }
 
@@ -152,7 +156,11 @@ fn run_info<F: Shelf, R: Sink>(alloc: Global, name: &str, shelf: &mut F, report:
         },
         Err(GridStop::NoMemory) => Status::NoMemory,
         Err(GridStop::Failed) => Status::ReadFault,
-        Err(GridStop::Refused(fault)) => end_with_line(grid_report(fault).as_slice(), Status::GridRefused, report),
+        Err(GridStop::Refused(fault)) => end_with_line(
+            grid_report(fault).as_slice(),
+            Status::GridRefused,
+            report,
+        ),
     }
 }
 

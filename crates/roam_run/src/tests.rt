@@ -300,6 +300,58 @@ fn reads_come_in_any_pieces_and_a_failed_one_ends_the_run(rt: HostRuntime) -> Re
 }
 
 #[test]
+fn info_tells_side_heights_and_thickness(rt: HostRuntime) -> Result<(), Fail> {
+    // The middle is 10 high: twice 10 above the middle of two corners of height 0.
+    let hill = *b"P5\n3 3\n65535\n\0\0\0\0\0\0\0\0\0\n\0\0\0\0\0\0\0\0";
+    // Of 25 points (1, 0) and the middle (2, 2) are 10 high. Triangle 17 has 20, 8 above it 30, so 4
+    // has 30, and 2 with its own 20 has 50.
+    let two_hills =
+        *b"P5\n5 5\n65535\n\0\0\0\0\0\0\0\0\0\0\0\0\0\0\0\0\0\0\0\0\0\0\0\0\0\n\0\0\0\0\0\0\0\0\0\0\0\0\0\0\0\0\0\n\0\0\0\0\0\0";
+    let cases = [
+        (
+            FLAT.as_slice(),
+            "side 3 maxval 65535 low 0 high 0 thickness 0\n",
+        ),
+        (
+            hill.as_slice(),
+            "side 3 maxval 65535 low 0 high 10 thickness 20\n",
+        ),
+        (
+            two_hills.as_slice(),
+            "side 5 maxval 65535 low 0 high 10 thickness 50\n",
+        ),
+    ];
+    for (grid, line) in cases {
+        let ran = run_with(rt.alloc(), &["info", "g"], grid, b"", MeshCall::Begin(0), 0)?;
+        assert_eq!(rt; ran.status, Status::Done);
+        assert_eq!(rt; ran.report.bytes(), line.as_bytes());
+        assert_eq!(rt; ran.meshes.count(), 0);
+    }
+    Ok(())
+}
+
+#[test]
+fn info_refuses_a_grid_as_mesh_does(rt: HostRuntime) -> Result<(), Fail> {
+    let none = MeshCall::Begin(0);
+    let ran = run_with(rt.alloc(), &["info", "g"], &FLAT[..30], b"", none, 0)?;
+    assert_eq!(rt; ran.status, Status::GridRefused);
+    assert_eq!(rt; ran.report.bytes(), b"grid refused: truncated\n".as_slice());
+    let ran = run_with(rt.alloc(), &["info", "g"], &FLAT, b"", none, 1)?;
+    assert_eq!(rt; ran.status, Status::WriteFault);
+    assert_eq!(rt; ran.report.bytes(), b"".as_slice());
+    // The opening, each piece of ten bytes, and the end.
+    let (ran, calls) = run_frail(rt.alloc(), &["info", "g"], b"", 10, 0)?;
+    assert_eq!(rt; ran.status, Status::Done);
+    assert_eq!(rt; calls, 6);
+    for fails in 1..=calls {
+        let (ran, _) = run_frail(rt.alloc(), &["info", "g"], b"", 10, fails)?;
+        assert_eq!(rt; ran.status, Status::ReadFault, "call {fails}");
+        assert_eq!(rt; ran.report.bytes(), b"".as_slice(), "call {fails}");
+    }
+    Ok(())
+}
+
+#[test]
 fn words_that_are_no_command_open_nothing(rt: HostRuntime) -> Result<(), Fail> {
     let cases = [
         ["mesh", "g", "s", "out", "1", "1"],
@@ -319,6 +371,11 @@ fn words_that_are_no_command_open_nothing(rt: HostRuntime) -> Result<(), Fail> {
         let (ran, calls) = run_frail(rt.alloc(), &WORDS[..count], b"frame\n", 64, 0)?;
         assert_eq!(rt; ran.status, Status::Usage, "{count} words");
         assert_eq!(rt; calls, 0, "{count} words");
+    }
+    for words in [["info"].as_slice(), &["info", "g", "s"], &["Info", "g"]] {
+        let (ran, calls) = run_frail(rt.alloc(), words, b"frame\n", 64, 0)?;
+        assert_eq!(rt; ran.status, Status::Usage, "{words:?}");
+        assert_eq!(rt; calls, 0, "{words:?}");
     }
     Ok(())
 }
