@@ -70,6 +70,8 @@ printf 'v 0 0 0\nv 2 0 0\nv 0 2 0\nv 2 2 0\nf 1 2 3\nf 4 3 2\n' >"$room/mesh"
 
 large=$(least "$program" mesh "$room/large.pgm" "$room/one" out 2 1)
 memory=$(peak "$program" mesh "$room/large.pgm" "$room/one" out 2 1)
+info=$(least "$program" info "$room/large.pgm")
+info_memory=$(peak "$program" info "$room/large.pgm")
 read_alone=$(least cat "$room/large.pgm")
 many=$(least "$program" mesh "$room/small.pgm" "$room/many" out 2 1)
 made=$(find "$room/made" -name '*.obj' | wc -l)
@@ -85,6 +87,8 @@ cat <<TABLE
 |---|---|---|---|---|
 | grid of side 2049, one frame: time | 8,396,821 bytes, 4,198,401 samples | $large s | cat of the grid $read_alone s | at most 0.2 s |
 | grid of side 2049, one frame: peak memory | 8,396,802 bytes of heights | $memory MB | | at most 40 MB |
+| info on a grid of side 2049: time | 8,396,821 bytes, 16,777,214 triangles | $info s | | under 0.6 s |
+| info on a grid of side 2049: peak memory | 8,396,802 bytes of heights | $info_memory MB | | under 150 MB beyond the grid |
 | $frames frames on a 3x3 grid: time | $frames files of 48 bytes | $many s, $(a_frame "$many") us a frame | | |
 | the same files by a loop of the shell | $frames files of 48 bytes | $loop s, $(a_frame "$loop") us a file | program / loop $(ratio "$many" "$loop") | at most 1 |
 | the same files by one cp | $frames files of 48 bytes | $copy s, $(a_frame "$copy") us a file | program / cp $(ratio "$many" "$copy") | at most 1 |
@@ -102,6 +106,10 @@ if [ -x "$single" ]; then
   echo "| the mate of every address, n = 11 | $calls calls, $found mates | $seconds s | | under 3 s |"
   read -r _ _ calls _ found _ seconds <<<"$(fastest forced)"
   echo "| the deepest corner triangle split by force on the empty set, n = 11 | $calls calls, $found triangles split | $(awk -v s="$seconds" -v n="$calls" 'BEGIN { printf "%.1f", 1000000 * s / n }') us a call | | under 1 ms |"
+  read -r _ _ calls _ found _ seconds <<<"$(fastest wedges)"
+  echo "| the wedges of a grid, n = 11 | $calls call | $seconds s | | under 0.5 s |"
+  read -r _ _ calls _ found _ seconds <<<"$(fastest ranks)"
+  echo "| the rank of every triangle without planes, n = 11, the building of the wedges with it | $calls calls | $(awk -v s="$seconds" -v n="$calls" 'BEGIN { printf "%.1f", 1000000000 * s / n }') ns a call | | under 60 ns |"
 else
   echo "bench/run.sh: $single is not built, so single calls are not timed; rt ci builds it" >&2
 fi

@@ -169,6 +169,27 @@ for ((place = 0; place <= 12; place++)); do
   expect 3 0 "grid refused: bad header at $place\n"
 done
 
+# --- Info. ---
+
+start info_on_a_flat_grid
+run info g
+expect 0 0 'side 3 maxval 65535 low 0 high 0 thickness 0\n'
+start info_on_a_hill
+{ printf 'P5\n3 3\n65535\n'; head -c 8 /dev/zero; printf '\0\012'; head -c 8 /dev/zero; } >g
+run info g
+expect 0 0 'side 3 maxval 65535 low 0 high 10 thickness 20\n'
+start info_on_the_greatest_grid
+flat_grid 2049 >g
+run info g
+expect 0 0 'side 2049 maxval 65535 low 0 high 0 thickness 0\n'
+start info_on_a_grid_that_is_cut_short
+flat_grid 3 | head -c 30 >g
+run info g
+expect 3 0 'grid refused: truncated\n'
+start info_on_a_grid_that_is_not_there
+run info none
+expect 5 0 ''
+
 # --- Words. ---
 
 long=$(printf '%0200d' 0)

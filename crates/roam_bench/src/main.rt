@@ -7,10 +7,14 @@
 #![tactic(auto)]
 
 use bintree_addr::Tri;
+use cull_marks::Planes;
 use diamond_rel::Split;
+use pgm_grid::Grid;
 use std::alloc::Global;
 use std::time::Instant;
 use std::{env, io};
+use view_priority::{Camera, Meter, rank};
+use wedgie_tree::Wedges;
 
 /// The level of the grid that the cases are about.
 const LEVEL: u32 = 11;
@@ -21,6 +25,8 @@ fn main(rt: HostRuntime) -> io::Result<()> {
         let (calls, found) = match word.as_str() {
             "mates" => mates(),
             "forced" => forced(rt.alloc()),
+            "wedges" => wedges(rt.alloc()),
+            "ranks" => ranks(rt.alloc()),
             _ => continue,
         };
         let seconds = start.elapsed(&rt)?.as_secs_f64();
@@ -63,6 +69,45 @@ fn forced(alloc: Global) -> (u32, u32) {
         {
             calls = calls.saturating_add(1);
             found = found.saturating_add(gain);
+        }
+    }
+    (calls, found)
+}
+
+/// The wedges of a flat grid of this level, where there is memory.
+fn flat_wedges(alloc: Global) -> Option<Wedges> {
+    let grid = Grid::flat(alloc, LEVEL, 65535).ok()?;
+    Wedges::build(alloc, grid).ok()
+}
+
+/// Builds the wedges of a flat grid, and counts the call and the thickness of a base triangle.
+fn wedges(alloc: Global) -> (u32, u32) {
+    if let (Some(wedges), Some(tri)) = (flat_wedges(alloc), Tri::new(2))
+        && tri.level() <= 2 * wedges.grid().n()
+    {
+        return (1, wedges.thickness(tri));
+    }
+    (0, 0)
+}
+
+/// Ranks each triangle of a flat grid without planes, and counts the calls and the triangles that need to
+/// be split. The seconds are those of the building too.
+fn ranks(alloc: Global) -> (u32, u32) {
+    let mut calls = 0u32;
+    let mut found = 0u32;
+    let mut meter = Meter::new();
+    let planes = Planes::none();
+    if let (Some(wedges), Some(camera)) = (flat_wedges(alloc), Camera::new(-3, -4, 1000)) {
+        for number in 2..1u32 << (2 * LEVEL + 2) {
+            let Some(tri) = Tri::new(number) else {
+                continue;
+            };
+            if tri.level() <= 2 * wedges.grid().n() {
+                calls = calls.saturating_add(1);
+                if rank(&wedges, &camera, 1, &planes, tri, &mut meter).p > 0 {
+                    found = found.saturating_add(1);
+                }
+            }
         }
     }
     (calls, found)
