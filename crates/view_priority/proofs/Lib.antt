@@ -3,3 +3,4 @@ pub mod RatioLemmas
 pub mod MoveLemmas
 pub mod NestLemmas
 pub mod PriorityLemmas
+pub mod NewtonLemmas

@@ -5,6 +5,7 @@ ghost use Rattle.mesh_defs.specs.BoundingBox.{gap, squared_distance, distance_of
 ghost use Rattle.cull_marks.specs.Cuboid.{as_box, IsWithinReach};
 
 use crate::Camera;
+use crate::root::square_root;
 use bintree_addr::Cuboid;
 use mesh_defs::roots;
 
@@ -18,7 +19,7 @@ pub fn distance(c: &Cuboid, camera: &Camera) -> u64
     ensures bounded { result < 2 ^ 31 }
 {
     roots();
-    squared_gaps(c, camera).isqrt()
+    square_root(squared_gaps(c, camera))
 }
 
 /// The sum of the squares of the gaps on the three axes.

@@ -14,6 +14,7 @@ mod laws;
 mod meter;
 mod ranks;
 mod ratio;
+mod root;
 mod sight;
 #[cfg(test)]
 mod tests;

@@ -1,5 +1,6 @@
 //! Priorities on small grids, worked by hand, and distances at the greatest numbers.
 
+use crate::root::square_root;
 use crate::{Camera, Meter, bounds, distance, priority, rank};
 use bintree_addr::{Cuboid, Tri};
 use cull_marks::{Plane, Planes};
@@ -138,6 +139,23 @@ fn distance_is_rounded_down(rt: HostRuntime) -> Result<(), Fail> {
         assert_eq!(rt; distance(&cube, &camera), want, "{place:?}");
     }
     Ok(())
+}
+
+#[test]
+fn roots_of_squares_and_of_their_neighbours(rt: HostRuntime) {
+    let roots: [u64; 12] = [
+        1, 2, 3, 4, 10, 255, 256, 65535, 65536, 1000003, 2147483646, 2147483647,
+    ];
+    for root in roots {
+        assert!(rt; 1 <= root && root < 2147483648);
+        let square = root * root;
+        assert!(rt; square < 1 << 62);
+        assert_eq!(rt; square_root(square), root, "{square}");
+        assert_eq!(rt; square_root(square - 1), root - 1, "{square} - 1");
+        assert_eq!(rt; square.isqrt(), root, "std at {square}");
+    }
+    assert_eq!(rt; square_root(0), 0);
+    assert_eq!(rt; square_root(4611686018427387903), 2147483647);
 }
 
 #[test]
