@@ -59,6 +59,7 @@ pub fn deviation_of(grid: &Grid, corners: Corners) -> u32
     requires within { IsWithin (2 ^ grid.now.n) corners }
     ensures { result ≡ deviation grid.now.n grid.now.heights corners }
 {
+    // The grid is small, so the sums of corners fit.
     let _small = grid.n();
     let surface = 2 * u32::from(height_at(grid, base_middle(corners)));
     let base = u32::from(height_at(grid, corners.v0)) + u32::from(height_at(grid, corners.v1));
