@@ -14,7 +14,8 @@ use bintree_addr::{corner_laws, level_laws};
 /// most as thick as its parent, and its heights lie within its parent's.
 pub fn wedge_laws()
     // A finest triangle has no thickness, and holds no points but its corners.
-    ensures finest_thickness { (n : ℕ) (heights : List ℕ) (a : ℕ) → level_of a ≡ 2 * n → thickness_of n heights a ≡ 0 }
+    ensures finest_thickness { (n : ℕ) (heights : List ℕ) (a : ℕ) → level_of a ≡ 2 * n →
+        thickness_of n heights a ≡ 0 }
     ensures finest_low { (n : ℕ) (heights : List ℕ) (a : ℕ) → 2 ≤ a → level_of a ≡ 2 * n →
         low_of n heights a ≡ least_of_3 (height_of n heights (corners_of n a).apex)
         (height_of n heights (corners_of n a).v0) (height_of n heights (corners_of n a).v1) }
@@ -23,13 +24,15 @@ pub fn wedge_laws()
         (height_of n heights (corners_of n a).v0) (height_of n heights (corners_of n a).v1) }
 
     // A splittable triangle holds the points of its children.
-    ensures thickness { (n : ℕ) (heights : List ℕ) (a : ℕ) → IsSplittable n a → thickness_of n heights a ≡
-        max (thickness_of n heights (2 * a)) (thickness_of n heights (2 * a + 1)) + deviation n heights (corners_of n a) }
+    ensures thickness { (n : ℕ) (heights : List ℕ) (a : ℕ) → IsSplittable n a →
+        thickness_of n heights a ≡ max (thickness_of n heights (2 * a)) (thickness_of n heights (2 * a + 1))
+        + deviation n heights (corners_of n a) }
     ensures low { (n : ℕ) (heights : List ℕ) (a : ℕ) → IsSplittable n a →
         low_of n heights a ≡ min (low_of n heights (2 * a)) (low_of n heights (2 * a + 1)) }
     ensures high { (n : ℕ) (heights : List ℕ) (a : ℕ) → IsSplittable n a →
         high_of n heights a ≡ max (high_of n heights (2 * a)) (high_of n heights (2 * a + 1)) }
 
+    // Each triangle holds points.
     ensures ordered { (n : ℕ) (heights : List ℕ) (a : ℕ) → 2 ≤ a → level_of a ≤ 2 * n →
         low_of n heights a ≤ high_of n heights a }
 

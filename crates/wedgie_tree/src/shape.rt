@@ -54,11 +54,13 @@ pub fn height_at(grid: &Grid, point: Point) -> u16
     grid.height(point.x, point.y)
 }
 
-/// How far the surface at the middle of the base is from the middle of the base's ends, in half units of height.
+/// How far the surface at the middle of the base is from the middle of the base's ends, in half units
+/// of height.
 pub fn deviation_of(grid: &Grid, corners: Corners) -> u32
     requires within { IsWithin (2 ^ grid.now.n) corners }
     ensures { result ≡ deviation grid.now.n grid.now.heights corners }
 {
+    // The grid is small, so the sums of corners fit.
     let _small = grid.n();
     let surface = 2 * u32::from(height_at(grid, base_middle(corners)));
     let base = u32::from(height_at(grid, corners.v0)) + u32::from(height_at(grid, corners.v1));

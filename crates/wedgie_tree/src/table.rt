@@ -46,6 +46,7 @@ pub fn joined(grid: &Grid, tri: Tri, corners: Corners, left: Wedge, right: Wedge
 {
     corner_laws();
     wedge_laws();
+    // The heights are bounded, so the thickness fits.
     let _bounded = grid.maxval();
     Wedge {
         thickness: left.thickness.max(right.thickness) + deviation_of(grid, corners),
