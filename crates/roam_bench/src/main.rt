@@ -74,15 +74,27 @@ fn forced(alloc: Global) -> (u32, u32) {
     (calls, found)
 }
 
-/// The wedges of a flat grid of this level, where there is memory.
-fn flat_wedges(alloc: Global) -> Option<Wedges> {
-    let grid = Grid::flat(alloc, LEVEL, 65535).ok()?;
+/// The wedges of a rough grid of this level, where there is memory. Its heights are the numbers of a linear
+/// congruential generator.
+fn rough_wedges(alloc: Global) -> Option<Wedges> {
+    let mut grid = Grid::flat(alloc, LEVEL, 65535).ok()?;
+    let mut number = 1u32;
+    for y in 0..2049 {
+        for x in 0..2049 {
+            let height = (number >> 16) as u16;
+            let intervals = 1 << grid.n();
+            if x <= intervals && y <= intervals && height <= grid.maxval() {
+                grid.put(x, y, height);
+            }
+            number = number.wrapping_mul(1664525).wrapping_add(1013904223);
+        }
+    }
     Wedges::build(alloc, grid).ok()
 }
 
-/// Builds the wedges of a flat grid, and counts the call and the thickness of a base triangle.
+/// Builds the wedges of a rough grid, and counts the call and the thickness of a base triangle.
 fn wedges(alloc: Global) -> (u32, u32) {
-    if let (Some(wedges), Some(tri)) = (flat_wedges(alloc), Tri::new(2))
+    if let (Some(wedges), Some(tri)) = (rough_wedges(alloc), Tri::new(2))
         && tri.level() <= 2 * wedges.grid().n()
     {
         return (1, wedges.thickness(tri));
@@ -90,14 +102,14 @@ fn wedges(alloc: Global) -> (u32, u32) {
     (0, 0)
 }
 
-/// Ranks each triangle of a flat grid without planes, and counts the calls and the triangles that need to
-/// be split. The seconds are those of the building too.
+/// Ranks each triangle of a rough grid without planes, and counts the calls and the triangles of positive
+/// priority. The seconds are those of the building too.
 fn ranks(alloc: Global) -> (u32, u32) {
     let mut calls = 0u32;
     let mut found = 0u32;
     let mut meter = Meter::new();
     let planes = Planes::none();
-    if let (Some(wedges), Some(camera)) = (flat_wedges(alloc), Camera::new(-3, -4, 1000)) {
+    if let (Some(wedges), Some(camera)) = (rough_wedges(alloc), Camera::new(-3, -4, 1000)) {
         for number in 2..1u32 << (2 * LEVEL + 2) {
             let Some(tri) = Tri::new(number) else {
                 continue;

@@ -18,7 +18,8 @@ use wedgie_tree::Wedges;
 /// A triangle with its priority in a view. The meter counts one more.
 ///
 /// No child ranks before its parent.
-/// Cost (not proved): a step a level, the corners of the box at each plane, and a square root.
+/// Cost (not proved): a step a level, the corners of the box at each plane, and a square root; of a
+/// triangle without thickness none of these.
 pub fn rank(
     w: &Wedges,
     camera: &Camera,
@@ -39,6 +40,10 @@ pub fn rank(
 {
     priority_laws();
     meter.tick();
+    // From nowhere is a flat triangle worth a split.
+    if w.thickness(t) == 0 {
+        return Rank { p: 0, tri: t };
+    }
     let sight = sight_of(w, camera, spacing, planes, t);
     Rank {
         p: seen_priority(sight.mark, sight.thickness, sight.distance),

@@ -1,7 +1,11 @@
-use Rattle.std.proofs.Common.{arith}
+use Rattle.std.proofs.Common.{sym, ◌∙◌, arith}
 use Rattle.view_priority.specs.Camera.{view_from}
-use Rattle.view_priority.proofs.PriorityLemmas.{priority_of-by_parts}
+use Rattle.view_priority.proofs.PriorityLemmas.{priority_of-by_parts, priority_of-none}
 use Rattle.view_priority.proofs.evaluation.rank.Goals as goal
+
+pub returns-then-thickness-eq0-clause-value : goal.returns-then-thickness-eq0-clause-value
+returns-then-thickness-eq0-clause-value c =
+    sym (priority_of-none c.args.w.now.n c.args.w.now.heights _ c.args.t (sym c.thickness.ensures.value ∙ c.if-thickness-eq0.true))
 
 pub returns-clause-value : goal.returns-clause-value
 returns-clause-value c =
