@@ -304,10 +304,10 @@ have_greatest_more samples highs k room eight have =
 -- ---- a row that is changed sample by sample
 
 -- a place that is not yet changed
-same_place : (row start : List ℕ) (i : ℕ) → drop i row ≡ drop i start → get_or row i 0 ≡ get_or start i 0
-same_place row start i e =
+same_place : (now start : List ℕ) (i : ℕ) → drop i now ≡ drop i start → get_or now i 0 ≡ get_or start i 0
+same_place now start i e =
     let here : i + 0 ≡ i = omega arith in
-    ap (λ (k : ℕ). get_or row k 0) (sym here) ∙ sym (get_or-drop i row 0 0) ∙ ap (λ (xs : List ℕ). get_or xs 0 0) e ∙ get_or-drop i start 0 0 ∙ ap (λ (k : ℕ). get_or start k 0) here
+    ap (λ (k : ℕ). get_or now k 0) (sym here) ∙ sym (get_or-drop i now 0 0) ∙ ap (λ (xs : List ℕ). get_or xs 0 0) e ∙ get_or-drop i start 0 0 ∙ ap (λ (k : ℕ). get_or start k 0) here
 
 -- one more sample is changed
 pub map_sample : (f : ℕ → ℕ) (row start : List ℕ) (i v : ℕ) → i < length row → length row ≡ length start → take i row ≡ map f (take i start) → drop i row ≡ drop i start → v ≡ f (get_or row i 0) →
