@@ -309,4 +309,26 @@ else
   skip a_full_report 'there is no device /dev/full'
 fi
 
+# start_within NAME KIB: as start, with a grid of side 2049 and a program that has at most so much memory.
+start_within() {
+  start "$1"
+  flat_grid 2049 >g
+  printf '#!/bin/sh\nulimit -v %s\nexec "%s" "$@"\n' "$2" "$program" >"$room/within"
+  chmod +x "$room/within"
+}
+
+if (ulimit -v 6000) 2>/dev/null; then
+  # The heights alone have 8,396,802 bytes.
+  start_within no_memory_for_the_heights 6000
+  program=$room/within run mesh g s out 2 1
+  expect 1 0 ''
+
+  # The table of wedges has 67,108,864.
+  start_within no_memory_for_the_wedges 40000
+  program=$room/within run info g
+  expect 1 0 ''
+else
+  skip no_memory_for_the_heights 'the shell sets no limit of memory'
+fi
+
 cd -- "$top" || exit 1
