@@ -61,7 +61,7 @@ fn explanation(status: Status) -> Option<&'static str>
         Status::NoMemory => Some("roam: out of memory"),
         Status::Usage => {
             Some(
-                "usage: roam info GRID, or roam mesh GRID SCRIPT PREFIX 2 1   (PREFIX has 1 to 200 bytes)",
+                "usage: roam info GRID, or roam mesh GRID SCRIPT PREFIX BUDGET SPACING   (PREFIX has 1 to 200 bytes, BUDGET is 2 to 1048576, SPACING 1 to 1024)",
             )
         }
         Status::ReadFault => Some("roam: the grid or the script could not be opened or read"),

@@ -1,38 +1,12 @@
 -- Acts that stand, one after another, and acts that were cut short.
-use Rattle.std.proofs.Common.{◌≡◌, ℕ, true, false, List, [], ◌∷◌, ◌++◌, Option, Some, refl, sym, ◌∙◌, ap, inr, append_assoc, append-nil}
-use Rattle.roam_edge.specs.MeshSink.{Mesh, begun, longer, closed}
+use Rattle.std.proofs.Common.{◌≡◌, ℕ, true, false, List, [], ◌∷◌, ◌++◌, Option, Some, refl, sym, ◌∙◌, ap, subst, append_assoc, append-nil}
+use Rattle.roam_edge.specs.MeshSink.{Mesh}
 use Rattle.roam_edge.specs.Told.{IsFront}
-use Rattle.roam_run.specs.Act.{Act, WholeMesh, ReportLine, Told, Grows, Stands, IsPartOfMesh, IsCutShort, StandsInPart, meshes_of, report_of, mesh_with, told}
-
--- all bytes are a front of themselves
-pub front-whole : (bytes : List ℕ) → IsFront bytes bytes
-front-whole bytes = record { back = []; joined = sym (append-nil bytes) }
-
-module _ (before middle later now : Option (List Mesh)) (prefix : List ℕ) (number : ℕ) (bytes : List ℕ)
-    (begin : (all : List Mesh) → before ≡ Some all → middle ≡ Some (all ++ begun prefix number ∷ [])) where
-  -- a mesh was begun, and a write of its bytes was cut short
-  pub part-write : ((all : List Mesh) (mesh : Mesh) → middle ≡ Some (all ++ mesh ∷ [])
-      → (front : List ℕ) × IsFront front bytes × (later ≡ Some (all ++ longer mesh front ∷ [])))
-      → (all : List Mesh) → before ≡ Some all
-      → (part : List Mesh) × IsPartOfMesh prefix number bytes part × (later ≡ Some (all ++ part))
-  part-write write all is =
-      let cut = write all (begun prefix number) (begin all is) in
-      (mesh_with prefix number cut.0 false ∷ [], inr (cut.0, cut.1, refl), cut.2)
-
-  module _ (write : (all : List Mesh) (mesh : Mesh) → middle ≡ Some (all ++ mesh ∷ [])
-      → later ≡ Some (all ++ longer mesh bytes ∷ [])) where
-    -- a mesh was begun, written and finished
-    pub whole-mesh : ((all : List Mesh) (mesh : Mesh) → later ≡ Some (all ++ mesh ∷ [])
-        → now ≡ Some (all ++ closed mesh ∷ []))
-        → Grows before now (mesh_with prefix number bytes true ∷ [])
-    whole-mesh finish all is =
-        finish all (longer (begun prefix number) bytes) (write all (begun prefix number) (begin all is))
-
-    -- a mesh was begun and written, and finishing it failed
-    pub part-finish : now ≡ later → (all : List Mesh) → before ≡ Some all
-        → (part : List Mesh) × IsPartOfMesh prefix number bytes part × (now ≡ Some (all ++ part))
-    part-finish same all is =
-        (mesh_with prefix number bytes false ∷ [], inr (bytes, front-whole bytes, refl), same ∙ write all (begun prefix number) (begin all is))
+use Rattle.obj_write.specs.MeshWriting.{mesh_with, IsPartOfMesh}
+use Rattle.roam_run.specs.Picture.{Picture}
+use Rattle.roam_run.specs.ReportText.{frame_line}
+use Rattle.roam_run.specs.Script.{frame_acts}
+use Rattle.roam_run.specs.Act.{Act, WholeMesh, ReportLine, Told, Grows, Stands, IsCutShort, StandsInPart, meshes_of, report_of, told}
 
 -- nothing came
 pub grows-nothing : {A : Type 0} (before : Option (List A)) → Grows before before []
@@ -150,3 +124,24 @@ cut-only-line meshes report report' line owed part = record {
   in_order = refl;
   standing = (grows-nothing meshes, part);
 }
+
+module _ (meshes meshes' : Option (List Mesh)) (report : Option (List ℕ)) (prefix : List ℕ) (number : ℕ) (picture : Picture) (text : List ℕ)
+    (is : text ≡ picture.text) where
+  -- the mesh of a frame was cut short
+  pub cut-frame-mesh : ((all : List Mesh) → meshes ≡ Some all → (part : List Mesh) × IsPartOfMesh prefix number text part × (meshes' ≡ Some (all ++ part)))
+      → IsCutShort (told meshes report) (told meshes' report) (frame_acts prefix picture number)
+  cut-frame-mesh part =
+      let P : List ℕ → Type 0 = λ t. (all : List Mesh) → meshes ≡ Some all → (cut : List Mesh) × IsPartOfMesh prefix number t cut × (meshes' ≡ Some (all ++ cut)) in
+      cut-mesh meshes meshes' report prefix number picture.text (ReportLine (frame_line number picture) ∷ []) (subst P is part)
+
+module _ (meshes meshes' : Option (List Mesh)) (report report' : Option (List ℕ)) (prefix : List ℕ) (number : ℕ) (picture : Picture) (text : List ℕ)
+    (is : text ≡ picture.text) (whole : Grows meshes meshes' (mesh_with prefix number text true ∷ [])) where
+  whole-picture : Grows meshes meshes' (mesh_with prefix number picture.text true ∷ [])
+  whole-picture =
+      let P : List ℕ → Type 0 = λ t. Grows meshes meshes' (mesh_with prefix number t true ∷ []) in
+      subst P is whole
+
+  -- the line of a frame was cut short
+  pub cut-frame-line : ((all : List ℕ) → report ≡ Some all → (front : List ℕ) × IsFront front (frame_line number picture) × (report' ≡ Some (all ++ front)))
+      → IsCutShort (told meshes report) (told meshes' report') (frame_acts prefix picture number)
+  cut-frame-line part = cut-line meshes meshes' report report' prefix number picture.text (frame_line number picture) whole-picture part

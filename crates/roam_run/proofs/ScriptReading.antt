@@ -9,6 +9,7 @@ use Rattle.roam_run.specs.declared.script.Stop.TheVariants.{Refused, Failed}
 use Rattle.roam_run.specs.Act.{Act, Told, Stands}
 use Rattle.std.proofs.lemmas.List.Elements.{recursion_from_All}
 use Rattle.roam_run.proofs.LineLemmas.{lines_of-last}
+use Rattle.roam_run.specs.Picture.{Picture}
 use Rattle.roam_run.specs.Script.{Outcome, outcome, after_acts, line_outcome, lines_outcome, line_fault, script_outcome, lines_of}
 use Rattle.roam_run.specs.Step.{Shown, Place, place, left_outcome, IsOneLine, Carries, TakesPiece, TakesLine}
 use Rattle.roam_run.specs.Promise.{EndsAs, StandsForRead}
@@ -25,11 +26,11 @@ pub record IsCarried (before now : Told) (shown : Shown) (here : Place) (files :
       (unread : List ℕ) × (rest ≡ Some unread) × (bytes_of all name ≡ bytes ++ unread)
 
 -- nothing is left of a script
-none_left-status : (shown : Shown) (frames : ℕ) → (script_outcome shown.prefix shown.text frames []).status ≡ Done
+none_left-status : (shown : Shown) (frames : ℕ) → (script_outcome shown.prefix shown.picture frames []).status ≡ Done
 unfolding script_outcome
 none_left-status shown frames = refl
 
-none_left-acts : (shown : Shown) (frames : ℕ) (acts : List Act) → acts ++ (script_outcome shown.prefix shown.text frames []).acts ≡ acts
+none_left-acts : (shown : Shown) (frames : ℕ) (acts : List Act) → acts ++ (script_outcome shown.prefix shown.picture frames []).acts ≡ acts
 unfolding script_outcome
 none_left-acts shown frames acts = append-nil acts
 
@@ -119,7 +120,7 @@ module _ (before middle now : Told) (shown : Shown) (here : Place) (files : Opti
       → StandsForRead before middle rest' shown (bytes_of all name)
   carried-fault rest' same short one all is =
       let there = so_far.told_script all is in
-      let at_end = ap (script_outcome shown.prefix shown.text 0) (sym (append-nil so_far.carried.lines)) ∙ so_far.carried.goes_on [] in
+      let at_end = ap (script_outcome shown.prefix shown.picture 0) (sym (append-nil so_far.carried.lines)) ∙ so_far.carried.goes_on [] in
       record {
         lines = so_far.carried.lines;
         begun = here.part;
@@ -159,21 +160,21 @@ end-empty before shown frames part empty =
     subst P (sym empty) (record { complete = λ e. (stands-nothing before, refl); cut_short = λ e. cc })
 
 -- the last line needs no LF
-script_outcome-last : (prefix text : List ℕ) (frames : ℕ) (part : List ℕ) → part ≢ [] → IsOneLine part
-    → script_outcome prefix text frames (part ++ [])
-    ≡ line_outcome prefix text frames (line_fault frames part) (outcome [] Done)
+script_outcome-last : (prefix : List ℕ) (picture : Picture) (frames : ℕ) (part : List ℕ) → part ≢ [] → IsOneLine part
+    → script_outcome prefix picture frames (part ++ [])
+    ≡ line_outcome prefix picture frames (line_fault frames part) (outcome [] Done)
 unfolding script_outcome
-script_outcome-last prefix text frames [] some one = absurd (some refl)
-script_outcome-last prefix text frames (byte ∷ part) some one =
-    ap (λ bytes. lines_outcome prefix text frames (lines_of bytes)) (append-nil (byte ∷ part))
-    ∙ ap (lines_outcome prefix text frames) (lines_of-last byte part (recursion_from_All (λ b. b ≢ 10) (byte ∷ part) one))
+script_outcome-last prefix picture frames [] some one = absurd (some refl)
+script_outcome-last prefix picture frames (byte ∷ part) some one =
+    ap (λ bytes. lines_outcome prefix picture frames (lines_of bytes)) (append-nil (byte ∷ part))
+    ∙ ap (lines_outcome prefix picture frames) (lines_of-last byte part (recursion_from_All (λ b. b ≢ 10) (byte ∷ part) one))
 
 module _ (before now : Told) (shown : Shown) (frames : ℕ) (line part : List ℕ) (is_part : line ≡ part) (some : part ≢ []) (one : IsOneLine part) where
   -- what is left of a script whose last line has begun
-  last-outcome : left_outcome shown (place frames part) [] ≡ line_outcome shown.prefix shown.text frames (line_fault frames line) (outcome [] Done)
+  last-outcome : left_outcome shown (place frames part) [] ≡ line_outcome shown.prefix shown.picture frames (line_fault frames line) (outcome [] Done)
   last-outcome =
-      script_outcome-last shown.prefix shown.text frames part some one
-      ∙ ap (λ l. line_outcome shown.prefix shown.text frames (line_fault frames l) (outcome [] Done)) (sym is_part)
+      script_outcome-last shown.prefix shown.picture frames part some one
+      ∙ ap (λ l. line_outcome shown.prefix shown.picture frames (line_fault frames l) (outcome [] Done)) (sym is_part)
 
   -- the last line made a frame
   pub end-frame : TakesLine {T = Unit {0}} before now shown frames (line_fault frames line) (Ok tt)
@@ -181,7 +182,7 @@ module _ (before now : Told) (shown : Shown) (frames : ℕ) (line part : List �
   end-frame takes =
       let made = takes.ok in
       let P : Outcome → Type 0 = λ end. EndsAs before now end Done in
-      let e = last-outcome ∙ ap (λ fault. line_outcome shown.prefix shown.text frames fault (outcome [] Done)) made.0 in
+      let e = last-outcome ∙ ap (λ fault. line_outcome shown.prefix shown.picture frames fault (outcome [] Done)) made.0 in
       subst P (sym e) (record {
         complete = λ c. (made.1, refl);
         cut_short = λ c. cc;
@@ -193,7 +194,7 @@ module _ (before now : Told) (shown : Shown) (frames : ℕ) (line part : List �
   end-stop Refused takes =
       let refused = takes.refused refl in
       let P : Outcome → Type 0 = λ end. EndsAs before now end ScriptRefused in
-      let e = last-outcome ∙ ap (λ fault. line_outcome shown.prefix shown.text frames fault (outcome [] Done)) refused.1 in
+      let e = last-outcome ∙ ap (λ fault. line_outcome shown.prefix shown.picture frames fault (outcome [] Done)) refused.1 in
       subst P (sym e) (record { complete = λ c. (refused.2, refl); cut_short = λ c. cc })
   end-stop Failed takes =
       let P : Outcome → Type 0 = λ end. EndsAs before now end WriteFault in

@@ -7,6 +7,7 @@ use Rattle.roam_run.specs.declared.script_fault.ScriptFault.{ScriptFault}
 use Rattle.roam_run.specs.declared.script_fault.ScriptFault.TheVariants.{UnknownCommand}
 use Rattle.roam_run.specs.Act.{ReportLine, Told, told, Stands, IsCutShort}
 use Rattle.roam_run.specs.ReportText.{line_refusal}
+use Rattle.roam_run.specs.Picture.{Picture}
 use Rattle.roam_run.specs.Script.{Outcome, outcome, after_acts, frame_acts, line_outcome, lines_outcome, script_outcome, lines_of, line_fault, AreWhole}
 use Rattle.roam_run.specs.declared.script.Stop.{Stop}
 use Rattle.roam_run.specs.declared.script.Stop.TheVariants.{Refused, Failed}
@@ -19,38 +20,38 @@ no_end : (part : List ℕ) → IsOneLine part → NoEnd part
 no_end part one = recursion_from_All (λ byte. byte ≢ 10) part one
 
 -- a line, and then more lines
-pub script_outcome-line : (prefix text : List ℕ) (frames : ℕ) (part more : List ℕ) → IsOneLine part
-    → script_outcome prefix text frames (part ++ 10 ∷ more)
-    ≡ line_outcome prefix text frames (line_fault frames part) (script_outcome prefix text (frames + 1) more)
+pub script_outcome-line : (prefix : List ℕ) (picture : Picture) (frames : ℕ) (part more : List ℕ) → IsOneLine part
+    → script_outcome prefix picture frames (part ++ 10 ∷ more)
+    ≡ line_outcome prefix picture frames (line_fault frames part) (script_outcome prefix picture (frames + 1) more)
 unfolding script_outcome
-script_outcome-line prefix text frames part more one =
-    ap (lines_outcome prefix text frames) (lines_of-ends part more (no_end part one))
+script_outcome-line prefix picture frames part more one =
+    ap (lines_outcome prefix picture frames) (lines_of-ends part more (no_end part one))
 
 -- a line that grows past five bytes is refused, whatever follows
-pub script_outcome-long : (prefix text : List ℕ) (frames byte : ℕ) (part more : List ℕ) → IsOneLine (byte ∷ part) → 5 < length (byte ∷ part)
-    → script_outcome prefix text frames (byte ∷ (part ++ more))
+pub script_outcome-long : (prefix : List ℕ) (picture : Picture) (frames byte : ℕ) (part more : List ℕ) → IsOneLine (byte ∷ part) → 5 < length (byte ∷ part)
+    → script_outcome prefix picture frames (byte ∷ (part ++ more))
     ≡ outcome (ReportLine (line_refusal (frames + 1) UnknownCommand) ∷ []) ScriptRefused
 unfolding script_outcome
-script_outcome-long prefix text frames byte part more one long =
+script_outcome-long prefix picture frames byte part more one long =
     let begun : BeginsWith (byte ∷ part) (lines_of (byte ∷ (part ++ more))) = lines_of-begins byte part more (no_end (byte ∷ part) one) in
-    ap (lines_outcome prefix text frames) begun.2
-    ∙ ap (λ fault. line_outcome prefix text frames fault (lines_outcome prefix text (frames + 1) begun.1))
+    ap (lines_outcome prefix picture frames) begun.2
+    ∙ ap (λ fault. line_outcome prefix picture frames fault (lines_outcome prefix picture (frames + 1) begun.1))
     (line_fault-long frames ((byte ∷ part) ++ begun.0) (omega (arith, length-append part begun.0, long)))
 
 module _ (before now : Told) (shown : Shown) (frames : ℕ) (part : List ℕ) (one : IsOneLine part) where
   -- a line made a frame
   pub carries-line : line_fault frames part ≡ None → part ≡ codes "frame"
-      → Stands before now (frame_acts shown.prefix shown.text (frames + 1))
+      → Stands before now (frame_acts shown.prefix shown.picture (frames + 1))
       → Carries before now shown (place frames part) (place (frames + 1) []) (10 ∷ [])
   carries-line accepted word stands = record {
     lines = part ++ 10 ∷ [];
-    acts = frame_acts shown.prefix shown.text (frames + 1);
+    acts = frame_acts shown.prefix shown.picture (frames + 1);
     cut = sym (append-nil (part ++ 10 ∷ []));
     whole = inr (part, refl);
     goes_on = λ more.
-        ap (script_outcome shown.prefix shown.text frames) (append_assoc part (10 ∷ []) more)
-        ∙ script_outcome-line shown.prefix shown.text frames part more one
-        ∙ ap (λ fault. line_outcome shown.prefix shown.text frames fault (script_outcome shown.prefix shown.text (frames + 1) more)) accepted;
+        ap (script_outcome shown.prefix shown.picture frames) (append_assoc part (10 ∷ []) more)
+        ∙ script_outcome-line shown.prefix shown.picture frames part more one
+        ∙ ap (λ fault. line_outcome shown.prefix shown.picture frames fault (script_outcome shown.prefix shown.picture (frames + 1) more)) accepted;
     stands = stands;
     counted = (let e = ap length word in omega (arith, e));
   }
@@ -62,18 +63,18 @@ module _ (before now : Told) (shown : Shown) (frames : ℕ) (part : List ℕ) (o
   refuses-line why is stands = record {
     acts = ReportLine (line_refusal (frames + 1) why) ∷ [];
     ends = λ more.
-        script_outcome-line shown.prefix shown.text frames part more one
-        ∙ ap (λ fault. line_outcome shown.prefix shown.text frames fault (script_outcome shown.prefix shown.text (frames + 1) more)) is;
+        script_outcome-line shown.prefix shown.picture frames part more one
+        ∙ ap (λ fault. line_outcome shown.prefix shown.picture frames fault (script_outcome shown.prefix shown.picture (frames + 1) more)) is;
     stands = stands;
   }
 
   -- what a line does was cut short
-  pub cuts-line : ((rest : Outcome) → IsCutShort before now (line_outcome shown.prefix shown.text frames (line_fault frames part) rest).acts)
+  pub cuts-line : ((rest : Outcome) → IsCutShort before now (line_outcome shown.prefix shown.picture frames (line_fault frames part) rest).acts)
       → Cuts before now shown (place frames part) (10 ∷ [])
   cuts-line short = record {
     short = λ more.
         let P : Outcome → Type 0 = λ end. IsCutShort before now end.acts in
-        subst P (sym (script_outcome-line shown.prefix shown.text frames part more one)) (short _);
+        subst P (sym (script_outcome-line shown.prefix shown.picture frames part more one)) (short _);
   }
 
 -- a line goes on by a byte
@@ -95,8 +96,8 @@ pub left_outcome-long : (shown : Shown) (frames : ℕ) (part more : List ℕ) (b
     ≡ outcome (ReportLine (line_refusal (frames + 1) UnknownCommand) ∷ []) ScriptRefused
 left_outcome-long shown frames [] more byte one full = absurd (omega (arith, full))
 left_outcome-long shown frames (first ∷ part) more byte one full =
-    ap (λ bytes. script_outcome shown.prefix shown.text frames (first ∷ bytes)) (sym (append_assoc part (byte ∷ []) more))
-    ∙ script_outcome-long shown.prefix shown.text frames first (part ++ byte ∷ []) more one (omega (arith, length-append part (byte ∷ []), full))
+    ap (λ bytes. script_outcome shown.prefix shown.picture frames (first ∷ bytes)) (sym (append_assoc part (byte ∷ []) more))
+    ∙ script_outcome-long shown.prefix shown.picture frames first (part ++ byte ∷ []) more one (omega (arith, length-append part (byte ∷ []), full))
 
 -- one piece, and then another
 pub carries-append : (before middle now : Told) (shown : Shown) (old mid new : Place) (first second : List ℕ)
@@ -112,11 +113,11 @@ carries-append before middle now shown old mid new first second one two = record
       ∙ sym (append_assoc one.lines two.lines new.part);
   whole = whole-append one.lines two.lines one.whole two.whole;
   goes_on = λ more.
-      ap (script_outcome shown.prefix shown.text old.frames) (append_assoc one.lines two.lines more)
+      ap (script_outcome shown.prefix shown.picture old.frames) (append_assoc one.lines two.lines more)
       ∙ one.goes_on (two.lines ++ more)
       ∙ ap (after_acts one.acts) (two.goes_on more)
-      ∙ ap (λ m. outcome m (script_outcome shown.prefix shown.text new.frames more).status)
-      (sym (append_assoc one.acts two.acts (script_outcome shown.prefix shown.text new.frames more).acts));
+      ∙ ap (λ m. outcome m (script_outcome shown.prefix shown.picture new.frames more).status)
+      (sym (append_assoc one.acts two.acts (script_outcome shown.prefix shown.picture new.frames more).acts));
   stands = stands-append before middle now one.acts two.acts one.stands two.stands;
   counted = omega (arith, one.counted, two.counted, length-append first second);
 }
@@ -131,7 +132,7 @@ pub left_outcome-carried : (before now : Told) (shown : Shown) (old new : Place)
     → (carried : Carries before now shown old new piece) → (more : List ℕ)
     → left_outcome shown old (piece ++ more) ≡ after_acts carried.acts (left_outcome shown new more)
 left_outcome-carried before now shown old new piece carried more =
-    ap (script_outcome shown.prefix shown.text old.frames)
+    ap (script_outcome shown.prefix shown.picture old.frames)
     (sym (append_assoc old.part piece more) ∙ ap (λ m. m ++ more) carried.cut ∙ append_assoc carried.lines new.part more)
     ∙ carried.goes_on (new.part ++ more)
 
@@ -207,7 +208,7 @@ takes-ended before now shown frames byte line part new stop is_part ends one tak
 -- a line that ends made a frame
 pub takes-frame : (before now : Told) (shown : Shown) (frames byte : ℕ) (line part left : List ℕ)
     → line ≡ part → byte ≡ 10 → left ≡ [] → IsOneLine part → line ≡ codes "frame"
-    → (line_fault frames line ≡ None) × Stands before now (frame_acts shown.prefix shown.text (frames + 1))
+    → (line_fault frames line ≡ None) × Stands before now (frame_acts shown.prefix shown.picture (frames + 1))
     → TakesPiece {T = Unit {0}} before now shown (place frames part) (place (frames + 1) left) (byte ∷ []) (Ok tt)
 takes-frame before now shown frames byte line part left is_part ends empty one word made = record {
   ok = (let P : List ℕ → Type 0 = λ l. Carries before now shown (place frames part) (place (frames + 1) l) (byte ∷ []) in
@@ -266,12 +267,12 @@ stands-line meshes report report' line came = record {
 }
 
 -- a line's refusal was cut short
-pub line_outcome-cut : (meshes : Option (List Mesh)) (report report' : Option (List ℕ)) (prefix text : List ℕ) (frames : ℕ) (why : ScriptFault) (fault : Option ScriptFault)
+pub line_outcome-cut : (meshes : Option (List Mesh)) (report report' : Option (List ℕ)) (prefix : List ℕ) (picture : Picture) (frames : ℕ) (why : ScriptFault) (fault : Option ScriptFault)
     → Some why ≡ fault
     → ((all : List ℕ) → report ≡ Some all → (front : List ℕ) × IsFront front (line_refusal (frames + 1) why) × (report' ≡ Some (all ++ front)))
-    → (rest : Outcome) → IsCutShort (told meshes report) (told meshes report') (line_outcome prefix text frames fault rest).acts
-line_outcome-cut meshes report report' prefix text frames why fault is part rest =
-    let P : Option ScriptFault → Type 0 = λ f. IsCutShort (told meshes report) (told meshes report') (line_outcome prefix text frames f rest).acts in
+    → (rest : Outcome) → IsCutShort (told meshes report) (told meshes report') (line_outcome prefix picture frames fault rest).acts
+line_outcome-cut meshes report report' prefix picture frames why fault is part rest =
+    let P : Option ScriptFault → Type 0 = λ f. IsCutShort (told meshes report) (told meshes report') (line_outcome prefix picture frames f rest).acts in
     subst P is (cut-only-line meshes report report' (line_refusal (frames + 1) why) [] part)
 
 none-from : (fault : Option ScriptFault) → ((why : ScriptFault) → fault ≡ Some why → ⊥) → fault ≡ None
@@ -279,13 +280,13 @@ none-from None not = refl
 none-from (Some why) not = absurd (not why refl)
 
 -- a frame of a line was cut short
-pub frame_outcome-cut : (before now : Told) (prefix text : List ℕ) (frames : ℕ) (fault found : Option ScriptFault)
+pub frame_outcome-cut : (before now : Told) (prefix : List ℕ) (picture : Picture) (frames : ℕ) (fault found : Option ScriptFault)
     → found ≡ fault → ((why : ScriptFault) → found ≡ Some why → ⊥)
-    → IsCutShort before now (frame_acts prefix text (frames + 1))
-    → (rest : Outcome) → IsCutShort before now (line_outcome prefix text frames fault rest).acts
-frame_outcome-cut before now prefix text frames fault found is not cut rest =
-    let P : Option ScriptFault → Type 0 = λ f. IsCutShort before now (line_outcome prefix text frames f rest).acts in
-    subst P (sym (none-from found not) ∙ is) (cut-longer before now (frame_acts prefix text (frames + 1)) rest.acts cut)
+    → IsCutShort before now (frame_acts prefix picture (frames + 1))
+    → (rest : Outcome) → IsCutShort before now (line_outcome prefix picture frames fault rest).acts
+frame_outcome-cut before now prefix picture frames fault found is not cut rest =
+    let P : Option ScriptFault → Type 0 = λ f. IsCutShort before now (line_outcome prefix picture frames f rest).acts in
+    subst P (sym (none-from found not) ∙ is) (cut-longer before now (frame_acts prefix picture (frames + 1)) rest.acts cut)
 
 -- pieces were carried out, and then a byte stopped the run
 pub takes-append : (before middle now : Told) (shown : Shown) (old mid new : Place) (front next rest piece : List ℕ) (stop : Stop)

@@ -1,19 +1,15 @@
 -- What a run does to the outside: a list of acts, each a whole mesh or a line of the report.
 -- This project's own words.
--- Words: Act, meshes_of, report_of, Told, Stands, IsPartOfMesh, StandsInPart, IsCutShort.
+-- Words: Act, meshes_of, report_of, Told, told, Grows, Stands, StandsInPart, IsCutShort.
 use Rattle.std.specs.Prelude.{◌≡◌, ℕ, ◌⊎◌, Bool, true, false, List, [], ◌∷◌, ◌++◌, Option, Some}
 use Rattle.roam_edge.specs.MeshSink.{Mesh}
 use Rattle.roam_edge.specs.Told.{IsFront}
+use Rattle.obj_write.specs.MeshWriting.{mesh_with, IsPartOfMesh}
 
 -- a whole mesh, written and finished; or bytes at the end of the report
 pub data Act : Type 0 where
   WholeMesh : (prefix : List ℕ) (number : ℕ) (bytes : List ℕ) → Act
   ReportLine : (bytes : List ℕ) → Act
-
--- the mesh of a sink with these bytes
-abbrev pub mesh_with : List ℕ → ℕ → List ℕ → Bool → Mesh
-mesh_with name count text is_finished =
-    record { prefix = name; number = count; bytes = text; finished = is_finished }
 
 -- the meshes that the acts add
 abbrev pub meshes_of : List Act → List Mesh
@@ -43,11 +39,6 @@ Grows {A} before now more = (all : List A) → before ≡ Some all → now ≡ S
 pub record Stands (before now : Told) (acts : List Act) : Type 0 where
   pub meshes_grow : Grows before.meshes now.meshes (meshes_of acts)
   pub report_grows : Grows before.report now.report (report_of acts)
-
--- nothing of the mesh, or an unfinished mesh with a front of its bytes
-abbrev pub IsPartOfMesh : List ℕ → ℕ → List ℕ → List Mesh → Type 0
-IsPartOfMesh prefix number bytes part =
-    (part ≡ []) ⊎ ((front : List ℕ) × IsFront front bytes × (part ≡ mesh_with prefix number front false ∷ []))
 
 -- the acts done were added, and a part of the next one
 abbrev pub StandsInPart : Told → Told → List Act → Act → Type 0

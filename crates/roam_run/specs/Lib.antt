@@ -1,11 +1,13 @@
 pub mod Words
 pub mod WordView
 pub mod Act
+pub mod Picture
 pub mod ReportText
 pub mod Script
 pub mod Outcome
 pub mod Cause
 pub mod Step
+pub mod PictureView
 pub mod Taking
 pub mod GridStop
 pub mod Promise

@@ -1,11 +1,9 @@
 -- What a run of `roam` promises, by its status.
--- Words: is_complete, IsScriptEnd, IsRunEnd, HasEnded, EndsAs, StandsForRead, CommandReadFault,
+-- Words: is_complete, IsScriptEnd, IsRunEnd, HasEnded, EndsAs, EndsRight, StandsForRead, CommandReadFault,
 -- IsWholeHeader, BeginsWithHeader, CommandNoMemory, LeavesAtReadFault, LeavesAtNoMemory, OpensForStatus, IsBestFrame, AreBestFrames,
--- KeepsBestMeshes.
-use Rattle.std.specs.Prelude.{◌≡◌, ℕ, ◌+◌, ◌≤◌, ◌⊎◌, Bool, true, false, IsTrue, ⊤, List, [], ◌∷◌, ◌++◌, length, Option, Some, Ok}
+-- KeepsBestMeshes, IsCertificate, CertifiesFrames.
+use Rattle.std.specs.Prelude.{◌≡◌, ◌≢◌, ℕ, ◌+◌, ◌<◌, ◌≤◌, ◌⊎◌, ◌↔◌, Bool, true, false, IsTrue, ⊤, List, [], ◌∷◌, ◌++◌, length, Option, Some, None, IfSome, Ok}
 use Rattle.mesh_defs.specs.HeightField.{HeightField}
-use Rattle.mesh_defs.specs.View.{start_view}
-use Rattle.mesh_defs.specs.Priority.{priority_of}
 use Rattle.mesh_defs.specs.MeshText.{mesh_text}
 use Rattle.mesh_defs.specs.BestMesh.{IsBestMesh}
 use Rattle.roam_edge.specs.MeshSink.{Mesh}
@@ -14,11 +12,11 @@ use Rattle.pgm_grid.specs.PgmText.{IsLevel, points_of, raster_of}
 use Rattle.pgm_grid.specs.Progress.{grid_of}
 use Rattle.roam_run.specs.declared.status.Status.{Status}
 use Rattle.roam_run.specs.declared.status.Status.TheVariants.{Done, NoMemory, Usage, GridRefused, ScriptRefused, ReadFault, WriteFault}
-use Rattle.roam_run.specs.Words.{MeshCommand, Command, MeshOf, InfoOf, grid_name, command_of, word_budget}
+use Rattle.roam_run.specs.Words.{MeshCommand, Command, MeshOf, InfoOf, grid_name, command_of}
 use Rattle.roam_run.specs.Act.{Told, Stands, IsCutShort}
 use Rattle.roam_run.specs.Script.{Outcome, script_outcome, AreWhole}
 use Rattle.roam_run.specs.Step.{Shown, IsOneLine}
-use Rattle.roam_run.specs.Outcome.{frame_text, word_spacing}
+use Rattle.roam_run.specs.Picture.{Picture, IsPicture, start_priority}
 
 -- the run came to its end or to a refusal, and nothing outside failed
 abbrev pub is_complete : Status → Bool
@@ -48,6 +46,10 @@ pub record EndsAs (before now : Told) (end : Outcome) (status : Status) : Type 0
   pub complete : IsTrue (is_complete status) → Stands before now end.acts × (status ≡ end.status)
   pub cut_short : status ≡ WriteFault → IsCutShort before now end.acts
 
+-- Unless memory was wanted or a read failed, the run ends as an outcome that is right.
+pub record EndsRight (before now : Told) (IsRight : Outcome → Type 0) (status : Status) : Type 0 where
+  pub ends : status ≢ NoMemory → status ≢ ReadFault → (end : Outcome) × IsRight end × EndsAs before now end status
+
 -- A read failed: what the whole lines among the bytes that were read do stands, and nothing else.
 -- The lines that were read are all accepted, and the one that has begun has at most five bytes. The
 -- bytes that are left are those that the shelf still has unread, unless opening failed and none was read.
@@ -60,16 +62,17 @@ pub record StandsForRead (before now : Told) (rest : Option (List ℕ)) (shown :
   pub whole : (lines ≡ []) ⊎ AreWhole lines
   pub short : length begun ≤ 5
   pub one_line : IsOneLine begun
-  pub accepted : (script_outcome shown.prefix shown.text 0 lines).status ≡ Done
-  pub stands : Stands before now (script_outcome shown.prefix shown.text 0 lines).acts
+  pub accepted : (script_outcome shown.prefix shown.picture 0 lines).status ≡ Done
+  pub stands : Stands before now (script_outcome shown.prefix shown.picture 0 lines).acts
 
 -- A command's read failed: at the grid, the one file that was opened, nothing was done; at the script,
 -- the second file, what the whole lines do that were read.
 abbrev pub CommandReadFault : Told → Told → ℕ → ℕ → Option (List ℕ) → Command → List NamedFile → Type 0
 CommandReadFault before now opens opens' rest (MeshOf command) files =
     ((opens' ≡ opens + 1) × Stands before now [])
-    ⊎ ((opens' ≡ opens + 2) × (grid : HeightField) × (grid_of (bytes_of files command.grid) ≡ Ok grid)
-    × StandsForRead before now rest (record { prefix = command.prefix; text = frame_text grid }) (bytes_of files command.script))
+    ⊎ ((opens' ≡ opens + 2) × (grid : HeightField) × (picture : Picture) × (grid_of (bytes_of files command.grid) ≡ Ok grid)
+    × IsPicture grid command.budget command.spacing picture
+    × StandsForRead before now rest (record { prefix = command.prefix; picture = picture }) (bytes_of files command.script))
 CommandReadFault before now opens opens' rest (InfoOf grid) files = (opens' ≡ opens + 1) × Stands before now []
 
 -- the bytes are a whole header of an accepted grid: behind them each raster of its size is read
@@ -115,8 +118,8 @@ pub record IsBestFrame (words : List (List ℕ)) (files : List NamedFile) (numbe
   pub is_grid : grid_of (bytes_of files command.grid) ≡ Ok grid
   pub named : mesh.prefix ≡ command.prefix
   pub numbered : mesh.number ≡ number
-  pub best : IsBestMesh grid.n word_budget (priority_of grid.n grid.heights (start_view word_spacing)) triangles
-  pub text : mesh.bytes ≡ mesh_text grid.n grid.heights word_spacing [] triangles
+  pub best : IsBestMesh grid.n command.budget (start_priority grid command.spacing) triangles
+  pub text : mesh.bytes ≡ mesh_text grid.n grid.heights command.spacing [] triangles
 
 -- the meshes are numbered from this number on, and each that is finished is a best frame
 abbrev pub AreBestFrames : List (List ℕ) → List NamedFile → ℕ → List Mesh → Type 0
@@ -129,3 +132,17 @@ pub record KeepsBestMeshes (words : List (List ℕ)) (files : List NamedFile) (b
   pub added : List Mesh
   pub behind : now ≡ Some (before ++ added)
   pub frames : AreBestFrames words files 1 added
+
+-- What a frame's line tells of blocking is a certificate: it tells of a triangle unless no priority is
+-- above 0; that one's priority is the worst, and with it the mesh would need more than the budget.
+pub record IsCertificate (grid : HeightField) (budget spacing : ℕ) (picture : Picture) : Type 0 where
+  pub unblocked : (picture.blocked ≡ None) ↔ (picture.worst ≡ 0)
+  pub worst : IfSome picture.blocked (λ b. start_priority grid spacing b.tri ≡ picture.worst)
+  pub need : IfSome picture.blocked (λ b. budget < b.need)
+
+-- each picture that the frames of these words can show has its certificate
+abbrev pub CertifiesFrames : List (List ℕ) → List NamedFile → Type 0
+CertifiesFrames words files =
+    (command : MeshCommand) (grid : HeightField) (picture : Picture) → command_of words ≡ Some (MeshOf command)
+    → grid_of (bytes_of files command.grid) ≡ Ok grid → IsPicture grid command.budget command.spacing picture
+    → IsCertificate grid command.budget command.spacing picture

@@ -1,16 +1,36 @@
 -- The lines of the report. This project's own; each ends with one LF (10).
-use Rattle.std.specs.Prelude.{ℕ, max, List, ◌++◌, codes, decimal}
+use Rattle.std.specs.Prelude.{ℕ, ◌-◌, max, nat_le, if◌then◌else◌, List, ◌++◌, Option, Some, None, codes, decimal}
 use Rattle.mesh_defs.specs.HeightField.{HeightField, side_of}
 use Rattle.mesh_defs.specs.Thickness.{thickness_of}
 use Rattle.mesh_defs.specs.BoundingBox.{least, greatest}
 use Rattle.pgm_grid.specs.declared.fault.PgmFault.{PgmFault}
 use Rattle.pgm_grid.specs.declared.fault.PgmFault.TheVariants.{BadMagic, BadHeader, HeaderTooLong, BadMaxval, NotSquare, BadSide, Truncated, BadSample, AboveMaxval, Trailing, NoMemory, TooLong}
+use Rattle.bintree_addr.specs.declared.blocked.Blocked.{Blocked}
+use Rattle.roam_run.specs.Picture.{Picture}
 use Rattle.roam_run.specs.declared.script_fault.ScriptFault.{ScriptFault}
 use Rattle.roam_run.specs.declared.script_fault.ScriptFault.TheVariants.{UnknownCommand, TooManyFrames}
 
--- `frame K triangles 2 vertices 4`
-abbrev pub frame_line : ℕ → List ℕ
-frame_line number = codes "frame " ++ decimal number ++ codes " triangles 2 vertices 4\n"
+-- `none`; or `A needs L`: the address of the triangle that blocks, and the number of triangles that it needs
+abbrev pub blocked_text : Option Blocked → List ℕ
+blocked_text None = codes "none"
+blocked_text (Some blocked) = decimal blocked.tri ++ codes " needs " ++ decimal blocked.need
+
+-- how many triangles are split in a frame: each mesh is made from the two base triangles, and each split
+-- adds one
+abbrev pub splits_of : Picture → ℕ
+splits_of picture = picture.triangles - 2
+
+-- how many are merged before: all that were split in the frame before, none in the first frame
+abbrev pub merges_of : ℕ → Picture → ℕ
+merges_of number picture = if nat_le number 1 then 0 else splits_of picture
+
+-- `frame K triangles T vertices V worst W splits S merges G blocked B`
+abbrev pub frame_line : ℕ → Picture → List ℕ
+frame_line number picture =
+    codes "frame " ++ decimal number ++ codes " triangles " ++ decimal picture.triangles
+    ++ codes " vertices " ++ decimal picture.vertices ++ codes " worst " ++ decimal picture.worst
+    ++ codes " splits " ++ decimal (splits_of picture) ++ codes " merges " ++ decimal (merges_of number picture)
+    ++ codes " blocked " ++ blocked_text picture.blocked ++ codes "\n"
 
 -- `side W maxval M low L high H thickness E`: the points of a side, the bound of the heights, the least and
 -- the greatest height, and the greater thickness of the two base triangles, in half units of height

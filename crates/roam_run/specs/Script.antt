@@ -7,6 +7,7 @@ use Rattle.roam_run.specs.declared.status.Status.TheVariants.{Done, ScriptRefuse
 use Rattle.roam_run.specs.declared.script_fault.ScriptFault.{ScriptFault}
 use Rattle.roam_run.specs.declared.script_fault.ScriptFault.TheVariants.{UnknownCommand, TooManyFrames}
 use Rattle.roam_run.specs.Act.{Act, WholeMesh, ReportLine}
+use Rattle.roam_run.specs.Picture.{Picture}
 use Rattle.roam_run.specs.ReportText.{frame_line, line_refusal}
 
 -- The lines of a text: it is cut at each LF (10), and bytes after the last LF are a line too.
@@ -38,24 +39,24 @@ abbrev pub after_acts : List Act → Outcome → Outcome
 after_acts before end = outcome (before ++ end.acts) end.status
 
 -- a frame: its mesh, and then its line
-abbrev pub frame_acts : List ℕ → List ℕ → ℕ → List Act
-frame_acts prefix text number = WholeMesh prefix number text ∷ (ReportLine (frame_line number) ∷ [])
+abbrev pub frame_acts : List ℕ → Picture → ℕ → List Act
+frame_acts prefix picture number = WholeMesh prefix number picture.text ∷ (ReportLine (frame_line number picture) ∷ [])
 
 -- a line that makes the next frame, or is refused, and then the rest
-abbrev pub line_outcome : List ℕ → List ℕ → ℕ → Option ScriptFault → Outcome → Outcome
-line_outcome prefix text frames None rest = after_acts (frame_acts prefix text (frames + 1)) rest
-line_outcome prefix text frames (Some fault) rest =
+abbrev pub line_outcome : List ℕ → Picture → ℕ → Option ScriptFault → Outcome → Outcome
+line_outcome prefix picture frames None rest = after_acts (frame_acts prefix picture (frames + 1)) rest
+line_outcome prefix picture frames (Some fault) rest =
     outcome (ReportLine (line_refusal (frames + 1) fault) ∷ []) ScriptRefused
 
--- The outcome of lines after this many lines, each of which made a frame with the same text.
-abbrev pub lines_outcome : List ℕ → List ℕ → ℕ → List (List ℕ) → Outcome
-lines_outcome prefix text frames [] = outcome [] Done
-lines_outcome prefix text frames (line ∷ lines) =
-    line_outcome prefix text frames (line_fault frames line) (lines_outcome prefix text (frames + 1) lines)
+-- The outcome of lines after this many lines, each of which made a frame with the same picture.
+abbrev pub lines_outcome : List ℕ → Picture → ℕ → List (List ℕ) → Outcome
+lines_outcome prefix picture frames [] = outcome [] Done
+lines_outcome prefix picture frames (line ∷ lines) =
+    line_outcome prefix picture frames (line_fault frames line) (lines_outcome prefix picture (frames + 1) lines)
 
 -- The outcome of a script's bytes after this many frames.
-unfoldable pub script_outcome : List ℕ → List ℕ → ℕ → List ℕ → Outcome
-script_outcome prefix text frames bytes = lines_outcome prefix text frames (lines_of bytes)
+unfoldable pub script_outcome : List ℕ → Picture → ℕ → List ℕ → Outcome
+script_outcome prefix picture frames bytes = lines_outcome prefix picture frames (lines_of bytes)
 
 -- nothing, or lines that all end with their LF
 abbrev pub AreWhole : List ℕ → Type 0

@@ -6,13 +6,14 @@ use Rattle.roam_run.specs.declared.script.Stop.{Stop}
 use Rattle.roam_run.specs.declared.script.Stop.TheVariants.{Refused, Failed}
 use Rattle.roam_run.specs.declared.script_fault.ScriptFault.{ScriptFault}
 use Rattle.roam_run.specs.Act.{Act, ReportLine, Told, Stands, IsCutShort}
+use Rattle.roam_run.specs.Picture.{Picture}
 use Rattle.roam_run.specs.ReportText.{line_refusal}
 use Rattle.roam_run.specs.Script.{Outcome, outcome, after_acts, frame_acts, line_outcome, script_outcome, AreWhole}
 
--- what every frame of a run shows: the prefix of the meshes' names, and the text of each mesh
+-- what every frame of a run shows: the prefix of the meshes' names, and the picture
 pub record Shown : Type 0 where
   pub prefix : List ℕ
-  pub text : List ℕ
+  pub picture : Picture
 
 -- how far a script was carried out: the frames made, and the bytes of the line that has begun
 pub record Place : Type 0 where
@@ -24,7 +25,7 @@ place made begun = record { frames = made; part = begun }
 
 -- the outcome of what is left of a script
 abbrev pub left_outcome : Shown → Place → List ℕ → Outcome
-left_outcome shown here more = script_outcome shown.prefix shown.text here.frames (here.part ++ more)
+left_outcome shown here more = script_outcome shown.prefix shown.picture here.frames (here.part ++ more)
 
 -- no byte is an LF
 abbrev pub IsOneLine : List ℕ → Type 0
@@ -41,8 +42,8 @@ pub record Carries (before now : Told) (shown : Shown) (old new : Place) (piece 
   pub acts : List Act
   pub cut : old.part ++ piece ≡ lines ++ new.part
   pub whole : (lines ≡ []) ⊎ AreWhole lines
-  pub goes_on : (more : List ℕ) → script_outcome shown.prefix shown.text old.frames (lines ++ more)
-      ≡ after_acts acts (script_outcome shown.prefix shown.text new.frames more)
+  pub goes_on : (more : List ℕ) → script_outcome shown.prefix shown.picture old.frames (lines ++ more)
+      ≡ after_acts acts (script_outcome shown.prefix shown.picture new.frames more)
   pub stands : Stands before now acts
   pub counted : 6 * new.frames + length new.part ≡ 6 * old.frames + length old.part + length piece
 
@@ -64,8 +65,8 @@ pub record TakesPiece {T : Type 0} (before now : Told) (shown : Shown) (old new 
 
 -- what a line does, by the answer to it: the next frame, or its refusal
 pub record TakesLine {T : Type 0} (before now : Told) (shown : Shown) (frames : ℕ) (fault : Option ScriptFault) (answer : Result T Stop) : Type 0 where
-  pub ok : OnOk answer ((fault ≡ None) × Stands before now (frame_acts shown.prefix shown.text (frames + 1)))
+  pub ok : OnOk answer ((fault ≡ None) × Stands before now (frame_acts shown.prefix shown.picture (frames + 1)))
   pub refused : answer ≡ Err Refused → (why : ScriptFault) × (fault ≡ Some why)
       × Stands before now (ReportLine (line_refusal (frames + 1) why) ∷ [])
   pub failed : answer ≡ Err Failed → (rest : Outcome) →
-      IsCutShort before now (line_outcome shown.prefix shown.text frames fault rest).acts
+      IsCutShort before now (line_outcome shown.prefix shown.picture frames fault rest).acts

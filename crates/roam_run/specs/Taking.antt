@@ -1,6 +1,6 @@
 -- The fields of the script's code in the words of `Step`, and what its calls need and leave.
 -- This project's own words.
-use Rattle.std.specs.Prelude.{◌≡◌, ◌≢◌, ℕ, ◌<◌, ◌≤◌, List, length, Result, Err, OnOk}
+use Rattle.std.specs.Prelude.{◌≡◌, ◌≢◌, ℕ, Result, Err, OnOk}
 use Rattle.roam_run.specs.declared.script.Stop.{Stop}
 use Rattle.roam_run.specs.declared.script.Stop.TheVariants.{Refused, Failed}
 use Rattle.roam_run.specs.declared.status.Status.{Status}
@@ -9,9 +9,11 @@ use Rattle.roam_run.specs.declared.script.Scene.{Scene}
 use Rattle.roam_run.specs.declared.script.Progress.{Progress}
 use Rattle.roam_run.specs.Cause.{NoFault, WriteFaults}
 use Rattle.roam_run.specs.Step.{Shown, Place, place}
+use Rattle.roam_run.specs.PictureView.{picture_seen, IsWritable}
+use Rattle.roam_run.specs.WordView.{IsPrefixLength}
 
 abbrev pub shown : Scene → Shown
-shown scene = record { prefix = scene.prefix.now; text = scene.text.now }
+shown scene = record { prefix = scene.prefix.now; picture = picture_seen scene.picture.now }
 
 abbrev pub place_of : Progress → Place
 place_of progress = place progress.frames progress.part.items
@@ -21,9 +23,10 @@ abbrev pub status_for : Stop → Status
 status_for Refused = ScriptRefused
 status_for Failed = WriteFault
 
--- a prefix has 1 to 200 bytes
-abbrev pub IsPrefixLength : List ℕ → Type 0
-IsPrefixLength prefix = (0 < length prefix) × (length prefix ≤ 200)
+-- the prefix has an accepted length, and the picture can be written
+pub record IsScene (scene : Scene) : Type 0 where
+  pub prefix_length : IsPrefixLength scene.prefix.now
+  pub writable : IsWritable scene.picture.now
 
 -- the answer is no failure of a write
 abbrev pub NotFailed : {T : Type 0} → Result T Stop → Type 0

@@ -2,22 +2,51 @@
 
 ghost use Rattle.std.specs.Prelude.{◌≡◌, ◌+◌, ◌≤◌, ◌++◌, length, decimal};
 ghost use Rattle.arrayvec.specs.ArrayVec.{array_vec_len};
-ghost use Rattle.roam_run.specs.ReportText.{frame_line, grid_fault_text, grid_refusal, script_fault_text, line_refusal};
+ghost use Rattle.roam_run.specs.PictureView.{picture_seen};
+ghost use Rattle.roam_run.specs.ReportText.{frame_line, blocked_text, grid_fault_text, grid_refusal, script_fault_text, line_refusal};
 
+use crate::picture::Picture;
 use crate::script_fault::ScriptFault;
 use crate::text::{Text, push_bytes, push_number};
 use arrayvec::ArrayVec;
+use bintree_addr::Blocked;
 use pgm_grid::PgmFault;
 
-/// The line of a frame.
-pub(crate) fn frame_report(number: u32) -> Text
-    ensures { result.items ≡ frame_line number }
+/// The line of a frame. Until a mesh goes on from the one before, each is made anew: so all that was
+/// split in the frame before is merged.
+pub(crate) fn frame_report(number: u32, picture: &Picture) -> Text
+    requires some { 2 ≤ length picture.now.leaves.items }
+    ensures { result.items ≡ frame_line number (picture_seen picture.now) }
 {
+    let triangles = picture.leaves.len() as u64;
+    let splits = triangles - 2;
+    let merges = if number <= 1 { 0 } else { splits };
     let mut text = ArrayVec::new();
-    push_bytes(&mut text, b"frame ");
-    push_number(&mut text, u64::from(number));
-    push_bytes(&mut text, b" triangles 2 vertices 4\n");
+    push_placed(&mut text, b"frame ", u64::from(number));
+    push_placed(&mut text, b" triangles ", triangles);
+    push_placed(&mut text, b" vertices ", u64::from(picture.vertices));
+    push_placed(&mut text, b" worst ", picture.worst);
+    push_placed(&mut text, b" splits ", splits);
+    push_placed(&mut text, b" merges ", merges);
+    push_bytes(&mut text, b" blocked ");
+    push_blocked(&mut text, &picture.blocked);
+    push_bytes(&mut text, b"\n");
     text
+}
+
+/// Appends which triangle blocks, and how many triangles the mesh would have with it.
+fn push_blocked(text: &mut Text, blocked: &Option<Blocked>)
+    requires room { array_vec_len text.old + 80 ≤ 512 }
+    ensures items { text.new.items ≡ text.old.items ++ blocked_text blocked.now }
+    ensures len { array_vec_len text.new ≤ array_vec_len text.old + 80 }
+{
+    match blocked {
+        None => push_bytes(text, b"none"),
+        Some(blocked) => {
+            push_number(text, u64::from(blocked.tri.number()));
+            push_placed(text, b" needs ", u64::from(blocked.need));
+        }
+    }
 }
 
 /// The line of a grid that is refused.

@@ -6,16 +6,16 @@ ghost use Rattle.roam_edge.specs.Shelf.{NamedFile, bytes_of};
 ghost use Rattle.pgm_grid.specs.Progress.{grid_of};
 ghost use Rattle.roam_run.specs.Act.{told, ReportLine};
 ghost use Rattle.roam_run.specs.Cause.{StatusHasCause, StatusWritesHaveCause};
-ghost use Rattle.roam_run.specs.Outcome.{outcome_of, command_outcome, info_outcome};
-ghost use Rattle.roam_run.specs.Promise.{EndsAs, HasEnded, LeavesAtReadFault, LeavesAtNoMemory, OpensForStatus, KeepsBestMeshes, CommandReadFault, CommandNoMemory, BeginsWithHeader, is_complete};
-ghost use Rattle.roam_run.specs.Script.{outcome};
-ghost use Rattle.roam_run.specs.Taking.{IsPrefixLength};
-ghost use Rattle.roam_run.specs.WordView.{mesh_seen};
+ghost use Rattle.roam_run.specs.Outcome.{IsOutcome, IsCommandOutcome, info_outcome};
+ghost use Rattle.roam_run.specs.Promise.{EndsAs, EndsRight, HasEnded, LeavesAtReadFault, LeavesAtNoMemory, OpensForStatus, KeepsBestMeshes, CommandReadFault, CommandNoMemory, BeginsWithHeader, CertifiesFrames, is_complete};
+ghost use Rattle.roam_run.specs.Script.{Outcome, outcome};
+ghost use Rattle.roam_run.specs.WordView.{mesh_seen, IsMeshCommand};
 ghost use Rattle.roam_run.specs.Words.{command_of, file_count, MeshOf};
 
 use crate::grid_file::{GridStop, read_grid};
 use crate::info::info_report;
-use crate::mesh_text::text_of;
+use crate::laws::picture_laws;
+use crate::picture::Picture;
 use crate::report::grid_report;
 use crate::script::{Scene, run_script};
 use crate::status::{Run, Status};
@@ -46,9 +46,11 @@ pub fn roam<F: Shelf, M: MeshSink, R: Sink>(
 
     // The outcome: what stands after each status.
     ensures outcome { (files : List NamedFile) → F.files shelf.old ≡ Some files →
-        EndsAs (told (M.meshes meshes.old) (R.contents report.old))
+        EndsRight (told (M.meshes meshes.old) (R.contents report.old))
         (told (M.meshes meshes.new) (R.contents report.new))
-        (outcome_of (map string_bytes words.now) files) result.status }
+        (IsOutcome (map string_bytes words.now) files) result.status }
+    ensures one_outcome { (files : List NamedFile) (end other : Outcome) → IsOutcome (map string_bytes words.now) files end →
+        IsOutcome (map string_bytes words.now) files other → end ≡ other }
     ensures read_fault { result.status ≡ Status.ReadFault → (files : List NamedFile) → F.files shelf.old ≡ Some files →
         LeavesAtReadFault (told (M.meshes meshes.old) (R.contents report.old))
         (told (M.meshes meshes.new) (R.contents report.new)) (F.opens shelf.old) (F.opens shelf.new)
@@ -62,6 +64,9 @@ pub fn roam<F: Shelf, M: MeshSink, R: Sink>(
         M.meshes meshes.old ≡ Some all →
         KeepsBestMeshes (map string_bytes words.now) files all (M.meshes meshes.new) }
 
+    // The blocking triangle that a frame's line tells is a certificate.
+    ensures certificate { (files : List NamedFile) → CertifiesFrames (map string_bytes words.now) files }
+
     // The causes.
     ensures usage { (result.status ≡ Status.Usage) ↔ (command_of (map string_bytes words.now) ≡ None) }
     ensures untouched { result.status ≡ Status.Usage →
@@ -74,6 +79,7 @@ pub fn roam<F: Shelf, M: MeshSink, R: Sink>(
     ensures done { result.status ≡ Status.Done → HasEnded (F.ended shelf.new) (F.files shelf.old) (F.rest shelf.new) }
     ensures idle { result.status ≢ Status.WriteFault → M.under_way meshes.new ≡ false }
 {
+    picture_laws();
     let status = match command_in(words) {
         None => Status::Usage,
         Some(Command::Mesh(command)) => run_mesh(alloc, &command, shelf, meshes, report),
@@ -91,12 +97,12 @@ fn run_mesh<F: Shelf, M: MeshSink, R: Sink>(
     report: &mut R,
 ) -> Status
     requires idle { M.under_way meshes.old ≡ false }
-    requires prefix { IsPrefixLength command.now.prefix.now }
+    requires accepted { IsMeshCommand (mesh_seen command.now) }
     requires opens { F.opens shelf.old ≤ 2 ^ 63 }
     ensures outcome { (files : List NamedFile) → F.files shelf.old ≡ Some files →
-        EndsAs (told (M.meshes meshes.old) (R.contents report.old))
+        EndsRight (told (M.meshes meshes.old) (R.contents report.old))
         (told (M.meshes meshes.new) (R.contents report.new))
-        (command_outcome (MeshOf (mesh_seen command.now)) files) result }
+        (IsCommandOutcome (MeshOf (mesh_seen command.now)) files) result }
     ensures read_fault { result ≡ Status.ReadFault → (files : List NamedFile) → F.files shelf.old ≡ Some files →
         CommandReadFault (told (M.meshes meshes.old) (R.contents report.old))
         (told (M.meshes meshes.new) (R.contents report.new)) (F.opens shelf.old) (F.opens shelf.new)
@@ -116,10 +122,12 @@ fn run_mesh<F: Shelf, M: MeshSink, R: Sink>(
 {
     match read_grid(alloc, command.grid, shelf) {
         Ok(grid) => {
-            let text = text_of(&grid);
+            let Ok(picture) = Picture::make(alloc, grid, command.budget, command.spacing) else {
+                return Status::NoMemory;
+            };
             let scene = Scene {
                 prefix: command.prefix,
-                text: text.as_slice(),
+                picture: &picture,
             };
             run_script(&scene, command.script, shelf, meshes, report)
         }

@@ -10,10 +10,11 @@ ghost use Rattle.roam_run.specs.Promise.{EndsAs, StandsForRead, IsScriptEnd, IsR
 ghost use Rattle.roam_run.specs.ReportText.{line_refusal};
 ghost use Rattle.roam_run.specs.Script.{line_fault};
 ghost use Rattle.roam_run.specs.Step.{HasBegun, TakesLine, TakesPiece, left_outcome, place};
-ghost use Rattle.roam_run.specs.Taking.{shown, place_of, status_for, IsPrefixLength, NotFailed, StopsHaveCause};
+ghost use Rattle.roam_run.specs.Taking.{shown, place_of, status_for, IsScene, NotFailed, StopsHaveCause};
 
 use crate::frame::write_frame;
 use crate::grid_file::PIECE;
+use crate::picture::Picture;
 use crate::report::line_report;
 use crate::script_fault::ScriptFault;
 use crate::status::Status;
@@ -40,8 +41,8 @@ const MOST_FRAMES: u32 = 999_999;
 pub(crate) struct Scene<'a> {
     /// What the name of each mesh begins with.
     pub(crate) prefix: &'a str,
-    /// The text of each mesh.
-    pub(crate) text: &'a [u8],
+    /// What each frame shows.
+    pub(crate) picture: &'a Picture,
 }
 
 /// How far a script was carried out.
@@ -84,7 +85,7 @@ fn take_line<M: MeshSink, R: Sink>(
     report: &mut R,
 ) -> Result<(), Stop>
     requires idle { M.under_way meshes.old ≡ false }
-    requires prefix { IsPrefixLength scene.now.prefix.now }
+    requires scene { IsScene scene.now }
     requires frames { frames ≤ 999999 }
     ensures outcome { TakesLine (told (M.meshes meshes.old) (R.contents report.old))
         (told (M.meshes meshes.new) (R.contents report.new)) (shown scene.now) frames
@@ -101,7 +102,7 @@ fn take_line<M: MeshSink, R: Sink>(
             Err(_) => Err(Stop::Failed),
         };
     }
-    match write_frame(scene.prefix, frames + 1, scene.text, meshes, report) {
+    match write_frame(scene.prefix, frames + 1, scene.picture, meshes, report) {
         Ok(()) => Ok(()),
         Err(_) => Err(Stop::Failed),
     }
@@ -116,7 +117,7 @@ fn take_byte<M: MeshSink, R: Sink>(
     report: &mut R,
 ) -> Result<(), Stop>
     requires idle { M.under_way meshes.old ≡ false }
-    requires prefix { IsPrefixLength scene.now.prefix.now }
+    requires scene { IsScene scene.now }
     requires frames { progress.old.frames ≤ 999999 }
     requires part { HasBegun progress.old.part.items }
     ensures outcome { TakesPiece (told (M.meshes meshes.old) (R.contents report.old))
@@ -159,7 +160,7 @@ fn take_piece<M: MeshSink, R: Sink>(
     report: &mut R,
 ) -> Result<(), Stop>
     requires idle { M.under_way meshes.old ≡ false }
-    requires prefix { IsPrefixLength scene.now.prefix.now }
+    requires scene { IsScene scene.now }
     requires frames { progress.old.frames ≤ 999999 }
     requires part { HasBegun progress.old.part.items }
     ensures outcome { TakesPiece (told (M.meshes meshes.old) (R.contents report.old))
@@ -195,7 +196,7 @@ fn end_script<M: MeshSink, R: Sink>(
     report: &mut R,
 ) -> Status
     requires idle { M.under_way meshes.old ≡ false }
-    requires prefix { IsPrefixLength scene.now.prefix.now }
+    requires scene { IsScene scene.now }
     requires frames { progress.now.frames ≤ 999999 }
     requires part { HasBegun progress.now.part.items }
     ensures ends { EndsAs (told (M.meshes meshes.old) (R.contents report.old))
@@ -230,7 +231,7 @@ pub(crate) fn run_script<F: Shelf, M: MeshSink, R: Sink>(
     report: &mut R,
 ) -> Status
     requires idle { M.under_way meshes.old ≡ false }
-    requires prefix { IsPrefixLength scene.now.prefix.now }
+    requires scene { IsScene scene.now }
     ensures ends { (files : List NamedFile) → F.files shelf.old ≡ Some files →
         EndsAs (told (M.meshes meshes.old) (R.contents report.old))
         (told (M.meshes meshes.new) (R.contents report.new))

@@ -15,15 +15,17 @@ const FLAT_MESH: &[u8] = b"v 0 0 0\nv 2 0 0\nv 0 2 0\nv 2 2 0\nf 1 2 3\nf 4 3 2\
 /// The words of a command that is accepted.
 const WORDS: [&str; 6] = ["mesh", "g", "s", "out", "2", "1"];
 
-const LINE_1: &str = "frame 1 triangles 2 vertices 4\n";
+const LINE_1: &str = "frame 1 triangles 2 vertices 4 worst 0 splits 0 merges 0 blocked none\n";
 
-const LINE_2: &str = "frame 2 triangles 2 vertices 4\n";
+const LINE_2: &str = "frame 2 triangles 2 vertices 4 worst 0 splits 0 merges 0 blocked none\n";
 
-const BOTH_LINES: &str = "frame 1 triangles 2 vertices 4\nframe 2 triangles 2 vertices 4\n";
+const BOTH_LINES: &str =
+    "frame 1 triangles 2 vertices 4 worst 0 splits 0 merges 0 blocked none\nframe 2 triangles 2 vertices 4 worst 0 splits 0 merges 0 blocked none\n";
 
 const LINE_1_REFUSED: &str = "line 1 refused: unknown command\n";
 
-const LINE_2_REFUSED: &str = "frame 1 triangles 2 vertices 4\nline 2 refused: unknown command\n";
+const LINE_2_REFUSED: &str =
+    "frame 1 triangles 2 vertices 4 worst 0 splits 0 merges 0 blocked none\nline 2 refused: unknown command\n";
 
 /// How a run ended, and what it left.
 #[derive(Drop)]
@@ -299,6 +301,118 @@ fn reads_come_in_any_pieces_and_a_failed_one_ends_the_run(rt: HostRuntime) -> Re
     Ok(())
 }
 
+/// Nine points, of which the middle is 10 high: triangles 2 and 3 have thickness 20.
+const HILL: [u8; 31] = *b"P5\n3 3\n65535\n\0\0\0\0\0\0\0\0\0\n\0\0\0\0\0\0\0\0";
+
+/// Nine points, of which the middle of the lowest row is 10 high: triangle 4 has thickness 20.
+const BORDER_HILL: [u8; 31] = *b"P5\n3 3\n65535\n\0\0\0\0\0\0\0\0\0\0\0\0\0\0\0\n\0\0";
+
+/// Twenty-five points, of which the second of the lowest row is 10 high.
+const CORNER_HILL: [u8; 63] =
+    *b"P5\n5 5\n65535\n\0\0\0\0\0\0\0\0\0\0\0\0\0\0\0\0\0\0\0\0\0\0\0\0\0\0\0\0\0\0\0\0\0\0\0\0\0\0\0\0\0\0\0\n\0\0\0\0\0\0";
+
+#[test]
+fn a_frame_is_the_greedy_mesh_of_its_budget(rt: HostRuntime) -> Result<(), Fail> {
+    // Each line worked by hand: what is split, with what it forces, and what blocks.
+    let cases = [
+        (
+            FLAT.as_slice(),
+            "8",
+            "frame 1 triangles 2 vertices 4 worst 0 splits 0 merges 0 blocked none\n",
+        ),
+        (
+            &HILL,
+            "4",
+            "frame 1 triangles 4 vertices 5 worst 0 splits 2 merges 0 blocked none\n",
+        ),
+        (
+            &HILL,
+            "1048576",
+            "frame 1 triangles 4 vertices 5 worst 0 splits 2 merges 0 blocked none\n",
+        ),
+        (
+            &HILL,
+            "3",
+            "frame 1 triangles 2 vertices 4 worst 1310720 splits 0 merges 0 blocked 2 needs 4\n",
+        ),
+        (
+            &HILL,
+            "02",
+            "frame 1 triangles 2 vertices 4 worst 1310720 splits 0 merges 0 blocked 2 needs 4\n",
+        ),
+        (
+            &BORDER_HILL,
+            "4",
+            "frame 1 triangles 4 vertices 5 worst 1310720 splits 2 merges 0 blocked 4 needs 5\n",
+        ),
+        (
+            &CORNER_HILL,
+            "9",
+            "frame 1 triangles 9 vertices 9 worst 0 splits 7 merges 0 blocked none\n",
+        ),
+        (
+            &CORNER_HILL,
+            "8",
+            "frame 1 triangles 8 vertices 8 worst 1310720 splits 6 merges 0 blocked 17 needs 9\n",
+        ),
+        (
+            &CORNER_HILL,
+            "7",
+            "frame 1 triangles 5 vertices 6 worst 1310720 splits 3 merges 0 blocked 8 needs 8\n",
+        ),
+    ];
+    for (grid, budget, line) in cases {
+        let words = ["mesh", "g", "s", "out", budget, "1"];
+        let ran = run_with(rt.alloc(), &words, grid, b"frame\n", MeshCall::Begin(0), 0)?;
+        assert_eq!(rt; ran.status, Status::Done);
+        assert_eq!(rt; ran.report.bytes(), line.as_bytes());
+        assert_eq!(rt; ran.meshes.count(), 1);
+    }
+    Ok(())
+}
+
+#[test]
+fn a_mesh_has_each_vertex_once_and_its_faces_depth_first(rt: HostRuntime) -> Result<(), Fail> {
+    let cases = [
+        (
+            HILL.as_slice(),
+            "4",
+            "1",
+            "v 0 0 0\nv 2 0 0\nv 1 1 10\nv 0 2 0\nv 2 2 0\nf 3 1 2\nf 3 4 1\nf 3 5 4\nf 3 2 5\n",
+        ),
+        (
+            &HILL,
+            "4",
+            "30",
+            "v 0 0 0\nv 60 0 0\nv 30 30 10\nv 0 60 0\nv 60 60 0\nf 3 1 2\nf 3 4 1\nf 3 5 4\nf 3 2 5\n",
+        ),
+        (
+            &CORNER_HILL,
+            "9",
+            "1",
+            "v 0 0 0\nv 1 0 10\nv 2 0 0\nv 4 0 0\nv 1 1 0\nv 0 2 0\nv 2 2 0\nv 0 4 0\nv 4 4 0\nf 5 3 7\nf 2 5 1\nf 2 3 5\nf 3 4 7\nf 6 7 8\nf 5 6 1\nf 5 7 6\nf 7 9 8\nf 7 4 9\n",
+        ),
+    ];
+    for (grid, budget, spacing, mesh) in cases {
+        let words = ["mesh", "g", "s", "out", budget, spacing];
+        let ran = run_with(rt.alloc(), &words, grid, b"frame\n", MeshCall::Begin(0), 0)?;
+        let want = Some(("out", 1, mesh.as_bytes(), true));
+        assert_eq!(rt; kept(&ran.meshes, 0), want);
+    }
+    Ok(())
+}
+
+#[test]
+fn a_later_frame_is_made_anew(rt: HostRuntime) -> Result<(), Fail> {
+    let words = ["mesh", "g", "s", "out", "8", "1"];
+    let none = MeshCall::Begin(0);
+    let ran = run_with(rt.alloc(), &words, &HILL, b"frame\nframe\n", none, 0)?;
+    let lines =
+        "frame 1 triangles 4 vertices 5 worst 0 splits 2 merges 0 blocked none\nframe 2 triangles 4 vertices 5 worst 0 splits 2 merges 2 blocked none\n";
+    assert_eq!(rt; ran.report.bytes(), lines.as_bytes());
+    Ok(())
+}
+
 #[test]
 fn info_tells_side_heights_and_thickness(rt: HostRuntime) -> Result<(), Fail> {
     // The middle is 10 high: twice 10 above the middle of two corners of height 0.
@@ -355,8 +469,10 @@ fn info_refuses_a_grid_as_mesh_does(rt: HostRuntime) -> Result<(), Fail> {
 fn words_that_are_no_command_open_nothing(rt: HostRuntime) -> Result<(), Fail> {
     let cases = [
         ["mesh", "g", "s", "out", "1", "1"],
-        ["mesh", "g", "s", "out", "02", "1"],
-        ["mesh", "g", "s", "out", "2", "2"],
+        ["mesh", "g", "s", "out", "1048577", "1"],
+        ["mesh", "g", "s", "out", "4x", "1"],
+        ["mesh", "g", "s", "out", "2", "0"],
+        ["mesh", "g", "s", "out", "2", "1025"],
         ["mesh", "g", "s", "", "2", "1"],
         ["info", "g", "s", "out", "2", "1"],
     ];

@@ -1,14 +1,16 @@
 //! The words of a command line.
 
-ghost use Rattle.std.specs.Prelude.{◌≡◌, ◌&&◌, ◌==◌, map, string_bytes, codes, bytes_eq};
+ghost use Rattle.std.specs.Prelude.{◌≡◌, ◌≤◌, ◌&&◌, ◌==◌, map, string_bytes, codes, bytes_eq, IfSome};
 ghost use Rattle.std.specs.Option.{option_map};
-ghost use Rattle.roam_run.specs.Words.{command_of};
-ghost use Rattle.roam_run.specs.WordView.{command_seen};
+ghost use Rattle.roam_run.specs.Words.{command_of, number_word};
+ghost use Rattle.roam_run.specs.WordView.{command_seen, IsAccepted};
+
+use roam_num::read_dec;
 
 /// A command.
 #[derive(Clone, Copy)]
 pub(crate) enum Command<'a> {
-    /// `mesh GRID SCRIPT PREFIX 2 1`: a mesh for each frame of the script.
+    /// `mesh GRID SCRIPT PREFIX BUDGET SPACING`: a mesh for each frame of the script.
     Mesh(MeshWords<'a>),
     /// `info GRID`: a line on the grid.
     Info(&'a str),
@@ -23,32 +25,57 @@ pub(crate) struct MeshWords<'a> {
     pub(crate) script: &'a str,
     /// What the name of each mesh begins with.
     pub(crate) prefix: &'a str,
+    /// The greatest number of triangles of a mesh.
+    pub(crate) budget: u32,
+    /// The world units of a grid step.
+    pub(crate) spacing: u32,
 }
 
 /// The longest prefix, in bytes.
 const LONGEST_PREFIX: usize = 200;
 
+/// The least budget: the two base triangles.
+const LEAST_BUDGET: u32 = 2;
+
+/// The greatest budget.
+const GREATEST_BUDGET: u32 = 1 << 20;
+
+/// The greatest spacing. With it no coordinate of a vertex is above 2^21.
+const GREATEST_SPACING: u32 = 1 << 10;
+
 /// The command that the words are, or None of other words.
 pub(crate) fn command_in(words: &[String]) -> Option<Command<'_>>
-    ensures { option_map command_seen result ≡ command_of (map string_bytes words.now) }
+    ensures value { option_map command_seen result ≡ command_of (map string_bytes words.now) }
+    ensures accepted { IfSome result IsAccepted }
 {
     match words {
         [word, grid] if word.as_str() == "info" => Some(Command::Info(grid.as_str())),
         [word, grid, script, prefix, budget, spacing] => {
             let is_prefix = 1 <= prefix.len() && prefix.len() <= LONGEST_PREFIX;
-            let is_command = word.as_str() == "mesh"
-                && is_prefix
-                && budget.as_str() == "2"
-                && spacing.as_str() == "1";
-            if !is_command {
+            if !(word.as_str() == "mesh" && is_prefix) {
                 return None;
             }
             Some(Command::Mesh(MeshWords {
                 grid: grid.as_str(),
                 script: script.as_str(),
                 prefix: prefix.as_str(),
+                budget: number_in_word(budget.as_str(), LEAST_BUDGET, GREATEST_BUDGET)?,
+                spacing: number_in_word(spacing.as_str(), 1, GREATEST_SPACING)?,
             }))
         }
         _ => None,
+    }
+}
+
+/// The number of a word of 1 to 19 digits, if it lies within these bounds.
+fn number_in_word(word: &str, low: u32, high: u32) -> Option<u32>
+    ensures value { result ≡ number_word low high word.now }
+    ensures within { IfSome result (λ number. (low ≤ number) × (number ≤ high)) }
+{
+    let number = read_dec(word.as_bytes())?;
+    if u64::from(low) <= number && number <= u64::from(high) {
+        Some(number as u32)
+    } else {
+        None
     }
 }

@@ -1,16 +1,14 @@
-use Rattle.std.proofs.Common.{[], ◌∷◌}
 use Rattle.std.proofs.lemmas.Result.{err_from_is_err_and, on_err_weaker}
-use Rattle.roam_run.specs.Act.{ReportLine}
-use Rattle.roam_run.specs.ReportText.{frame_line}
-use Rattle.roam_run.proofs.ActLemmas.{cut-mesh, cut-line}
+use Rattle.roam_run.specs.PictureView.{picture_seen}
+use Rattle.roam_run.proofs.ActLemmas.{cut-frame-mesh, cut-frame-line}
 use Rattle.roam_run.proofs.frame.write_frame.Goals as goal
 
 pub returns-in_err-write_mesh-clause-err : goal.returns-in_err-write_mesh-clause-err
 returns-in_err-write_mesh-clause-err g c =
     let p = err_from_is_err_and c.from_residual.result c.from_residual.ensures.1 in
-    rw p.1 (cut-mesh _ _ _ _ _ _ (ReportLine (frame_line c.args.number) ∷ []) c.in_err-write_mesh.ensures.err)
+    rw p.1 (cut-frame-mesh _ _ _ _ _ (picture_seen c.args.picture.now) _ c.view.ensures.text c.in_err-write_mesh.ensures.err)
 
 pub returns-clause-err : goal.returns-clause-err
 returns-clause-err g c =
-    on_err_weaker c.write.result (cut-line _ _ _ _ _ _ _ (frame_line c.args.number) c.in_ok-write_mesh.ensures.ok)
+    on_err_weaker c.write.result (cut-frame-line _ _ _ _ _ _ (picture_seen c.args.picture.now) _ c.view.ensures.text c.in_ok-write_mesh.ensures.ok)
     (rw (← c.frame_report.ensures, ← c.as_slice.ensures.value) c.write.ensures.bytes.failed)
