@@ -13,10 +13,10 @@ flat_grid() {
   head -c "$((2 * $1 * $1))" /dev/zero
 }
 
-# lines N: the report of N frames, each line ended by the two characters \n.
+# lines N [WORST BLOCKED]: the report of N frames of two triangles, each line ended by the two characters \n.
 lines() {
   local k
-  for ((k = 1; k <= $1; k++)); do printf 'frame %d triangles 2 vertices 4\\n' "$k"; done
+  for ((k = 1; k <= $1; k++)); do printf 'frame %d triangles 2 vertices 4 worst %d splits 0 merges 0 blocked %s\\n' "$k" "${2:-0}" "${3:-none}"; done
 }
 
 # start NAME: a new folder with the flat 3x3 grid and a script of one frame.
@@ -138,7 +138,9 @@ start heights_of_the_four_corners
 } >g
 printf 'v 0 0 258\nv 2 0 65535\nv 0 2 3\nv 2 2 513\nf 1 2 3\nf 4 3 2\n' >"$room/mesh"
 run mesh g s out 2 1
-expect 0 1 "$(lines 1)"
+# The heights but those of the corners are 0. Triangle 3 has its own deviation, 65535 + 3, and that of its
+# child 7, 65535 + 513: 131586 half units of height, seen from within its box.
+expect 0 1 "$(lines 1 $((131586 * 65536)) '3 needs 4')"
 
 # Names of refused grids: a header (as printf's %b), a number of zero bytes after it, the refusal.
 while IFS='|' read -r name header zeros refusal; do
@@ -212,15 +214,22 @@ usage a_command_in_capitals MESH g s out 2 1
 usage a_budget_of_1 mesh g s out 1 1
 usage a_budget_of_0 mesh g s out 0 1
 usage a_budget_that_is_no_number mesh g s out 2x 1
+usage a_budget_beyond_the_greatest mesh g s out 1048577 1
+usage a_budget_of_20_digits mesh g s out 00000000000000000002 1
+usage a_budget_with_a_sign mesh g s out +2 1
+usage a_budget_with_a_blank mesh g s out '2 ' 1
 usage an_empty_budget mesh g s out '' 1
 usage a_spacing_of_0 mesh g s out 2 0
+usage a_spacing_of_1025 mesh g s out 2 1025
 usage a_spacing_that_is_no_number mesh g s out 2 one
 usage an_empty_spacing mesh g s out 2 ''
 usage an_empty_prefix mesh g s '' 2 1
 usage a_prefix_of_201_bytes mesh g s "${long}0" 2 1
-# The two words that have one form so far.
-usage a_budget_of_3 mesh g s out 3 1
-usage a_spacing_of_2 mesh g s out 2 2
+
+start a_budget_of_19_digits_and_the_greatest_spacing
+printf 'v 0 0 0\nv 2048 0 0\nv 0 2048 0\nv 2048 2048 0\nf 1 2 3\nf 4 3 2\n' >"$room/mesh"
+run mesh g s out 0000000000001048576 1024
+expect 0 1 "$(lines 1)"
 
 start a_word_that_is_not_utf_8
 run mesh g s $'out\377' 2 1
@@ -326,6 +335,15 @@ if (ulimit -v 6000) 2>/dev/null; then
   # The table of wedges has 67,108,864.
   start_within no_memory_for_the_wedges 40000
   program=$room/within run info g
+  expect 1 0 ''
+
+  start_within no_memory_for_the_wedges_of_a_mesh 40000
+  program=$room/within run mesh g s out 2 1
+  expect 1 0 ''
+
+  # The vertex numbers have 16,793,604.
+  start_within no_memory_for_the_vertex_numbers 86000
+  program=$room/within run mesh g s out 2 1
   expect 1 0 ''
 else
   skip no_memory_for_the_heights 'the shell sets no limit of memory'
