@@ -1,6 +1,6 @@
 #!/usr/bin/env bash
 # Times the built program over generated input, and prints a table for results.md. Nothing here is a test:
-# no figure fails the run, and no claim rests on one. It takes about a minute and 100 MB of the folder for
+# no figure fails the run, and no claim rests on one. It takes some minutes, python3, and 100 MB of the folder for
 # temporary files.
 #
 # usage: bench/run.sh [PROGRAM]     RUNS=N: the least of N runs is printed (5, if not given)
@@ -51,6 +51,22 @@ peak() {
 a_frame() { awk -v s="$1" -v n="$frames" 'BEGIN { printf "%.1f", 1000000 * s / n }'; }
 ratio() { awk -v a="$1" -v b="$2" 'BEGIN { printf "%.2f", a / b }'; }
 
+# rough_grid SIDE: heights from a linear congruence, from which neighbours take half: rougher than any terrain.
+rough_grid() {
+  python3 -c '
+import sys
+side = int(sys.argv[1])
+number, heights, before = 1, bytearray(), [0] * side
+for row in range(side):
+    left = 0
+    for column in range(side):
+        number = (number * 1664525 + 1013904223) % 2**32
+        left = (2 * (number >> 16) + left + before[column]) // 4
+        before[column] = left
+        heights += left.to_bytes(2, "big")
+sys.stdout.buffer.write(b"P5\n%d %d\n65535\n" % (side, side) + heights)' "$1"
+}
+
 # The files of the frames by other means: a plain loop of the shell, and one cp.
 by_loop() {
   local k text name
@@ -77,6 +93,14 @@ many=$(least "$program" mesh "$room/small.pgm" "$room/many" out 2 1)
 made=$(find "$room/made" -name '*.obj' | wc -l)
 [ "$made" -eq "$frames" ] || { echo "bench/run.sh: the program made $made meshes of $frames" >&2; exit 1; }
 mv -- "$room/made" "$room/source"
+jacksboro=$top/examples/jacksboro/grid.pgm
+small_budget=$(least "$program" mesh "$jacksboro" "$room/one" out 2000 90)
+small_budget_memory=$(peak "$program" mesh "$jacksboro" "$room/one" out 2000 90)
+large_budget=$(least "$program" mesh "$jacksboro" "$room/one" out 20000 90)
+large_budget_memory=$(peak "$program" mesh "$jacksboro" "$room/one" out 20000 90)
+rough_grid 1025 >"$room/rough.pgm"
+rough=$(least "$program" mesh "$room/rough.pgm" "$room/one" out 20000 30)
+rough_memory=$(peak "$program" mesh "$room/rough.pgm" "$room/one" out 20000 30)
 loop=$(least by_loop)
 copy=$(least by_cp)
 
@@ -85,10 +109,13 @@ echo
 cat <<TABLE
 | case | count | measured | beside it | target |
 |---|---|---|---|---|
-| grid of side 2049, one frame: time | 8,396,821 bytes, 4,198,401 samples | $large s | cat of the grid $read_alone s | at most 0.2 s |
-| grid of side 2049, one frame: peak memory | 8,396,802 bytes of heights | $memory MB | | at most 40 MB |
+| flat grid of side 2049, budget 2, one frame: time | 8,396,821 bytes, 8,388,606 splittable triangles | $large s | cat of the grid $read_alone s | |
+| flat grid of side 2049, budget 2, one frame: peak memory | 8,396,802 bytes of heights | $memory MB | | |
 | info on a grid of side 2049: time | 8,396,821 bytes, 16,777,214 triangles | $info s | | under 0.6 s |
 | info on a grid of side 2049: peak memory | 8,396,802 bytes of heights | $info_memory MB | | under 150 MB beyond the grid |
+| the Jacksboro grid, side 257, budget 2,000, one frame | 131,070 splittable triangles | $small_budget s, $small_budget_memory MB | | |
+| the Jacksboro grid, side 257, budget 20,000, one frame | 131,070 splittable triangles | $large_budget s, $large_budget_memory MB | | under 1 s |
+| a rough grid of side 1025, budget 20,000, one frame | 2,097,150 splittable triangles | $rough s, $rough_memory MB | | |
 | $frames frames on a 3x3 grid: time | $frames files of 48 bytes | $many s, $(a_frame "$many") us a frame | | |
 | the same files by a loop of the shell | $frames files of 48 bytes | $loop s, $(a_frame "$loop") us a file | program / loop $(ratio "$many" "$loop") | at most 1 |
 | the same files by one cp | $frames files of 48 bytes | $copy s, $(a_frame "$copy") us a file | program / cp $(ratio "$many" "$copy") | at most 1 |
