@@ -1,9 +1,10 @@
 -- Frames: each is determined, is the best mesh, and is certified by what blocks.
-use Rattle.std.proofs.Common.{◌≡◌, ℕ, zero, suc, ◌+◌, ◌<◌, ◌≤◌, ◌↔◌, ◌⊎◌, inl, inr, Bool, List, [], ◌∷◌, length, slice_get, All, AllPairs, Contains, Option, None, Some, IsNone, IfSome, refl, sym, ◌∙◌, ap, ap₂, subst, arith, ⊎_elim}
+use Rattle.std.proofs.Common.{◌≡◌, ℕ, zero, suc, ◌+◌, ◌<◌, ◌≤◌, ◌↔◌, ◌⊎◌, inl, inr, Bool, List, [], ◌∷◌, length, slice_get, get_or, All, AllPairs, Contains, Option, None, Some, IsNone, IfSome, refl, sym, ◌∙◌, ap, ap₂, subst, arith, ⊎_elim}
 use Rattle.std.proofs.lemmas.Bool.{false≢true}
 use Rattle.std.proofs.lemmas.List.{length-map}
 use Rattle.std.proofs.lemmas.List.Elements.{All-contains}
 use Rattle.std.proofs.lemmas.Option.{slice_get_within, get_or_from_slice_get}
+use Rattle.mesh_defs.specs.Triangle.{IsSplittable}
 use Rattle.mesh_defs.specs.ClosedSet.{leaves_of, among}
 use Rattle.mesh_defs.specs.Priority.{worst_of}
 use Rattle.mesh_defs.specs.Ranking.{RanksBefore, IsRanking, IsRankClosure, IsBlockedBy}
@@ -175,3 +176,12 @@ IsFrame-stop n budget priority ranks members worst blocked s r falling low = rec
         let value : m.0.p ≡ priority m.0.tri = value_at m.0 z.chosen m.1 in
         sym m.3 ∙ value ∙ ap priority m.2
         ∙ blocking-worst n budget priority (triangles_of ranks) z.chosen (among members) r.ranked falling z.closure low b.tri b.need m.4
+
+-- each entry of the ranking is splittable
+pub All-splittable : (n : ℕ) (priority : ℕ → ℕ) (ranks : List Rank) → IsRanked n priority ranks → All (λ (r : Rank). IsSplittable n r.tri) ranks
+All-splittable n priority ranks r k d h = ((r.ranked.members (get_or ranks k d).tri).0 (Contains-in (get_or ranks k d).tri (triangles_of ranks) (is_in ranks k d h))).0
+  where
+    is_in : (xs : List Rank) (i : ℕ) (e : Rank) → i < length xs → IsIn (get_or xs i e).tri (triangles_of xs)
+    is_in [] i e b = absurd (omega arith)
+    is_in (x ∷ xs) zero e b = inl refl
+    is_in (x ∷ xs) (suc i) e b = inr (is_in xs i e (omega arith))

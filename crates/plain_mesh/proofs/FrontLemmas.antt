@@ -1,13 +1,18 @@
 -- Fronts of a list of triangles: one entry more, and where a budget stops.
-use Rattle.std.proofs.Common.{◌≡◌, ℕ, zero, suc, ◌+◌, ◌<◌, ◌≤◌, Bool, true, false, ◌||◌, eqb, List, [], ◌∷◌, length, take, get_or, IsTrue, Some, slice_get, refl, sym, ◌∙◌, ap, subst, arith, ⊎_elim}
+use Rattle.std.proofs.Common.{◌≡◌, ℕ, zero, suc, ◌+◌, ◌<◌, ◌≤◌, Bool, true, false, ◌||◌, eqb, List, [], ◌∷◌, length, take, get_or, IsTrue, Some, None, slice_get, refl, sym, ◌∙◌, ap, subst, arith, ⊎_elim}
 use Rattle.std.proofs.lemmas.Bool.{or_cases, or_left, or_right, false≢true}
-use Rattle.std.proofs.lemmas.Option.{slice_get-get_or}
+use Rattle.std.proofs.lemmas.List.{length-map}
+use Rattle.std.proofs.lemmas.Option.{slice_get-get_or, slice_get_read, same_Some, none-some}
 use Rattle.mesh_defs.specs.ClosedSet.{IsSubset, IsLeastClosed, leaves_of, among}
 use Rattle.mesh_defs.specs.Ranking.{IsFrontClosure, IsRankClosure, IsBlockedBy}
 use Rattle.mesh_defs.specs.Greedy.{with_triangle}
 use Rattle.diamond_rel.proofs.ForcingLemmas.{with-cases, with-old, with-new}
 use Rattle.diamond_rel.proofs.ClosureLemmas.{IsSubset-closures, leaves_of-more}
-use Rattle.plain_mesh.specs.Stop.{IsOver}
+use Rattle.bintree_addr.specs.declared.blocked.Blocked.{Blocked}
+use Rattle.bintree_addr.specs.declared.rank.Rank.{Rank}
+use Rattle.diamond_rel.specs.GridSet.{IsForced}
+use Rattle.plain_mesh.specs.Ranks.{triangles_of}
+use Rattle.plain_mesh.specs.Stop.{IsOver, IsStop}
 
 -- members of fronts
 
@@ -73,18 +78,8 @@ closure-more n xs i t has next within e p q = record {
 
 -- where a budget stops
 
--- the whole list fits
-pub IsRankClosure-whole : (n budget : ℕ) (xs : List ℕ) (i : ℕ) (has : ℕ → Bool) → i ≡ length xs → IsFrontClosure n xs i has →
-    length (leaves_of n has) ≤ budget → IsRankClosure n budget xs i has
-IsRankClosure-whole n budget xs i has e p fits = record {
-  front = omega arith;
-  closure = p;
-  fits = fits;
-  longest = λ k other more within. absurd (omega arith);
-}
-
--- the next entry does not
-pub IsRankClosure-over : (n budget : ℕ) (xs : List ℕ) (i t need : ℕ) (before : List ℕ) → i < length xs → t ≡ get_or xs i 0 →
+-- the next entry does not fit
+IsRankClosure-over : (n budget : ℕ) (xs : List ℕ) (i t need : ℕ) (before : List ℕ) → i < length xs → t ≡ get_or xs i 0 →
     IsFrontClosure n xs i (among before) → length (leaves_of n (among before)) ≤ budget → IsOver n budget before t need →
     IsRankClosure n budget xs i (among before)
 IsRankClosure-over n budget xs i t need before within e p fits o = record {
@@ -100,9 +95,60 @@ IsRankClosure-over n budget xs i t need before within e p fits o = record {
 }
 
 -- so it blocks
-pub IsBlockedBy-over : (n budget : ℕ) (xs : List ℕ) (i t need : ℕ) (before : List ℕ) → i < length xs → t ≡ get_or xs i 0 →
+IsBlockedBy-over : (n budget : ℕ) (xs : List ℕ) (i t need : ℕ) (before : List ℕ) → i < length xs → t ≡ get_or xs i 0 →
     IsFrontClosure n xs i (among before) → IsOver n budget before t need → IsBlockedBy n xs i t need
 IsBlockedBy-over n budget xs i t need before within e p o = record {
   next = slice_get-get_or xs i 0 within ∙ ap (λ z. Some z) (sym e);
   counted = (among o.after, closure-more n xs i t (among before) (among o.after) within e p o.forced.least, o.counted);
 }
+
+-- along a list of ranks
+
+-- the triangle at a place
+tri-at : (ranks : List Rank) (i : ℕ) (d : Rank) → i < length ranks → (get_or ranks i d).tri ≡ get_or (triangles_of ranks) i 0
+tri-at [] i d h = absurd (omega arith)
+tri-at (x ∷ ranks) zero d h = refl
+tri-at (x ∷ ranks) (suc i) d h = tri-at ranks i d (omega arith)
+
+-- of what is read there
+tri-read : (ranks : List Rank) (i : ℕ) (r : Rank) → i < length ranks → r ≡ get_or ranks i r → r.tri ≡ get_or (triangles_of ranks) i 0
+tri-read ranks i r h e = ap (λ (z : Rank). z.tri) e ∙ tri-at ranks i r h
+
+-- so many triangles as ranks
+length-triangles : (ranks : List Rank) → length (triangles_of ranks) ≡ length ranks
+length-triangles ranks = length-map ranks (λ (z : Rank). z.tri)
+
+-- a forced split takes the closure to that of one entry more
+pub closure-forced : (n m : ℕ) (ranks : List Rank) (i : ℕ) (r : Rank) (before after : List ℕ) → m ≡ n → i < length ranks → r ≡ get_or ranks i r →
+    IsFrontClosure n (triangles_of ranks) i (among before) → IsForced m before r.tri after → IsFrontClosure n (triangles_of ranks) (i + 1) (among after)
+closure-forced n m ranks i r before after grid h e p f =
+    let length_same = length-triangles ranks in
+    closure-more n (triangles_of ranks) i r.tri (among before) (among after) (omega arith) (tri-read ranks i r h e) p
+    (subst (λ k. IsLeastClosed k (with_triangle (among before) r.tri) (among after)) grid f.least)
+
+-- what blocks with this need
+abbrev blocking : Rank → ℕ → Blocked
+blocking r need = record { tri = r.tri; need = need }
+
+-- an entry that does not fit is where it stops
+pub IsStop-over : (n m budget : ℕ) (ranks : List Rank) (i : ℕ) (r : Rank) (need : ℕ) (before : List ℕ) → m ≡ n → i < length ranks → r ≡ get_or ranks i r →
+    IsFrontClosure n (triangles_of ranks) i (among before) → length (leaves_of n (among before)) ≤ budget → IsOver m budget before r.tri need →
+    IsStop n budget ranks before r.p (Some record { tri = r.tri; need = need })
+IsStop-over n m budget ranks i r need before grid h e p fits o = record {
+  chosen = i;
+  closure = IsRankClosure-over n budget (triangles_of ranks) i r.tri need before within place p fits over;
+  whole = λ none. absurd (none-some (blocking r need) (sym none));
+  next = λ b some. subst
+      (λ (z : Blocked). (x : Rank) × (slice_get ranks i ≡ Some x) × (x.tri ≡ z.tri) × (x.p ≡ r.p) × IsBlockedBy n (triangles_of ranks) i z.tri z.need)
+      (same_Some (blocking r need) b some)
+      (r, slice_get_read ranks (length ranks) i r refl h e, refl, refl, IsBlockedBy-over n budget (triangles_of ranks) i r.tri need before within place p over);
+}
+  where
+    within : i < length (triangles_of ranks)
+    within = let length_same = length-triangles ranks in omega arith
+
+    place : r.tri ≡ get_or (triangles_of ranks) i 0
+    place = tri-read ranks i r h e
+
+    over : IsOver n budget before r.tri need
+    over = subst (λ k. IsOver k budget before r.tri need) grid o

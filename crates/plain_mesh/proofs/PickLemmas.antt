@@ -110,19 +110,15 @@ Compares = (r s : Rank) → MatchOrdering (rank_cmp r s) (ComesFirst r s) (r ≡
 -- sorted, with no triangle twice: each ranks before all that follow
 ordered-sorted : (priority : ℕ → ℕ) (xs : List Rank) → Compares → IsSorted rank_cmp xs → HavePriorities priority xs →
     ((a : ℕ) → count_of a (triangles_of xs) ≤ 1) → AllPairs (RanksBefore priority) (triangles_of xs)
-ordered-sorted priority [] cases up valued once i j d h k = absurd (omega arith)
-ordered-sorted priority (x ∷ []) cases up valued once i j d h k = absurd (omega arith)
+ordered-sorted priority [] cases up valued once = λ i j d h k. absurd (omega arith)
+ordered-sorted priority (x ∷ []) cases up valued once = λ i j d h k. absurd (omega arith)
 ordered-sorted priority (x ∷ (y ∷ zs)) cases up valued once =
-    AllPairs-cons (RanksBefore priority) x.tri (triangles_of (y ∷ zs)) follow rest
+    AllPairs-cons (RanksBefore priority) x.tri (triangles_of (y ∷ zs))
+    (follow (ordered-sorted priority (y ∷ zs) cases tail_up tail_valued tail_once))
+    (ordered-sorted priority (y ∷ zs) cases tail_up tail_valued tail_once)
   where
-    value_x : x.p ≡ priority x.tri
-    value_x = All-head (λ (r : Rank). r.p ≡ priority r.tri) x (y ∷ zs) valued
-
     tail_valued : HavePriorities priority (y ∷ zs)
     tail_valued = All-tail (λ (r : Rank). r.p ≡ priority r.tri) x (y ∷ zs) valued
-
-    value_y : y.p ≡ priority y.tri
-    value_y = All-head (λ (r : Rank). r.p ≡ priority r.tri) y zs tail_valued
 
     tail_up : IsSorted rank_cmp (y ∷ zs)
     tail_up k d low h =
@@ -144,15 +140,14 @@ ordered-sorted priority (x ∷ (y ∷ zs)) cases up valued once =
     first : RanksBefore priority x.tri y.tri
     first = ⊎_elim
         (λ (same : y ≡ x). absurd (differ (ap (λ (r : Rank). r.tri) (sym same))))
-        (λ (before : ComesFirst x y). before-ranks priority x y value_x value_y before)
+        (λ (before : ComesFirst x y). before-ranks priority x y
+        (All-head (λ (r : Rank). r.p ≡ priority r.tri) x (y ∷ zs) valued)
+        (All-head (λ (r : Rank). r.p ≡ priority r.tri) y zs tail_valued) before)
         (not_less (rank_cmp y x) (ComesFirst y x) (y ≡ x) (ComesFirst x y) (cases y x) (up 0 x (omega arith) (omega arith)))
 
-    rest : AllPairs (RanksBefore priority) (triangles_of (y ∷ zs))
-    rest = ordered-sorted priority (y ∷ zs) cases tail_up tail_valued tail_once
-
-    follow : All (RanksBefore priority x.tri) (triangles_of (y ∷ zs))
-    follow zero d h = first
-    follow (suc k) d h =
+    follow : AllPairs (RanksBefore priority) (triangles_of (y ∷ zs)) → All (RanksBefore priority x.tri) (triangles_of (y ∷ zs))
+    follow rest zero d h = first
+    follow rest (suc k) d h =
         before-trans priority x.tri y.tri (get_or (triangles_of zs) k d) first (rest zero (suc k) d (omega arith) (omega arith))
 
 -- the ranking

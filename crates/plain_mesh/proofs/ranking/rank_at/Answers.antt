@@ -6,5 +6,6 @@ use Rattle.plain_mesh.proofs.ranking.rank_at.Goals as goal
 pub unwrap-requires : goal.unwrap-requires
 unwrap-requires c =
     let n_high = c.grid-valid.ensures.valid.n_high in
-    let deepest : 2 ^ (2 * c.args.w.now.n + 1) ≤ 2 ^ 23 = pow_mono (omega arith) in
+    let few : 2 * c.args.w.now.n + 1 ≤ 23 = omega arith in
+    let deepest : 2 ^ (2 * c.args.w.now.n + 1) ≤ 2 ^ 23 = pow_mono few in
     c.new.ensures.valid.1 (c.requires.low, omega arith)
