@@ -1,9 +1,11 @@
 -- Picking what has a positive priority, and sorting it.
-use Rattle.std.proofs.Common.{◌≡◌, ℕ, zero, suc, ◌+◌, ◌*◌, ◌^◌, ◌<◌, ◌≤◌, ◌⊎◌, inl, inr, ◌↔◌, Bool, true, false, cond, eqb, List, [], ◌∷◌, ◌++◌, length, map, get_or, All, AllPairs, Contains, refl, sym, ◌∙◌, ap, subst, arith, ⊎_elim, count_by, eq-eqb}
+use Rattle.std.proofs.Common.{◌≡◌, ℕ, zero, suc, ◌+◌, ◌-◌, ◌*◌, ◌^◌, ◌<◌, ◌≤◌, ◌⊎◌, inl, inr, ◌↔◌, Bool, true, false, cond, eqb, ltb, ltb-true, lt-ltb, List, [], ◌∷◌, ◌++◌, length, map, get_or, All, AllPairs, Contains, refl, sym, ◌∙◌, ap, subst, arith, ⊎_elim, count_by, eq-eqb}
 use Rattle.std.proofs.lemmas.Bool.{cases_lt, cases_Bool, eqb-true, false≢true}
 use Rattle.std.proofs.lemmas.List.Elements.{All-nil, All-head, All-tail, All-push}
 use Rattle.std.proofs.lemmas.List.Kept.{AllPairs-cons}
 use Rattle.std.proofs.lemmas.List.Sorted.{All-permutation, IsPermutation-map, sum_by-IsPermutation}
+use Rattle.std.proofs.lemmas.List.FromFn.{sum_by-map-range_with_len_more}
+use Rattle.std.specs.List.{range_with_len}
 use Rattle.std.specs.List.Sorted.{IsPermutation, IsSorted}
 use Rattle.std.specs.Ordering.{MatchOrdering, is_lt}
 use Rattle.std.specs.declared.cmp.Ordering.{Ordering}
@@ -14,7 +16,7 @@ use Rattle.bintree_addr.specs.declared.rank.Rank.{Rank}
 use Rattle.bintree_addr.specs.RankOrder.{rank_cmp, ComesFirst}
 use Rattle.tiling_laws.proofs.TurnLemmas.{one_if}
 use Rattle.tiling_laws.proofs.ListLemmas.{IsIn, IsIn-contains, Contains-in, some-count, count-some, count-cons}
-use Rattle.plain_mesh.specs.Ranks.{triangles_of, HavePriorities, IsPicked, IsRanked}
+use Rattle.plain_mesh.specs.Ranks.{triangles_of, HavePriorities, positives_below, IsPicked, IsRanked}
 
 -- how often a stands in a list
 abbrev count_of : ℕ → List ℕ → ℕ
@@ -82,6 +84,31 @@ IsPicked-skip priority b ranks p none = record {
       (cases_lt a b);
   only = λ a counted. let old = p.only a counted in (old.0, (let o = old.1 in omega arith), old.2);
 }
+
+-- counting
+
+-- the next address counts, if it has a positive priority
+pub positives-more : (priority : ℕ → ℕ) (b : ℕ) → 2 ≤ b → positives_below priority (b + 1) ≡ positives_below priority b + one_if (ltb 0 (priority b))
+positives-more priority b low =
+    let more : b + 1 - 2 ≡ (b - 2) + 1 = omega arith in
+    ap (λ k. count_by (λ p. ltb 0 p) (map priority (range_with_len 2 k))) more
+    ∙ sum_by-map-range_with_len_more (λ p. one_if (ltb 0 p)) priority 2 (b - 2) b (omega arith)
+
+pub positives-yes : (priority : ℕ → ℕ) (b count : ℕ) → 2 ≤ b → count ≡ positives_below priority b → 0 < priority b → count + 1 ≡ positives_below priority (b + 1)
+positives-yes priority b count low e some =
+    let one : one_if (ltb 0 (priority b)) ≡ 1 = ap one_if (lt-ltb 0 (priority b) some) in
+    let more = positives-more priority b low in omega arith
+
+pub positives-no : (priority : ℕ → ℕ) (b count : ℕ) → 2 ≤ b → count ≡ positives_below priority b → priority b ≤ 0 → count ≡ positives_below priority (b + 1)
+positives-no priority b count low e none =
+    let zero_is : one_if (ltb 0 (priority b)) ≡ 0 = ap one_if (not_lt 0 (priority b) none) in
+    let more = positives-more priority b low in omega arith
+  where
+    not_lt : (x y : ℕ) → y ≤ x → ltb x y ≡ false
+    not_lt x y h = ⊎_elim
+        (λ is. let less = ltb-true x y is in absurd (omega arith))
+        (λ other. other)
+        (cases_Bool (ltb x y))
 
 -- order
 

@@ -4,7 +4,7 @@ ghost use Rattle.std.specs.Prelude.{◌≡◌, ◌<◌, ◌≤◌, ◌+◌, ◌*
 ghost use Rattle.mesh_defs.specs.Priority.{priority_of};
 ghost use Rattle.mesh_defs.specs.Ranking.{IsRanking};
 ghost use Rattle.view_priority.specs.Camera.{view_from};
-ghost use Rattle.plain_mesh.specs.Ranks.{IsPicked, IsRanked};
+ghost use Rattle.plain_mesh.specs.Ranks.{IsPicked, IsRanked, positives_below};
 
 use bintree_addr::{Rank, Tri, level_laws, rank_laws};
 use cull_marks::Planes;
@@ -37,7 +37,8 @@ pub fn ranking_of(
 
 /// The splittable triangles of positive priority, in order of address.
 ///
-/// Cost (not proved): an evaluation of each splittable triangle.
+/// Cost (not proved): two evaluations of each splittable triangle, and 16 bytes for each that is picked,
+/// which are taken at once.
 fn picked(
     alloc: Global,
     w: &Wedges,
@@ -51,8 +52,9 @@ fn picked(
         (priority_of w.now.n w.now.heights (view_from camera.now spacing planes.now))
         (2 ^ (2 * w.now.n + 1)) v.items) }
 {
+    let room = count_positive(w, camera, spacing, planes);
     let mut meter = Meter::new();
-    let mut ranks = Vec::new(alloc);
+    let mut ranks = Vec::with_capacity(alloc, room as usize)?;
     for number in 2..end(w) {
         let entry = rank_at(w, camera, spacing, planes, number, &mut meter);
         if entry.p > 0 {
@@ -62,9 +64,28 @@ fn picked(
     Ok(ranks)
 }
 
+/// How many splittable triangles have a positive priority.
+fn count_positive(w: &Wedges, camera: &Camera, spacing: u32, planes: &Planes) -> u32
+    requires spacing_low { 1 ≤ spacing }
+    requires spacing_high { spacing ≤ 1024 }
+    ensures { result ≡ positives_below
+        (priority_of w.now.n w.now.heights (view_from camera.now spacing planes.now))
+        (2 ^ (2 * w.now.n + 1)) }
+{
+    let mut meter = Meter::new();
+    let mut count = 0;
+    for number in 2..end(w) {
+        if rank_at(w, camera, spacing, planes, number, &mut meter).p > 0 {
+            count += 1;
+        }
+    }
+    count
+}
+
 /// The first address past the splittable ones.
 fn end(w: &Wedges) -> u32
-    ensures { result ≡ 2 ^ (2 * w.now.n + 1) }
+    ensures value { result ≡ 2 ^ (2 * w.now.n + 1) }
+    ensures low { 2 ≤ result }
 {
     1 << (2 * w.grid().n() + 1)
 }

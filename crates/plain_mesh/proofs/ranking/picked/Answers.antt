@@ -1,6 +1,5 @@
 -- Each address is taken where its priority is positive, up to the last splittable one.
 use Rattle.std.proofs.Common.{◌≡◌, ℕ, ◌+◌, ◌*◌, ◌^◌, ◌≤◌, List, ap, subst, sym, ◌∙◌, arith}
-use Rattle.std.proofs.Math.Pow.{pow_mono}
 use Rattle.mesh_defs.specs.Priority.{priority_of}
 use Rattle.bintree_addr.specs.declared.rank.Rank.{Rank}
 use Rattle.view_priority.specs.Camera.{view_from}
@@ -26,8 +25,8 @@ loop-number-preserved c =
 
 pub returns : goal.returns
 returns c =
-    let some : 1 ≤ 2 * c.args.w.now.n + 1 = omega arith in
-    let low : 2 ^ 1 ≤ 2 ^ (2 * c.args.w.now.n + 1) = pow_mono some in
-    let last : c.loop-number.number ≡ 2 ^ (2 * c.args.w.now.n + 1) =
-    (let most = c.loop-number.auto.number-end in let least = c.loop-number-test.false in let bound = c.end-number-end.ensures in omega arith) in
+    let bound = c.end-number-end.ensures in
+    let most = c.loop-number.auto.number-end bound.low in
+    let least = c.loop-number-test.false in
+    let last : c.loop-number.number ≡ 2 ^ (2 * c.args.w.now.n + 1) = (let value = bound.value in omega arith) in
     subst (λ k. IsPicked (priority_of c.args.w.now.n c.args.w.now.heights (view_from c.args.camera.now c.args.spacing c.args.planes.now)) k c.loop-number.ranks.items) last c.loop-number.invariant
