@@ -1,0 +1,4 @@
+mod FrontLemmas
+mod PickLemmas
+mod ChoiceLemmas
+mod FrameLemmas

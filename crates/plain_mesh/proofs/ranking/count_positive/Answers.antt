@@ -1,0 +1,36 @@
+-- Each address counts where its priority is positive, up to the last splittable one.
+use Rattle.std.proofs.Common.{◌≡◌, ℕ, ◌+◌, ◌*◌, ◌^◌, ◌<◌, ◌≤◌, subst, sym, ◌∙◌, arith}
+use Rattle.mesh_defs.specs.Priority.{priority_of}
+use Rattle.view_priority.specs.Camera.{view_from}
+use Rattle.plain_mesh.specs.Ranks.{positives_below}
+use Rattle.plain_mesh.proofs.PickLemmas.{positives-yes, positives-no}
+use Rattle.plain_mesh.proofs.ranking.count_positive.Goals.{then-rank_at-gt0, else-rank_at-gt0}
+use Rattle.plain_mesh.proofs.ranking.count_positive.Goals as goal
+
+pub loop-number-preserved : goal.loop-number-preserved
+loop-number-preserved c =
+    let p = priority_of c.args.w.now.n c.args.w.now.heights (view_from c.args.camera.now c.args.spacing c.args.planes.now) in
+    let value = c.rank_at.ensures.value in
+    elim c.if-rank_at-gt0.branch [
+      | then-rank_at-gt0 w ↦
+          let is = w.count-is in let some = w.if-rank_at-gt0.true in let few = c.loop-number.invariant.few in
+          record {
+            counted = is ∙ positives-yes p c.loop-number.number c.loop-number.count c.loop-number.auto.number c.loop-number.invariant.counted (omega arith);
+            few = omega arith;
+          }
+      | else-rank_at-gt0 w ↦
+          let is = w.count-is in let none = w.if-rank_at-gt0.false in let few = c.loop-number.invariant.few in
+          record {
+            counted = is ∙ positives-no p c.loop-number.number c.loop-number.count c.loop-number.auto.number c.loop-number.invariant.counted (omega arith);
+            few = omega arith;
+          }
+    ]
+
+pub returns : goal.returns
+returns c =
+    let p = priority_of c.args.w.now.n c.args.w.now.heights (view_from c.args.camera.now c.args.spacing c.args.planes.now) in
+    let bound = c.end-number-end.ensures in
+    let most = c.loop-number.auto.number-end bound.low in
+    let least = c.loop-number-test.false in
+    let last : c.loop-number.number ≡ 2 ^ (2 * c.args.w.now.n + 1) = (let value = bound.value in omega arith) in
+    subst (λ k. c.loop-number.count ≡ positives_below p k) last c.loop-number.invariant.counted

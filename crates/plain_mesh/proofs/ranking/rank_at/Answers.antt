@@ -1,0 +1,11 @@
+-- Each address of the grid is one of the deepest grid.
+use Rattle.std.proofs.Common.{◌+◌, ◌*◌, ◌^◌, ◌<◌, ◌≤◌, arith}
+use Rattle.std.proofs.Math.Pow.{pow_mono}
+use Rattle.plain_mesh.proofs.ranking.rank_at.Goals as goal
+
+pub unwrap-requires : goal.unwrap-requires
+unwrap-requires c =
+    let n_high = c.grid-valid.ensures.valid.n_high in
+    let few : 2 * c.args.w.now.n + 1 ≤ 23 = omega arith in
+    let deepest : 2 ^ (2 * c.args.w.now.n + 1) ≤ 2 ^ 23 = pow_mono few in
+    c.new.ensures.valid.1 (c.requires.low, omega arith)
