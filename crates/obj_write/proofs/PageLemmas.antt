@@ -37,6 +37,12 @@ broken-longer before now text more cut = record {
       );
 }
 
+-- a front of the whole text was cut short
+pub broken-front : (before now : Option (List Mesh)) (page text rest whole : List ℕ)
+    → Broken before now (page ++ text) → text ++ rest ≡ whole → Broken before now (page ++ whole)
+broken-front before now page text rest whole cut is =
+    rw (← is) (rw (← append_assoc page text rest) (broken-longer before now (page ++ text) rest cut))
+
 -- a text was written, and then what followed was cut short
 pub broken-then : (before middle now : Option (List Mesh)) (page page' text more : List ℕ)
     → Passed before middle page page' text → Broken middle now (page' ++ more) → Broken before now (page ++ (text ++ more))
