@@ -127,7 +127,6 @@ module _ (n : ℕ) (heights : List ℕ) (spacing : ℕ) (planes : List ViewPlane
     (below : i < length triangles) (there : a ≡ get_or triangles i a)
     (before_is : before ≡ last_mark n heights spacing planes None (take i triangles))
     (mark_is : mark ≡ triangle_mark n heights spacing planes a) where
-
   -- the group line of the triangle at a place
   group-is : group_line planes (last_mark n heights spacing planes None (take i triangles)) (triangle_mark n heights spacing planes a)
       ≡ group_line planes before mark
@@ -162,7 +161,7 @@ module _ (n : ℕ) (heights : List ℕ) (spacing : ℕ) (planes : List ViewPlane
   faces-cut =
       let more : suc i ≡ i + 1 = omega arith in
       let tail : drop i triangles ≡ a ∷ drop (i + 1) triangles =
-          drop-cons triangles i a below ∙ ap₂ (λ (b : ℕ) bs. b ∷ bs) (sym there) (ap (λ k. drop k triangles) more) in
+      drop-cons triangles i a below ∙ ap₂ (λ (b : ℕ) bs. b ∷ bs) (sym there) (ap (λ k. drop k triangles) more) in
       ap (face_lines n heights spacing planes vertices None)
       (sym (take-append-drop i triangles) ∙ ap (λ bs. take i triangles ++ bs) tail)
       ∙ faces-append n heights spacing planes vertices None (take i triangles) (a ∷ drop (i + 1) triangles)

@@ -34,11 +34,11 @@ number-here vs q more none =
     let all : List Point = vs ++ q ∷ more in
     let is = first-found (is_same_point q) vs q more none (same-self q) in
     let found : position (is_same_point q) all ≡ Some (length vs) =
-        ap (λ i. cond (ltb i (length all)) (Some i) None) is
-        ∙ ap (λ b. cond b (Some (length vs)) None) (lt-ltb (length vs) (length all) (length-middle vs q more)) in
+    ap (λ i. cond (ltb i (length all)) (Some i) None) is
+    ∙ ap (λ b. cond b (Some (length vs)) None) (lt-ltb (length vs) (length all) (length-middle vs q more)) in
     let some : list_any (is_same_point q) all ≡ true =
-        list_any-append (is_same_point q) vs (q ∷ more)
-        ∙ ap₂ (λ b c. b || (c || list_any (is_same_point q) more)) none (same-self q) in
+    list_any-append (is_same_point q) vs (q ∷ more)
+    ∙ ap₂ (λ b c. b || (c || list_any (is_same_point q) more)) none (same-self q) in
     ap (λ b. cond b (vertex_number all q) 0) some
     ∙ ap (λ o. unwrap_or o (length all) + 1) found ∙ omega arith
 
@@ -77,7 +77,7 @@ module _ (n : ℕ) (passes : Point → Bool) where
       let rest = none-behind a (b + 1) m (omega arith) in
       by_bool (passes (f b))
       (λ e. ap (λ t. list_any (is_same_point (f a)) (cond t (f b ∷ kept (b + 1) m) (kept (b + 1) m))) e
-          ∙ ap₂ (λ s t. s || t) (apart a (f b) (λ same. let there = place-again n b in omega arith)) rest)
+      ∙ ap₂ (λ s t. s || t) (apart a (f b) (λ same. let there = place-again n b in omega arith)) rest)
       (λ e. ap (λ t. list_any (is_same_point (f a)) (cond t (f b ∷ kept (b + 1) m) (kept (b + 1) m))) e ∙ rest)
 
   -- a point is one of the vertices where it passes
@@ -85,22 +85,22 @@ module _ (n : ℕ) (passes : Point → Bool) where
   any-kept k a zero low high = absurd (omega arith)
   any-kept k a (suc m) low high =
       elim (cases_lt a k) [
-      | inl less ↦
-          let rest = any-kept k (a + 1) m (omega arith) (omega arith) in
-          let other = apart k (f a) (λ same. let there = place-again n a in omega arith) in
-          by_bool (passes (f a))
-          (λ e. ap (λ t. list_any (is_same_point (f k)) (cond t (f a ∷ kept (a + 1) m) (kept (a + 1) m))) e
-              ∙ ap (λ s. s || list_any (is_same_point (f k)) (kept (a + 1) m)) other ∙ rest)
-          (λ e. ap (λ t. list_any (is_same_point (f k)) (cond t (f a ∷ kept (a + 1) m) (kept (a + 1) m))) e ∙ rest)
-      | inr more ↦
-          let here : a ≡ k = omega arith in
-          by_bool (passes (f k))
-          (λ e. ap (λ j. list_any (is_same_point (f k)) (kept j (suc m))) here
-              ∙ ap (λ t. list_any (is_same_point (f k)) (cond t (f k ∷ kept (k + 1) m) (kept (k + 1) m))) e
-              ∙ ap (λ s. s || list_any (is_same_point (f k)) (kept (k + 1) m)) (same-self (f k)) ∙ sym e)
-          (λ e. ap (λ j. list_any (is_same_point (f k)) (kept j (suc m))) here
-              ∙ ap (λ t. list_any (is_same_point (f k)) (cond t (f k ∷ kept (k + 1) m) (kept (k + 1) m))) e
-              ∙ none-behind k (k + 1) m (omega arith) ∙ sym e)
+        | inl less ↦
+            let rest = any-kept k (a + 1) m (omega arith) (omega arith) in
+            let other = apart k (f a) (λ same. let there = place-again n a in omega arith) in
+            by_bool (passes (f a))
+            (λ e. ap (λ t. list_any (is_same_point (f k)) (cond t (f a ∷ kept (a + 1) m) (kept (a + 1) m))) e
+            ∙ ap (λ s. s || list_any (is_same_point (f k)) (kept (a + 1) m)) other ∙ rest)
+            (λ e. ap (λ t. list_any (is_same_point (f k)) (cond t (f a ∷ kept (a + 1) m) (kept (a + 1) m))) e ∙ rest)
+        | inr more ↦
+            let here : a ≡ k = omega arith in
+            by_bool (passes (f k))
+            (λ e. ap (λ j. list_any (is_same_point (f k)) (kept j (suc m))) here
+            ∙ ap (λ t. list_any (is_same_point (f k)) (cond t (f k ∷ kept (k + 1) m) (kept (k + 1) m))) e
+            ∙ ap (λ s. s || list_any (is_same_point (f k)) (kept (k + 1) m)) (same-self (f k)) ∙ sym e)
+            (λ e. ap (λ j. list_any (is_same_point (f k)) (kept j (suc m))) here
+            ∙ ap (λ t. list_any (is_same_point (f k)) (cond t (f k ∷ kept (k + 1) m) (kept (k + 1) m))) e
+            ∙ none-behind k (k + 1) m (omega arith) ∙ sym e)
       ]
 
   All-push : (a : ℕ) (vs : List Point) → AreBefore a vs → AreBefore (a + 1) (vs ++ f a ∷ [])
@@ -120,25 +120,25 @@ module _ (n : ℕ) (passes : Point → Bool) where
       let points : List Point = map f (range_with_len (a + 1) m) in
       by_bool (passes (f a))
       (λ e.
-          let more : List Point = kept (a + 1) m in
-          let joined : (vs ++ f a ∷ []) ++ more ≡ vs ++ f a ∷ more = append_assoc vs (f a ∷ []) more in
-          let long : length (vs ++ f a ∷ []) ≡ suc (length vs) = let e = length_push vs (f a) in omega arith in
-          let rest = numbers-from (vs ++ f a ∷ []) (a + 1) m (All-push a vs low) in
-          ap (λ t. numbered (length vs) (cond t 1 0 ∷ map bit points)) e
-          ∙ ap₂ (λ (i : ℕ) (is : List ℕ). i ∷ is)
-          (sym (number-here vs (f a) more (none-before a vs low)))
-          (ap (λ i. numbered i (map bit points)) (sym long) ∙ rest ∙ ap (λ all. map (number_at all) points) joined)
-          ∙ sym (ap (λ t. map (number_at (vs ++ cond t (f a ∷ more) more)) (f a ∷ points)) e))
+      let more : List Point = kept (a + 1) m in
+      let joined : (vs ++ f a ∷ []) ++ more ≡ vs ++ f a ∷ more = append_assoc vs (f a ∷ []) more in
+      let long : length (vs ++ f a ∷ []) ≡ suc (length vs) = let e = length_push vs (f a) in omega arith in
+      let rest = numbers-from (vs ++ f a ∷ []) (a + 1) m (All-push a vs low) in
+      ap (λ t. numbered (length vs) (cond t 1 0 ∷ map bit points)) e
+      ∙ ap₂ (λ (i : ℕ) (is : List ℕ). i ∷ is)
+      (sym (number-here vs (f a) more (none-before a vs low)))
+      (ap (λ i. numbered i (map bit points)) (sym long) ∙ rest ∙ ap (λ all. map (number_at all) points) joined)
+      ∙ sym (ap (λ t. map (number_at (vs ++ cond t (f a ∷ more) more)) (f a ∷ points)) e))
       (λ e.
-          let more : List Point = kept (a + 1) m in
-          let none : list_any (is_same_point (f a)) (vs ++ more) ≡ false =
-              list_any-append (is_same_point (f a)) vs more
-              ∙ ap₂ (λ s t. s || t) (none-before a vs low) (none-behind a (a + 1) m (omega arith)) in
-          ap (λ t. numbered (length vs) (cond t 1 0 ∷ map bit points)) e
-          ∙ ap₂ (λ (i : ℕ) (is : List ℕ). i ∷ is)
-          (sym (ap (λ t. cond t (vertex_number (vs ++ more) (f a)) 0) none))
-          (numbers-from vs (a + 1) m (All-later a vs low))
-          ∙ sym (ap (λ t. map (number_at (vs ++ cond t (f a ∷ more) more)) (f a ∷ points)) e))
+      let more : List Point = kept (a + 1) m in
+      let none : list_any (is_same_point (f a)) (vs ++ more) ≡ false =
+      list_any-append (is_same_point (f a)) vs more
+      ∙ ap₂ (λ s t. s || t) (none-before a vs low) (none-behind a (a + 1) m (omega arith)) in
+      ap (λ t. numbered (length vs) (cond t 1 0 ∷ map bit points)) e
+      ∙ ap₂ (λ (i : ℕ) (is : List ℕ). i ∷ is)
+      (sym (ap (λ t. cond t (vertex_number (vs ++ more) (f a)) 0) none))
+      (numbers-from vs (a + 1) m (All-later a vs low))
+      ∙ sym (ap (λ t. map (number_at (vs ++ cond t (f a ∷ more) more)) (f a ∷ points)) e))
 
   -- as many as pass
   marked-kept : (a m : ℕ) → marked (map bit (map f (range_with_len a m))) ≡ length (kept a m)
@@ -147,11 +147,11 @@ module _ (n : ℕ) (passes : Point → Bool) where
       let rest = marked-kept (a + 1) m in
       by_bool (passes (f a))
       (λ e. ap (λ t. marked (cond t 1 0 ∷ map bit (map f (range_with_len (a + 1) m)))) e
-          ∙ ap suc rest
-          ∙ sym (ap (λ t. length (cond t (f a ∷ kept (a + 1) m) (kept (a + 1) m))) e))
+      ∙ ap suc rest
+      ∙ sym (ap (λ t. length (cond t (f a ∷ kept (a + 1) m) (kept (a + 1) m))) e))
       (λ e. ap (λ t. marked (cond t 1 0 ∷ map bit (map f (range_with_len (a + 1) m)))) e
-          ∙ rest
-          ∙ sym (ap (λ t. length (cond t (f a ∷ kept (a + 1) m) (kept (a + 1) m))) e))
+      ∙ rest
+      ∙ sym (ap (λ t. length (cond t (f a ∷ kept (a + 1) m) (kept (a + 1) m))) e))
 
 -- the vertices by their places
 pub vertices-placed : (n : ℕ) (triangles : List ℕ) →
@@ -193,7 +193,7 @@ number-at-place n triangles k below =
     let whole = points-placed n in
     let size : ℕ = side_of n * side_of n in
     let long : k < length (points_of n) =
-        rw (ap length whole ∙ length-map-range_with_len (place_point n) 0 size) below in
+    rw (ap length whole ∙ length-map-range_with_len (place_point n) 0 size) below in
     get_or-map (number_at (vertices_of n triangles)) (points_of n) k (point 0 0) 0 long
     ∙ ap (λ ps. number_at (vertices_of n triangles) (get_or ps k (point 0 0))) whole
     ∙ ap (number_at (vertices_of n triangles))
@@ -209,9 +209,9 @@ module _ (n : ℕ) (triangles : List ℕ) (k : ℕ) (below : k < side_of n * sid
       let vertices : List Point = vertices_of n triangles in
       by_bool (is_vertex n triangles (place_point n k))
       (λ e.
-          let some : get_or (numbers_of n triangles) k 0 ≡ vertex_number vertices (place_point n k) =
-              number-at-place n triangles k below ∙ ap (λ b. cond b (vertex_number vertices (place_point n k)) 0) e in
-          absurd (omega arith))
+      let some : get_or (numbers_of n triangles) k 0 ≡ vertex_number vertices (place_point n k) =
+      number-at-place n triangles k below ∙ ap (λ b. cond b (vertex_number vertices (place_point n k)) 0) e in
+      absurd (omega arith))
       (λ e. e)
 
   pub some-vertex : (get_or (numbers_of n triangles) k 0 ≡ 0 → ⊥) → is_vertex n triangles (place_point n k) ≡ true

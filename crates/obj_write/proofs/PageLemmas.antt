@@ -8,8 +8,11 @@ use Rattle.obj_write.specs.Written.{mesh_with, Grows, IsPartOfMesh}
 -- nothing was written
 pub passed-none : (before : Option (List Mesh)) (page : List ℕ) → Passed before before page page []
 passed-none before page = record {
-  meshes = λ all mesh is. ([], append-nil page,
-      is ∙ ap (λ bytes. Some (all ++ record mesh { bytes = bytes } ∷ [])) (sym (append-nil mesh.bytes)));
+  meshes = λ all mesh is. (
+    [],
+    append-nil page,
+    is ∙ ap (λ bytes. Some (all ++ record mesh { bytes = bytes } ∷ [])) (sym (append-nil mesh.bytes)),
+  );
 }
 
 -- one text and then another
@@ -21,7 +24,7 @@ passed-then before middle now page page' page'' text more one two = record {
       let second = two.meshes all (longer mesh first.0) first.2 in (
         first.0 ++ second.0,
         sym (append_assoc page text more) ∙ ap (λ t. t ++ more) first.1 ∙ append_assoc first.0 page' more
-        ∙ ap (λ t. first.0 ++ t) second.1 ∙ sym (append_assoc first.0 second.0 page''),
+            ∙ ap (λ t. first.0 ++ t) second.1 ∙ sym (append_assoc first.0 second.0 page''),
         second.2 ∙ ap (λ bytes. Some (all ++ record mesh { bytes = bytes } ∷ [])) (append_assoc mesh.bytes first.0 second.0),
       );
 }

@@ -46,7 +46,7 @@ row-part : (w a b c : ℕ) → b + c ≤ w →
 row-part w a b zero fits = refl
 row-part w a b (suc c) fits =
     let here : point b a ≡ at_width w (a * w + b) =
-        ap₂ (λ x y. point x y) (sym (mod-mul-add a w b (omega arith))) (sym (div-mul-add a w b (omega arith))) in
+    ap₂ (λ x y. point x y) (sym (mod-mul-add a w b (omega arith))) (sym (div-mul-add a w b (omega arith))) in
     let next : a * w + (b + 1) ≡ a * w + b + 1 = omega arith in
     ap₂ (λ (p : Point) ps. p ∷ ps) here
     (row-part w a (b + 1) c (omega arith) ∙ ap (λ i. map (at_width w) (range_with_len i c)) next)
@@ -109,16 +109,16 @@ module _ (n : ℕ) (p : Point) (within : IsInSquare (2 ^ n) p) (xs : List ℕ) (
   mark-set k b before =
       by_bool (is_same_point (place_point n k) p)
       (λ e.
-          let there : k ≡ grid_place n p = sym (place-again n k) ∙ ap (grid_place n) (same-point (place_point n k) p e) in
-          let low : grid_place n p < length xs = let below = place-below n p within in omega arith in
-          ap (λ i. get_or (set xs (grid_place n p) 1) i 0) there
-          ∙ get_or-set_same xs (grid_place n p) 1 0 low
-          ∙ sym (ap bit (ap (λ c. b || c) e ∙ or-true b)))
+      let there : k ≡ grid_place n p = sym (place-again n k) ∙ ap (grid_place n) (same-point (place_point n k) p e) in
+      let low : grid_place n p < length xs = let below = place-below n p within in omega arith in
+      ap (λ i. get_or (set xs (grid_place n p) 1) i 0) there
+      ∙ get_or-set_same xs (grid_place n p) 1 0 low
+      ∙ sym (ap bit (ap (λ c. b || c) e ∙ or-true b)))
       (λ e.
-          get_or-set_other xs (grid_place n p) k 1 0
-          (λ same. false≢true (sym e
-              ∙ ap (λ q. is_same_point q p) (ap (place_point n) same ∙ point-again n p within.x) ∙ same-self p))
-          ∙ before ∙ sym (ap bit (ap (λ c. b || c) e ∙ or-false b)))
+      get_or-set_other xs (grid_place n p) k 1 0
+      (λ same. false≢true (sym e
+      ∙ ap (λ q. is_same_point q p) (ap (place_point n) same ∙ point-again n p within.x) ∙ same-self p))
+      ∙ before ∙ sym (ap bit (ap (λ c. b || c) e ∙ or-false b)))
 
 -- three corners and one list of tests
 join : (v a b c : Bool) → ((v || a) || b) || c ≡ (v || ((a || (b || c)) || false))
@@ -141,7 +141,7 @@ unfolding vertex_marks
 mark-at n triangles k below =
     let whole = points-placed n in
     let long : k < length (points_of n) =
-        rw (ap length whole ∙ length-map-range_with_len (place_point n) 0 (side_of n * side_of n)) below in
+    rw (ap length whole ∙ length-map-range_with_len (place_point n) 0 (side_of n * side_of n)) below in
     get_or-map (λ p. bit (is_vertex n triangles p)) (points_of n) k (point 0 0) 0 long
     ∙ ap (λ ps. bit (is_vertex n triangles (get_or ps k (point 0 0)))) whole
     ∙ ap (λ p. bit (is_vertex n triangles p))
@@ -174,11 +174,11 @@ marks-more n triangles a c is within =
     let long_three = length-set two (grid_place n c.v1) 1 ∙ long_two in
     marks-from n (triangles ++ a ∷ []) (set two (grid_place n c.v1) 1) long_three
     (λ k below.
-        let p : Point = place_point n k in
-        mark-set n c.v1 (record { x = within.v1_x; y = within.v1_y }) two long_two k _
-        (mark-set n c.v0 (record { x = within.v0_x; y = within.v0_y }) one long_one k _
-        (mark-set n c.apex (record { x = within.apex_x; y = within.apex_y }) marks long k
-        (is_vertex n triangles p) (mark-at n triangles k below)))
-        ∙ ap bit (join (is_vertex n triangles p) (is_same_point p c.apex) (is_same_point p c.v0) (is_same_point p c.v1)
-        ∙ ap (λ d. is_vertex n triangles p || (has_corner d p || false)) is
-        ∙ sym (list_any-append (λ b. has_corner (corners_of n b) p) triangles (a ∷ []))))
+    let p : Point = place_point n k in
+    mark-set n c.v1 (record { x = within.v1_x; y = within.v1_y }) two long_two k _
+    (mark-set n c.v0 (record { x = within.v0_x; y = within.v0_y }) one long_one k _
+    (mark-set n c.apex (record { x = within.apex_x; y = within.apex_y }) marks long k
+    (is_vertex n triangles p) (mark-at n triangles k below)))
+    ∙ ap bit (join (is_vertex n triangles p) (is_same_point p c.apex) (is_same_point p c.v0) (is_same_point p c.v1)
+    ∙ ap (λ d. is_vertex n triangles p || (has_corner d p || false)) is
+    ∙ sym (list_any-append (λ b. has_corner (corners_of n b) p) triangles (a ∷ []))))

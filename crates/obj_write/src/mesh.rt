@@ -23,6 +23,7 @@ use roam_edge::{Failed, MeshSink};
 use wedgie_tree::Wedges;
 
 /// A mesh as it is to be written.
+#[derive(Clone, Copy)]
 pub struct MeshView<'a> {
     /// The grid of heights, with the boxes that marks are decided by.
     pub wedges: &'a Wedges,

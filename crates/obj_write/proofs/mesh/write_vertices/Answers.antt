@@ -16,7 +16,7 @@ point_at-requires-clause-below g c =
     let same = c.n-n.ensures.value ∙ ap (λ (h : HeightField). h.n) c.grid.ensures.value in
     let size = ap (λ n. side_of n * side_of n) same in
     let below = number-below c.args.view.now.wedges.now.n c.args.view.now.leaves.now c.args.view.now.numbers.now c.loop-at.at
-        c.requires.view.vertex_numbers c.loop-at-test.true in
+    c.requires.view.vertex_numbers c.loop-at-test.true in
     omega arith
 
 pub returns-in_err-write_vertex-clause-err : goal.returns-in_err-write_vertex-clause-err
@@ -24,7 +24,7 @@ returns-in_err-write_vertex-clause-err g c =
     let p = err_from_is_err_and c.from_residual.result c.from_residual.ensures.1 in
     let view = c.args.view.now in
     let below = number-below view.wedges.now.n view.leaves.now view.numbers.now c.loop-at.at
-        c.requires.view.vertex_numbers c.loop-at-test.true in
+    c.requires.view.vertex_numbers c.loop-at-test.true in
     rw p.1 (broken-page _ (g.M.MeshSink.meshes c.loop-at.out) _ _ c.loop-at.page.items _ _ _
     c.loop-at.invariant.passed c.in_err-write_vertex.ensures.err
     (lines-cut view.wedges.now.n view.wedges.now.heights view.spacing view.leaves.now c.loop-at.at
@@ -34,32 +34,32 @@ pub loop-at-preserved : goal.loop-at-preserved
 loop-at-preserved g c =
     let view = c.args.view.now in
     let below = number-below view.wedges.now.n view.leaves.now view.numbers.now c.loop-at.at
-        c.requires.view.vertex_numbers c.loop-at-test.true in
+    c.requires.view.vertex_numbers c.loop-at-test.true in
     let number = ap (λ xs. get_or xs c.loop-at.at 0) c.requires.view.vertex_numbers in
     let same = c.n-n.ensures.value ∙ ap (λ (h : HeightField). h.n) c.grid.ensures.value in
     elim c.if-number-ne0.branch [
-    | then-number-ne0+in_ok-write_vertex w ↦
-        let vertex = w.point_at.ensures.value ∙ ap (λ n. place_point n c.loop-at.at) same in
-        let line = subst (λ p. Passed (g.M.MeshSink.meshes c.loop-at.out) (g.M.MeshSink.meshes w.write_vertex.new.out)
-            c.loop-at.page.items w.write_vertex.new.page.items (vertex_line view.wedges.now.n view.wedges.now.heights view.spacing p))
-            vertex w.in_ok-write_vertex.ensures.ok in
-        let some = some-vertex view.wedges.now.n view.leaves.now c.loop-at.at below
-            (λ none. let there = w.if-number-ne0.true in absurd (there (number ∙ none))) in
-        record {
-          under_way = rw w.out-is w.in_ok-write_vertex.ensures.under_way;
-          calm = rw w.out-is (w.in_ok-write_vertex.ensures.faults.ok ∙ c.loop-at.invariant.calm);
-          passed = rw (w.out-is, w.page-is, lines-step view.wedges.now.n view.wedges.now.heights view.spacing view.leaves.now c.loop-at.at some)
-              (passed-then _ (g.M.MeshSink.meshes c.loop-at.out) _ _ c.loop-at.page.items _ _ _ c.loop-at.invariant.passed line);
-        }
-    | else-number-ne0 w ↦
-        let none = no-vertex view.wedges.now.n view.leaves.now c.loop-at.at below
-            (sym number ∙ w.if-number-ne0.false) in
-        record {
-          under_way = rw w.out-is c.loop-at.invariant.under_way;
-          calm = rw w.out-is c.loop-at.invariant.calm;
-          passed = rw (w.out-is, w.page-is, lines-skip view.wedges.now.n view.wedges.now.heights view.spacing view.leaves.now c.loop-at.at none)
-              c.loop-at.invariant.passed;
-        }
+      | then-number-ne0+in_ok-write_vertex w ↦
+          let vertex = w.point_at.ensures.value ∙ ap (λ n. place_point n c.loop-at.at) same in
+          let line = subst (λ p. Passed (g.M.MeshSink.meshes c.loop-at.out) (g.M.MeshSink.meshes w.write_vertex.new.out)
+          c.loop-at.page.items w.write_vertex.new.page.items (vertex_line view.wedges.now.n view.wedges.now.heights view.spacing p))
+          vertex w.in_ok-write_vertex.ensures.ok in
+          let some = some-vertex view.wedges.now.n view.leaves.now c.loop-at.at below
+          (λ none. let there = w.if-number-ne0.true in absurd (there (number ∙ none))) in
+          record {
+            under_way = rw w.out-is w.in_ok-write_vertex.ensures.under_way;
+            calm = rw w.out-is (w.in_ok-write_vertex.ensures.faults.ok ∙ c.loop-at.invariant.calm);
+            passed = rw (w.out-is, w.page-is, lines-step view.wedges.now.n view.wedges.now.heights view.spacing view.leaves.now c.loop-at.at some)
+                (passed-then _ (g.M.MeshSink.meshes c.loop-at.out) _ _ c.loop-at.page.items _ _ _ c.loop-at.invariant.passed line);
+          }
+      | else-number-ne0 w ↦
+          let none = no-vertex view.wedges.now.n view.leaves.now c.loop-at.at below
+          (sym number ∙ w.if-number-ne0.false) in
+          record {
+            under_way = rw w.out-is c.loop-at.invariant.under_way;
+            calm = rw w.out-is c.loop-at.invariant.calm;
+            passed = rw (w.out-is, w.page-is, lines-skip view.wedges.now.n view.wedges.now.heights view.spacing view.leaves.now c.loop-at.at none)
+                c.loop-at.invariant.passed;
+          }
     ]
 
 pub returns-clause-ok : goal.returns-clause-ok
