@@ -1,0 +1,122 @@
+-- Text that goes through a page: one after another, cut short, and the whole mesh.
+use Rattle.std.proofs.Common.{◌≡◌, ℕ, true, false, List, [], ◌∷◌, ◌++◌, Option, Some, refl, sym, ◌∙◌, ap, inl, inr, append_assoc, append-nil}
+use Rattle.roam_edge.specs.MeshSink.{Mesh, begun, longer, closed}
+use Rattle.roam_edge.specs.Told.{IsFront}
+use Rattle.obj_write.specs.Page.{Passed, Broken}
+use Rattle.obj_write.specs.Written.{mesh_with, Grows, IsPartOfMesh}
+
+-- nothing was written
+pub passed-none : (before : Option (List Mesh)) (page : List ℕ) → Passed before before page page []
+passed-none before page = record {
+  meshes = λ all mesh is. (
+    [],
+    append-nil page,
+    is ∙ ap (λ bytes. Some (all ++ record mesh { bytes = bytes } ∷ [])) (sym (append-nil mesh.bytes)),
+  );
+}
+
+-- one text and then another
+pub passed-then : (before middle now : Option (List Mesh)) (page page' page'' text more : List ℕ)
+    → Passed before middle page page' text → Passed middle now page' page'' more → Passed before now page page'' (text ++ more)
+passed-then before middle now page page' page'' text more one two = record {
+  meshes = λ all mesh is.
+      let first = one.meshes all mesh is in
+      let second = two.meshes all (longer mesh first.0) first.2 in (
+        first.0 ++ second.0,
+        sym (append_assoc page text more) ∙ ap (λ t. t ++ more) first.1 ∙ append_assoc first.0 page' more
+            ∙ ap (λ t. first.0 ++ t) second.1 ∙ sym (append_assoc first.0 second.0 page''),
+        second.2 ∙ ap (λ bytes. Some (all ++ record mesh { bytes = bytes } ∷ [])) (append_assoc mesh.bytes first.0 second.0),
+      );
+}
+
+-- the page was cut short, and more was to come behind it
+pub broken-longer : (before now : Option (List Mesh)) (text more : List ℕ) → Broken before now text → Broken before now (text ++ more)
+broken-longer before now text more cut = record {
+  meshes = λ all mesh is.
+      let front = cut.meshes all mesh is in (
+        front.0,
+        record { back = front.1.back ++ more; joined = ap (λ t. t ++ more) front.1.joined ∙ append_assoc front.0 front.1.back more },
+        front.2,
+      );
+}
+
+-- a front of the whole text was cut short
+pub broken-front : (before now : Option (List Mesh)) (page text rest whole : List ℕ)
+    → Broken before now (page ++ text) → text ++ rest ≡ whole → Broken before now (page ++ whole)
+broken-front before now page text rest whole cut is =
+    rw (← is) (rw (← append_assoc page text rest) (broken-longer before now (page ++ text) rest cut))
+
+-- a text was written, and then what followed was cut short
+pub broken-then : (before middle now : Option (List Mesh)) (page page' text more : List ℕ)
+    → Passed before middle page page' text → Broken middle now (page' ++ more) → Broken before now (page ++ (text ++ more))
+broken-then before middle now page page' text more one cut = record {
+  meshes = λ all mesh is.
+      let first = one.meshes all mesh is in
+      let front = cut.meshes all (longer mesh first.0) first.2 in (
+        first.0 ++ front.0,
+        record {
+          back = front.1.back;
+          joined =
+              sym (append_assoc page text more) ∙ ap (λ t. t ++ more) first.1 ∙ append_assoc first.0 page' more
+              ∙ ap (λ t. first.0 ++ t) front.1.joined ∙ sym (append_assoc first.0 front.0 front.1.back);
+        },
+        front.2 ∙ ap (λ bytes. Some (all ++ record mesh { bytes = bytes } ∷ [])) (append_assoc mesh.bytes first.0 front.0),
+      );
+}
+
+-- a part of the whole text was written, and then the page was cut short
+pub broken-page : (before middle now : Option (List Mesh)) (page page' text rest whole : List ℕ)
+    → Passed before middle page page' text → Broken middle now page' → whole ≡ text ++ rest → Broken before now (page ++ whole)
+broken-page before middle now page page' text rest whole one cut is =
+    rw is (broken-then before middle now page page' text rest one (broken-longer middle now page' rest cut))
+
+-- a part of the whole text was written, and then the next part was cut short
+pub broken-part : (before middle now : Option (List Mesh)) (page page' text more rest whole : List ℕ)
+    → Passed before middle page page' text → Broken middle now (page' ++ more) → whole ≡ text ++ (more ++ rest)
+    → Broken before now (page ++ whole)
+broken-part before middle now page page' text more rest whole one cut is =
+    rw is (broken-then before middle now page page' text (more ++ rest) one
+    (rw (← append_assoc page' more rest) (broken-longer middle now (page' ++ more) rest cut)))
+
+module _ (before started later : Option (List Mesh)) (prefix : List ℕ) (number : ℕ) (text : List ℕ)
+    (begin : (all : List Mesh) → before ≡ Some all → started ≡ Some (all ++ begun prefix number ∷ [])) where
+  -- a mesh was begun, and its text was cut short
+  pub part-cut : Broken started later ([] ++ text) → (all : List Mesh) → before ≡ Some all
+      → (part : List Mesh) × IsPartOfMesh prefix number text part × (later ≡ Some (all ++ part))
+  part-cut cut all is =
+      let front = cut.meshes all (begun prefix number) (begin all is) in
+      (mesh_with prefix number front.0 false ∷ [], inr (front.0, front.1, refl), front.2)
+
+  module _ (written : Option (List Mesh)) (page : List ℕ) (lines : Passed started written [] page text) where
+    -- a mesh was begun and its text passed to the page, and the rest was cut short
+    pub part-rest : ((all : List Mesh) (mesh : Mesh) → written ≡ Some (all ++ mesh ∷ [])
+        → (front : List ℕ) × IsFront front page × (later ≡ Some (all ++ longer mesh front ∷ [])))
+        → (all : List Mesh) → before ≡ Some all
+        → (part : List Mesh) × IsPartOfMesh prefix number text part × (later ≡ Some (all ++ part))
+    part-rest rest = part-cut (broken-page started written later [] page text [] text lines
+        (record { meshes = rest }) (sym (append-nil text)))
+
+    module _ (now : Option (List Mesh))
+        (rest : (all : List Mesh) (mesh : Mesh) → written ≡ Some (all ++ mesh ∷ [])
+        → later ≡ Some (all ++ longer mesh page ∷ [])) where
+      -- the whole text was written
+      written-whole : (all : List Mesh) → before ≡ Some all → later ≡ Some (all ++ mesh_with prefix number text false ∷ [])
+      written-whole all is =
+          let piece = lines.meshes all (begun prefix number) (begin all is) in
+          rest all (longer (begun prefix number) piece.0) piece.2
+          ∙ ap (λ bytes. Some (all ++ mesh_with prefix number bytes false ∷ [])) (sym piece.1)
+
+      -- and finished
+      pub whole-mesh : ((all : List Mesh) (mesh : Mesh) → later ≡ Some (all ++ mesh ∷ [])
+          → now ≡ Some (all ++ closed mesh ∷ []))
+          → Grows before now (mesh_with prefix number text true ∷ [])
+      whole-mesh finish all is = finish all (mesh_with prefix number text false) (written-whole all is)
+
+      -- but not finished
+      pub part-finish : now ≡ later → (all : List Mesh) → before ≡ Some all
+          → (part : List Mesh) × IsPartOfMesh prefix number text part × (now ≡ Some (all ++ part))
+      part-finish same all is = (
+        mesh_with prefix number text false ∷ [],
+        inr (text, record { back = []; joined = sym (append-nil text) }, refl),
+        same ∙ written-whole all is,
+      )

@@ -1,0 +1,5 @@
+pub mod MeshView
+pub mod Numbers
+pub mod Page
+pub mod VertexMarks
+pub mod Written

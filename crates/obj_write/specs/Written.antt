@@ -1,0 +1,18 @@
+-- What a sink of meshes gets of one mesh: all of it, or a part. This project's own words.
+use Rattle.std.specs.Prelude.{◌≡◌, ℕ, ◌⊎◌, Bool, false, List, [], ◌∷◌, ◌++◌, Option, Some}
+use Rattle.roam_edge.specs.MeshSink.{Mesh}
+use Rattle.roam_edge.specs.Told.{IsFront}
+
+-- the mesh of a sink with these bytes
+abbrev pub mesh_with : List ℕ → ℕ → List ℕ → Bool → Mesh
+mesh_with name count text is_finished =
+    record { prefix = name; number = count; bytes = text; finished = is_finished }
+
+-- where it is told, this came behind what was there
+abbrev pub Grows : {A : Type 0} → Option (List A) → Option (List A) → List A → Type 0
+Grows {A} before now more = (all : List A) → before ≡ Some all → now ≡ Some (all ++ more)
+
+-- nothing of the mesh, or an unfinished mesh with a front of its bytes
+abbrev pub IsPartOfMesh : List ℕ → ℕ → List ℕ → List Mesh → Type 0
+IsPartOfMesh prefix number bytes part =
+    (part ≡ []) ⊎ ((front : List ℕ) × IsFront front bytes × (part ≡ mesh_with prefix number front false ∷ []))

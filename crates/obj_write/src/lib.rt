@@ -1,0 +1,18 @@
+//! The mesh of a list of triangles as the text of a Wavefront OBJ file.
+//!
+//! `number_vertices` gives each corner its number, by y and then by x. `write_mesh` takes these numbers,
+//! writes a `v` line for each vertex and an `f` line for each triangle, with `g` lines where view planes
+//! are in force and the mark changes, and hands them to a mesh sink in large pieces.
+//! The text is the one that `mesh_text` defines. No call takes memory.
+//! What the triangles are is not looked at: any list gives a text.
+
+#![tactic(auto)]
+
+mod mesh;
+mod page;
+#[cfg(test)]
+mod tests;
+mod vertices;
+
+pub use mesh::{MeshView, write_mesh};
+pub use vertices::number_vertices;
