@@ -1,12 +1,12 @@
 -- Acts that stand, one after another, and acts that were cut short.
-use Rattle.std.proofs.Common.{◌≡◌, ℕ, true, false, List, [], ◌∷◌, ◌++◌, Option, Some, refl, sym, ◌∙◌, ap, subst, append_assoc, append-nil}
+use Rattle.std.proofs.Common.{◌≡◌, ℕ, true, List, [], ◌∷◌, ◌++◌, Option, Some, refl, sym, ◌∙◌, ap, subst, append_assoc, append-nil}
 use Rattle.roam_edge.specs.MeshSink.{Mesh}
 use Rattle.roam_edge.specs.Told.{IsFront}
-use Rattle.obj_write.specs.MeshWriting.{mesh_with, IsPartOfMesh}
+use Rattle.obj_write.specs.Written.{mesh_with, Grows, IsPartOfMesh}
 use Rattle.roam_run.specs.Picture.{Picture}
 use Rattle.roam_run.specs.ReportText.{frame_line}
 use Rattle.roam_run.specs.Script.{frame_acts}
-use Rattle.roam_run.specs.Act.{Act, WholeMesh, ReportLine, Told, Grows, Stands, IsCutShort, StandsInPart, meshes_of, report_of, told}
+use Rattle.roam_run.specs.Act.{Act, WholeMesh, ReportLine, Told, Stands, IsCutShort, StandsInPart, meshes_of, report_of, told}
 
 -- nothing came
 pub grows-nothing : {A : Type 0} (before : Option (List A)) → Grows before before []

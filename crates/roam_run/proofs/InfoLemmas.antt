@@ -1,5 +1,5 @@
 -- The least and the greatest of a list, element by element, and the level of the base triangles.
-use Rattle.std.proofs.Common.{◌≡◌, ℕ, ◌*◌, ◌+◌, ◌<◌, ◌≤◌, min, max, List, [], ◌∷◌, ◌++◌, length, get_or, take, refl, sym, subst, arith}
+use Rattle.std.proofs.Common.{◌≡◌, ℕ, ◌*◌, ◌<◌, ◌≤◌, min, max, List, [], ◌∷◌, ◌++◌, length, get_or, refl, sym, subst, arith}
 use Rattle.mesh_defs.specs.BoundingBox.{least, greatest}
 use Rattle.mesh_defs.specs.Triangle.{level_of}
 

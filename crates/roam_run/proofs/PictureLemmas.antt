@@ -1,5 +1,5 @@
 -- Pictures: what can be written, what is certified, and that there is one alone.
-use Rattle.std.proofs.Common.{◌≡◌, ℕ, ◌+◌, ◌*◌, ◌^◌, ◌<◌, ◌≤◌, ◌↔◌, max, Bool, true, false, if◌then◌else◌, ◌&&◌, nat_le, List, [], ◌∷◌, length, All, Option, Some, None, Result, Ok, Err, refl, sym, ◌∙◌, ap, subst, inl, inr, rules, arith, IfSome, slice_index_or, Contains, codes, bytes_eq}
+use Rattle.std.proofs.Common.{◌≡◌, ℕ, ◌+◌, ◌*◌, ◌^◌, ◌<◌, ◌≤◌, ◌↔◌, Bool, true, false, if◌then◌else◌, ◌&&◌, nat_le, List, [], ◌∷◌, length, All, Option, Some, None, IsNone, Result, Ok, Err, refl, sym, ◌∙◌, ap, subst, inl, inr, arith, IfSome, slice_index_or, Contains, codes, bytes_eq}
 use Rattle.std.specs.List.{AllByRecursion}
 use Rattle.std.proofs.lemmas.List.Elements.{recursion_from_All, All-from_recursion}
 use Rattle.std.proofs.lemmas.Bool.Decides.{leb_tells}
@@ -20,8 +20,8 @@ use Rattle.roam_num.specs.DecText.{number_in}
 use Rattle.roam_run.specs.Words.{MeshCommand, Command, MeshOf, InfoOf, mesh_command, within, number_word, is_prefix, command_of}
 use Rattle.roam_run.specs.Picture.{Picture, IsPicture, start_priority}
 use Rattle.roam_run.specs.Script.{Outcome, script_outcome}
-use Rattle.roam_run.specs.Outcome.{IsGridOutcome, IsCommandOutcome, IsWordsOutcome, IsOutcome}
-use Rattle.roam_run.specs.Promise.{IsCertificate, CertifiesFrames}
+use Rattle.roam_run.specs.Outcome.{IsGridOutcome, IsWordsOutcome, IsOutcome}
+use Rattle.roam_run.specs.Promise.{CertifiesFrames}
 
 -- the triangles of a conforming list have levels of the grid
 pub levels-conforming : ((a k : ℕ) → 2 ≤ a → ((level_of a < k) ↔ (a < 2 ^ (k + 1)))) → (n : ℕ) (leaves : List ℕ)
@@ -96,76 +96,74 @@ zero-worst priority (a ∷ triangles) none =
 module _ (falling : (n : ℕ) (heights : List ℕ) (view : View) → IsFalling n (priority_of n heights view)) where
   -- what a frame's line tells of blocking is a certificate
   pub certificates : ((n budget : ℕ) (priority : ℕ → ℕ) (triangles : List ℕ) (worst : ℕ) (blocked : Option Blocked) →
-      IsFalling n priority → 2 ≤ budget → IsFrame n budget priority triangles worst blocked → (blocked ≡ None) ↔ All (λ a. priority a ≡ 0) triangles)
-      → ((n budget : ℕ) (priority : ℕ → ℕ) (triangles : List ℕ) (worst : ℕ) (blocked : Blocked) →
-      IsFalling n priority → 2 ≤ budget → IsFrame n budget priority triangles worst (Some blocked) →
-      ((budget < blocked.need) × ((priority blocked.tri ≡ worst) × Contains triangles blocked.tri)))
+      IsFrame n budget priority triangles worst blocked → IsFalling n priority → 2 ≤ budget → (IsNone blocked ↔ All (λ a. priority a ≡ 0) triangles))
+      → ((n budget : ℕ) (priority : ℕ → ℕ) (triangles : List ℕ) (worst : ℕ) (blocked : Option Blocked) →
+      IsFrame n budget priority triangles worst blocked → IsFalling n priority → 2 ≤ budget →
+      IfSome blocked (λ b. (budget < b.need) × (priority b.tri ≡ worst) × Contains triangles b.tri))
       → (words : List (List ℕ)) (files : List NamedFile) → CertifiesFrames words files
   certificates unblocked blocking words files command grid picture is_command is_grid is_picture =
       let view : View = start_view command.spacing in
       let fall = falling grid.n grid.heights view in
       let low = command-budget words command is_command in
       let frame = is_picture.frame in
-      let none = unblocked grid.n command.budget (start_priority grid command.spacing) is_picture.leaves picture.worst picture.blocked fall low frame in
+      let none = unblocked grid.n command.budget (start_priority grid command.spacing) is_picture.leaves picture.worst picture.blocked frame fall low in
+      let some = blocking grid.n command.budget (start_priority grid command.spacing) is_picture.leaves picture.worst picture.blocked frame fall low in
       let zeros = λ (e : picture.worst ≡ 0). All-from_recursion (λ a. start_priority grid command.spacing a ≡ 0) is_picture.leaves
       (zero-worst (start_priority grid command.spacing) is_picture.leaves (sym frame.greatest ∙ e)) in
-      let zero = λ (e : picture.blocked ≡ None). frame.greatest ∙ worst-zero (start_priority grid command.spacing) is_picture.leaves
+      let zero = λ (e : IsNone picture.blocked). frame.greatest ∙ worst-zero (start_priority grid command.spacing) is_picture.leaves
       (recursion_from_All (λ a. start_priority grid command.spacing a ≡ 0) is_picture.leaves (none.0 e)) in
-      let some = λ (b : Blocked) (e : picture.blocked ≡ Some b).
-      (let P : Option Blocked → Type 0 = λ o. IsFrame grid.n command.budget (start_priority grid command.spacing) is_picture.leaves picture.worst o in
-      blocking grid.n command.budget (start_priority grid command.spacing) is_picture.leaves picture.worst b fall low (subst P e frame)) in
       record {
         unblocked = (zero, λ e. none.1 (zeros e));
-        worst = if-some picture.blocked (λ b. start_priority grid command.spacing b.tri ≡ picture.worst) (λ b e. (some b e).1.0);
-        need = if-some picture.blocked (λ b. command.budget < b.need) (λ b e. (some b e).0);
+        worst = if-some picture.blocked _ _ (λ b is. is.1) some;
+        need = if-some picture.blocked _ _ (λ b is. is.0) some;
       }
     where
-      if-some : {A : Type 0} (o : Option A) (P : A → Type 0) → ((a : A) → o ≡ Some a → P a) → IfSome o P
-      if-some None P each = tt
-      if-some (Some a) P each = each a refl
+      if-some : {A : Type 0} (o : Option A) (P Q : A → Type 0) → ((a : A) → P a → Q a) → IfSome o P → IfSome o Q
+      if-some None P Q weaker is = tt
+      if-some (Some a) P Q weaker is = weaker a is
 
-  module _ (unique : (n budget : ℕ) (priority : ℕ → ℕ) (triangles others : List ℕ) (worst other : ℕ) (blocked blocks : Option Blocked) →
-      IsFalling n priority → 2 ≤ budget → IsFrame n budget priority triangles worst blocked → IsFrame n budget priority others other blocks →
-      ((triangles ≡ others) × ((worst ≡ other) × (blocked ≡ blocks)))) where
-    -- a grid, a budget and a spacing have one picture
-    one-picture : (grid : HeightField) (budget spacing : ℕ) (picture other : Picture) → 2 ≤ budget
-        → IsPicture grid budget spacing picture → IsPicture grid budget spacing other → picture ≡ other
-    one-picture grid budget spacing picture other low one two =
-        let same = unique grid.n budget (start_priority grid spacing) one.leaves two.leaves picture.worst other.worst picture.blocked other.blocked
-        (falling grid.n grid.heights (start_view spacing)) low one.frame two.frame in
-        let text = one.text ∙ ap (λ l. mesh_text grid.n grid.heights spacing [] l) same.0 ∙ sym two.text in
-        let triangles = one.triangles ∙ ap length same.0 ∙ sym two.triangles in
-        let vertices = one.vertices ∙ ap (λ l. length (vertices_of grid.n l)) same.0 ∙ sym two.vertices in
-        same-picture picture other text triangles vertices same.1.0 same.1.1
-      where
-        picture_with : List ℕ → ℕ → ℕ → ℕ → Option Blocked → Picture
-        picture_with t i j k o = record { text = t; triangles = i; vertices = j; worst = k; blocked = o }
+module _ (unique : (n budget : ℕ) (priority : ℕ → ℕ) (triangles others : List ℕ) (worst other : ℕ) (blocked blocks : Option Blocked) →
+    IsFrame n budget priority triangles worst blocked → IsFrame n budget priority others other blocks →
+    ((triangles ≡ others) × (worst ≡ other) × (blocked ≡ blocks))) where
+  -- a grid, a budget and a spacing have one picture
+  one-picture : (grid : HeightField) (budget spacing : ℕ) (picture other : Picture)
+      → IsPicture grid budget spacing picture → IsPicture grid budget spacing other → picture ≡ other
+  one-picture grid budget spacing picture other one two =
+      let same = unique grid.n budget (start_priority grid spacing) one.leaves two.leaves picture.worst other.worst picture.blocked other.blocked
+      one.frame two.frame in
+      let text = one.text ∙ ap (λ l. mesh_text grid.n grid.heights spacing [] l) same.0 ∙ sym two.text in
+      let triangles = one.triangles ∙ ap length same.0 ∙ sym two.triangles in
+      let vertices = one.vertices ∙ ap (λ l. length (vertices_of grid.n l)) same.0 ∙ sym two.vertices in
+      same-picture picture other text triangles vertices same.1 same.2
+    where
+      picture_with : List ℕ → ℕ → ℕ → ℕ → Option Blocked → Picture
+      picture_with t i j k o = record { text = t; triangles = i; vertices = j; worst = k; blocked = o }
 
-        same-picture : (p q : Picture) → p.text ≡ q.text → p.triangles ≡ q.triangles → p.vertices ≡ q.vertices
-            → p.worst ≡ q.worst → p.blocked ≡ q.blocked → p ≡ q
-        same-picture p q a b c d e =
-            ap (λ t. picture_with t p.triangles p.vertices p.worst p.blocked) a
-            ∙ ap (λ t. picture_with q.text t p.vertices p.worst p.blocked) b
-            ∙ ap (λ v. picture_with q.text q.triangles v p.worst p.blocked) c
-            ∙ ap (λ w. picture_with q.text q.triangles q.vertices w p.blocked) d
-            ∙ ap (λ o. picture_with q.text q.triangles q.vertices q.worst o) e
+      same-picture : (p q : Picture) → p.text ≡ q.text → p.triangles ≡ q.triangles → p.vertices ≡ q.vertices
+          → p.worst ≡ q.worst → p.blocked ≡ q.blocked → p ≡ q
+      same-picture p q a b c d e =
+          ap (λ t. picture_with t p.triangles p.vertices p.worst p.blocked) a
+          ∙ ap (λ t. picture_with q.text t p.vertices p.worst p.blocked) b
+          ∙ ap (λ v. picture_with q.text q.triangles v p.worst p.blocked) c
+          ∙ ap (λ w. picture_with q.text q.triangles q.vertices w p.blocked) d
+          ∙ ap (λ o. picture_with q.text q.triangles q.vertices q.worst o) e
 
-    one-grid_outcome : (command : MeshCommand) (answer : Result HeightField PgmFault) (script : List ℕ) (end other : Outcome) → 2 ≤ command.budget
-        → IsGridOutcome command answer script end → IsGridOutcome command answer script other → end ≡ other
-    one-grid_outcome command (Ok grid) script end other low one two =
-        one.2 ∙ ap (λ picture. script_outcome command.prefix picture 0 script)
-        (one-picture grid command.budget command.spacing one.0 two.0 low one.1 two.1) ∙ sym two.2
-    one-grid_outcome command (Err fault) script end other low one two = one ∙ sym two
+  one-grid_outcome : (command : MeshCommand) (answer : Result HeightField PgmFault) (script : List ℕ) (end other : Outcome)
+      → IsGridOutcome command answer script end → IsGridOutcome command answer script other → end ≡ other
+  one-grid_outcome command (Ok grid) script end other one two =
+      one.2 ∙ ap (λ picture. script_outcome command.prefix picture 0 script)
+      (one-picture grid command.budget command.spacing one.0 two.0 one.1 two.1) ∙ sym two.2
+  one-grid_outcome command (Err fault) script end other one two = one ∙ sym two
 
-    one-words_outcome : (words : List (List ℕ)) (found : Option Command) (files : List NamedFile) (end other : Outcome) → command_of words ≡ found
-        → IsWordsOutcome found files end → IsWordsOutcome found files other → end ≡ other
-    one-words_outcome words None files end other is one two = one ∙ sym two
-    one-words_outcome words (Some (InfoOf grid)) files end other is one two = one ∙ sym two
-    one-words_outcome words (Some (MeshOf command)) files end other is one two =
-        one-grid_outcome command (grid_of (bytes_of files command.grid)) (bytes_of files command.script) end other
-        (command-budget words command is) one two
+  one-words_outcome : (found : Option Command) (files : List NamedFile) (end other : Outcome)
+      → IsWordsOutcome found files end → IsWordsOutcome found files other → end ≡ other
+  one-words_outcome None files end other one two = one ∙ sym two
+  one-words_outcome (Some (InfoOf grid)) files end other one two = one ∙ sym two
+  one-words_outcome (Some (MeshOf command)) files end other one two =
+      one-grid_outcome command (grid_of (bytes_of files command.grid)) (bytes_of files command.script) end other
+      one two
 
-    -- words and files have one outcome
-    pub one-outcome : (words : List (List ℕ)) (files : List NamedFile) (end other : Outcome) → IsOutcome words files end → IsOutcome words files other → end ≡ other
-    unfolding IsOutcome
-    one-outcome words files end other one two = one-words_outcome words (command_of words) files end other refl one two
+  -- words and files have one outcome
+  pub one-outcome : (words : List (List ℕ)) (files : List NamedFile) (end other : Outcome) → IsOutcome words files end → IsOutcome words files other → end ≡ other
+  unfolding IsOutcome
+  one-outcome words files end other one two = one-words_outcome (command_of words) files end other one two

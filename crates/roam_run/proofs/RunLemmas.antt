@@ -12,7 +12,7 @@ use Rattle.roam_run.specs.declared.status.Status.{Status}
 use Rattle.roam_run.specs.declared.status.Status.TheVariants.{Usage, GridRefused, ReadFault, WriteFault}
 use Rattle.roam_run.specs.declared.script_fault.ScriptFault.{ScriptFault}
 use Rattle.roam_run.specs.Words.{MeshCommand, Command, MeshOf, InfoOf, command_of}
-use Rattle.obj_write.specs.MeshWriting.{mesh_with, IsPartOfMesh}
+use Rattle.obj_write.specs.Written.{mesh_with, IsPartOfMesh}
 use Rattle.roam_run.specs.Act.{Act, WholeMesh, ReportLine, Told, told, Stands, StandsInPart, IsCutShort, meshes_of}
 use Rattle.roam_run.specs.Picture.{Picture, IsPicture, start_priority}
 use Rattle.roam_run.specs.ReportText.{grid_refusal}

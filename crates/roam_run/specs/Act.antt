@@ -1,10 +1,10 @@
 -- What a run does to the outside: a list of acts, each a whole mesh or a line of the report.
 -- This project's own words.
--- Words: Act, meshes_of, report_of, Told, told, Grows, Stands, StandsInPart, IsCutShort.
-use Rattle.std.specs.Prelude.{◌≡◌, ℕ, ◌⊎◌, Bool, true, false, List, [], ◌∷◌, ◌++◌, Option, Some}
+-- Words: Act, meshes_of, report_of, Told, told, Stands, StandsInPart, IsCutShort.
+use Rattle.std.specs.Prelude.{◌≡◌, ℕ, true, List, [], ◌∷◌, ◌++◌, Option, Some}
 use Rattle.roam_edge.specs.MeshSink.{Mesh}
 use Rattle.roam_edge.specs.Told.{IsFront}
-use Rattle.obj_write.specs.MeshWriting.{mesh_with, IsPartOfMesh}
+use Rattle.obj_write.specs.Written.{mesh_with, Grows, IsPartOfMesh}
 
 -- a whole mesh, written and finished; or bytes at the end of the report
 pub data Act : Type 0 where
@@ -30,10 +30,6 @@ pub record Told : Type 0 where
 
 abbrev pub told : Option (List Mesh) → Option (List ℕ) → Told
 told all_meshes all_bytes = record { meshes = all_meshes; report = all_bytes }
-
--- where it is told, this came behind what was there
-abbrev pub Grows : {A : Type 0} → Option (List A) → Option (List A) → List A → Type 0
-Grows {A} before now more = (all : List A) → before ≡ Some all → now ≡ Some (all ++ more)
 
 -- These acts were added to meshes and report, in order, and nothing else.
 pub record Stands (before now : Told) (acts : List Act) : Type 0 where

@@ -1,10 +1,9 @@
 -- The picture of the code in the words of `Picture`.
--- Words: picture_seen, view_text, IsWritable.
-use Rattle.std.specs.Prelude.{◌≡◌, ℕ, ◌*◌, ◌≤◌, List, length, All}
+-- Words: picture_seen, IsWritable.
+use Rattle.std.specs.Prelude.{◌≡◌, ◌*◌, ◌≤◌, length, All}
 use Rattle.mesh_defs.specs.Triangle.{level_of}
 use Rattle.mesh_defs.specs.MeshText.{mesh_text}
-use Rattle.obj_write.specs.Numbering.{numbers_of}
-use Rattle.obj_write.specs.declared.view.MeshView.{MeshView}
+use Rattle.obj_write.specs.Numbers.{numbers_of}
 use Rattle.roam_run.specs.declared.picture.Picture.{Picture}
 use Rattle.roam_run.specs.Picture as shown
 
@@ -17,10 +16,6 @@ picture_seen p = record {
   worst = p.worst;
   blocked = p.blocked;
 }
-
--- the text of a mesh as it is to be written
-abbrev pub view_text : MeshView → List ℕ
-view_text v = mesh_text v.wedges.now.n v.wedges.now.heights v.spacing v.planes.now v.leaves.now
 
 -- the leaves are triangles of the grid, and two at least; the numbers are those of their vertices, and
 -- the spacing is accepted

@@ -2,7 +2,7 @@
 -- Words: is_complete, IsScriptEnd, IsRunEnd, HasEnded, EndsAs, EndsRight, StandsForRead, CommandReadFault,
 -- IsWholeHeader, BeginsWithHeader, CommandNoMemory, LeavesAtReadFault, LeavesAtNoMemory, OpensForStatus, IsBestFrame, AreBestFrames,
 -- KeepsBestMeshes, IsCertificate, CertifiesFrames.
-use Rattle.std.specs.Prelude.{◌≡◌, ◌≢◌, ℕ, ◌+◌, ◌<◌, ◌≤◌, ◌⊎◌, ◌↔◌, Bool, true, false, IsTrue, ⊤, List, [], ◌∷◌, ◌++◌, length, Option, Some, None, IfSome, Ok}
+use Rattle.std.specs.Prelude.{◌≡◌, ◌≢◌, ℕ, ◌+◌, ◌<◌, ◌≤◌, ◌⊎◌, ◌↔◌, Bool, true, false, IsTrue, ⊤, List, [], ◌∷◌, ◌++◌, length, Option, Some, IsNone, IfSome, Ok}
 use Rattle.mesh_defs.specs.HeightField.{HeightField}
 use Rattle.mesh_defs.specs.MeshText.{mesh_text}
 use Rattle.mesh_defs.specs.BestMesh.{IsBestMesh}
@@ -136,7 +136,7 @@ pub record KeepsBestMeshes (words : List (List ℕ)) (files : List NamedFile) (b
 -- What a frame's line tells of blocking is a certificate: it tells of a triangle unless no priority is
 -- above 0; that one's priority is the worst, and with it the mesh would need more than the budget.
 pub record IsCertificate (grid : HeightField) (budget spacing : ℕ) (picture : Picture) : Type 0 where
-  pub unblocked : (picture.blocked ≡ None) ↔ (picture.worst ≡ 0)
+  pub unblocked : IsNone picture.blocked ↔ (picture.worst ≡ 0)
   pub worst : IfSome picture.blocked (λ b. start_priority grid spacing b.tri ≡ picture.worst)
   pub need : IfSome picture.blocked (λ b. budget < b.need)
 

@@ -5,7 +5,8 @@ ghost use Rattle.mesh_defs.specs.HeightField.{side_of};
 ghost use Rattle.mesh_defs.specs.MeshText.{mesh_text};
 ghost use Rattle.mesh_defs.specs.BestMesh.{IsBestMesh};
 ghost use Rattle.roam_run.specs.Picture.{IsPicture, start_priority};
-ghost use Rattle.roam_run.specs.PictureView.{picture_seen, view_text, IsWritable};
+ghost use Rattle.obj_write.specs.MeshView.{view_text};
+ghost use Rattle.roam_run.specs.PictureView.{picture_seen, IsWritable};
 
 use bintree_addr::{Blocked, Tri, level_laws};
 use cull_marks::Planes;

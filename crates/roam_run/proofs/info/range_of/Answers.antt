@@ -1,8 +1,7 @@
-use Rattle.std.proofs.Common.{◌≡◌, ◌<◌, length, arith, get_or, take, ◌∙◌, ap, rules}
+use Rattle.std.proofs.Common.{◌≡◌, ◌<◌, length, arith, get_or, take, ◌∙◌, ap}
 use Rattle.std.proofs.lemmas.Grind.{common_steps}
 use Rattle.std.proofs.lemmas.List.{take_more}
 use Rattle.std.proofs.Math.Seq.{take-length}
-use Rattle.mesh_defs.specs.BoundingBox.{least, greatest}
 use Rattle.roam_run.proofs.InfoLemmas.{least-push, greatest-push, least-again}
 use Rattle.roam_run.proofs.info.range_of.Goals as goal
 

@@ -1,7 +1,7 @@
 use Rattle.std.proofs.Common.{map, string_bytes, Some, sym, ◌∙◌, ap}
 use Rattle.roam_run.proofs.RunLemmas.{usage-ends, command-ends, info-ends}
 use Rattle.roam_run.specs.WordView.{command_seen, mesh_seen}
-use Rattle.roam_run.specs.Words.{MeshOf, InfoOf}
+use Rattle.roam_run.specs.Words.{MeshOf}
 use Rattle.roam_run.proofs.run.roam.Goals as goal
 
 pub returns-in-None-clause-outcome : goal.returns-in-None-clause-outcome
