@@ -1,6 +1,6 @@
 -- What bytes mean: the laws of `Laws`.
-use Rattle.std.proofs.Common.{◌≡◌, ◌≢◌, ◌↔◌, ℕ, zero, suc, ◌+◌, ◌-◌, ◌*◌, ◌^◌, ◌<◌, ◌≤◌, ◌⊎◌, Bool, true, false, not, ◌&&◌, ◌||◌, cond, ◌==◌, nat_lt, eqb, leb, ltb, List, [], ◌∷◌, ◌++◌, length, take, drop, get_or, Option, Some, None, Result, Ok, Err, refl, sym, ap, ap₂, ◌∙◌, inl, inr, subst, arith, length-append, append_assoc, append-nil, take-append-drop, eqb-true, leb-true, le-leb, ne_eqb}
-use Rattle.std.proofs.lemmas.Bool.{cond_both, cases_lt, cases_eq, lt-ltb, le-ltb, ltb-true, ltb-false, eqb-false, agree_below, agree_below_at, or_cases, or_parts, not-false, not-true}
+use Rattle.std.proofs.Common.{◌≡◌, ◌≢◌, ℕ, ◌+◌, ◌<◌, ◌≤◌, ◌⊎◌, Bool, true, false, cond, ◌==◌, nat_lt, List, [], ◌∷◌, ◌++◌, length, take, drop, get_or, Some, None, Result, Ok, Err, refl, sym, ap, ap₂, ◌∙◌, inl, inr, subst, arith, length-append, append_assoc, append-nil, take-append-drop}
+use Rattle.std.proofs.lemmas.Bool.{cond_both, cases_lt, cases_eq, lt-ltb, le-ltb, ltb-true, ltb-false}
 use Rattle.std.proofs.lemmas.List.{length_push, take_at, drop_at, take-append-le, drop_more, take_more, length-take-le}
 use Rattle.mesh_defs.specs.HeightField.{side_of}
 use Rattle.pgm_header.specs.declared.accepted.Header.{Header}
@@ -12,142 +12,13 @@ use Rattle.pgm_header.specs.declared.machine.State.TheVariants.{Start}
 use Rattle.pgm_header.specs.declared.machine.Step.{Step}
 use Rattle.pgm_header.specs.declared.machine.Step.TheVariants.{Goes, Ends, Fails}
 use Rattle.pgm_header.specs.HeaderText.{IsHeaderText, IsFront, IsProperFront, IsUnfitAt, BeginsWithHeader}
-use Rattle.pgm_header.specs.Accepted.{IsLevel, IsMaxval, IsHeader, Accepts, level_of, with_level, judged, HeaderAnswer, Part, Whole, Bad}
+use Rattle.pgm_header.specs.Accepted.{IsLevel, IsMaxval, Accepts, judged, HeaderAnswer, Part, Whole, Bad}
 use Rattle.pgm_header.specs.Machine.{step_of}
-use Rattle.pgm_header.specs.Reading.{unfit, whole_answer, run, header_of}
-use Rattle.pgm_header.specs.Laws.{TextsAreRead, ReadTextsAreHeaders, NoTextGoesOn, PartsAreFronts, BadMagicsAreRefused, BadHeadersAreRefused, LongHeadersAreRefused, BadMaxvalsAreRefused, OblongsAreRefused, BadSidesAreRefused}
-use Rattle.pgm_header.proofs.MachineLemmas.{walk, walk_step, walk-append, walk_split, walked_text, walked_front, IsWalked, complete, front_walked}
+use Rattle.pgm_header.specs.Reading.{unfit, whole_answer, after_step, run, header_of}
+use Rattle.pgm_header.specs.Laws.{TextsAreRead, ReadTextsAreHeaders, NoTextGoesOn, PartsAreFronts, BadMagicsAreRefused, BadHeadersAreRefused, LongHeadersAreRefused, BadMaxvalsAreRefused, OblongsAreRefused, BadSidesAreRefused, ReadHeadersStand, RefusalsStand}
+use Rattle.pgm_header.proofs.MachineLemmas.{walk, walk_step, walk-append, walk_split, walked_text, walked_front, complete, front_walked}
 use Rattle.pgm_header.proofs.ReadingLemmas.{run_goes, run_long, run_ends, run_fails}
-
--- Levels.
-
--- the level, if there is one, is that of the side
-abbrev LevelIn : ℕ → Option ℕ → Type 0
-LevelIn side (Some n) = IsLevel n × (side ≡ side_of n)
-LevelIn side None = Unit {0}
-
-level_in : (side : ℕ) → LevelIn side (level_of side)
-level_in side =
-    cond_both (side == 3) (Some 1) _ (LevelIn side) (λ e. (record { low = omega arith; high = omega arith }, eqb-true side 3 e)) (λ _.
-    cond_both (side == 5) (Some 2) _ (LevelIn side) (λ e. (record { low = omega arith; high = omega arith }, eqb-true side 5 e)) (λ _.
-    cond_both (side == 9) (Some 3) _ (LevelIn side) (λ e. (record { low = omega arith; high = omega arith }, eqb-true side 9 e)) (λ _.
-    cond_both (side == 17) (Some 4) _ (LevelIn side) (λ e. (record { low = omega arith; high = omega arith }, eqb-true side 17 e)) (λ _.
-    cond_both (side == 33) (Some 5) _ (LevelIn side) (λ e. (record { low = omega arith; high = omega arith }, eqb-true side 33 e)) (λ _.
-    cond_both (side == 65) (Some 6) _ (LevelIn side) (λ e. (record { low = omega arith; high = omega arith }, eqb-true side 65 e)) (λ _.
-    cond_both (side == 129) (Some 7) _ (LevelIn side) (λ e. (record { low = omega arith; high = omega arith }, eqb-true side 129 e)) (λ _.
-    cond_both (side == 257) (Some 8) _ (LevelIn side) (λ e. (record { low = omega arith; high = omega arith }, eqb-true side 257 e)) (λ _.
-    cond_both (side == 513) (Some 9) _ (LevelIn side) (λ e. (record { low = omega arith; high = omega arith }, eqb-true side 513 e)) (λ _.
-    cond_both (side == 1025) (Some 10) _ (LevelIn side) (λ e. (record { low = omega arith; high = omega arith }, eqb-true side 1025 e)) (λ _.
-    cond_both (side == 2049) (Some 11) None (LevelIn side) (λ e. (record { low = omega arith; high = omega arith }, eqb-true side 2049 e)) (λ _. tt)))))))))))
-
--- the answer for the side of a level is this level
-abbrev is_just : ℕ → Option ℕ → Bool
-is_just n (Some m) = eqb m n
-is_just n None = false
-
-just_some : (n : ℕ) (o : Option ℕ) → is_just n o ≡ true → o ≡ Some n
-just_some n (Some m) e = ap (λ (k : ℕ). Some k) (eqb-true m n e)
-just_some n None e = absurd (cc)
-
-levels_test : agree_below (λ n. eqb n 0 || is_just n (level_of (side_of n))) (λ _. true) 12 ≡ true
-levels_test = refl
-
-level_of-side : (n : ℕ) → IsLevel n → level_of (side_of n) ≡ Some n
-level_of-side n level =
-    elim (or_cases (eqb n 0) (is_just n (level_of (side_of n))) (agree_below_at (λ k. eqb k 0 || is_just k (level_of (side_of k))) (λ _. true) 12 n levels_test (omega (arith, level.high)))) as (λ _. level_of (side_of n) ≡ Some n) [
-      | inl none ↦ let nothing : n ≡ 0 = eqb-true n 0 none in absurd (omega (arith, level.low))
-      | inr just ↦ just_some n (level_of (side_of n)) just
-    ]
-
--- The tests of the values.
-
--- what the tests of the values say
-abbrev JudgedAs : HeaderValues → Result Header HeaderFault → Type 0
-JudgedAs v (Ok h) = Accepts v h
-JudgedAs v (Err BadMaxval) = ¬ IsMaxval v.maxval
-JudgedAs v (Err NotSquare) = IsMaxval v.maxval × (v.width ≢ v.height)
-JudgedAs v (Err BadSide) = IsMaxval v.maxval × (v.width ≡ v.height) × ((n : ℕ) → IsLevel n → v.width ≢ side_of n)
-JudgedAs v (Err BadMagic) = ⊥
-JudgedAs v (Err (BadHeader at)) = ⊥
-JudgedAs v (Err HeaderTooLong) = ⊥
-
-level_judged : (v : HeaderValues) (o : Option ℕ) → level_of v.width ≡ o → IsMaxval v.maxval → v.width ≡ v.height → LevelIn v.width o → JudgedAs v (with_level v o)
-level_judged v None e fine square level = (
-  fine,
-  square,
-  λ n at is.
-      let found : level_of v.width ≡ Some n = ap level_of is ∙ level_of-side n at in
-      let clash : Some n ≡ None = sym found ∙ e in cc,
-)
-level_judged v (Some n) e fine square level =
-    record { valid = record { level = level.0; maxval = fine }; plain = refl; maxval = refl; width = level.1; height = sym square ∙ level.1 }
-
-judges : (v : HeaderValues) → JudgedAs v (judged v)
-judges v =
-    cond_both (v.maxval == 0 || nat_lt 65535 v.maxval) (Err BadMaxval) _ (JudgedAs v)
-    (λ e. λ fine. elim (or_cases (v.maxval == 0) (nat_lt 65535 v.maxval) e) as (λ _. ⊥) [
-      | inl none ↦ let nothing : v.maxval ≡ 0 = eqb-true v.maxval 0 none in absurd (omega (arith, fine.low))
-      | inr above ↦ let large : 65535 < v.maxval = ltb-true 65535 v.maxval above in absurd (omega (arith, fine.high))
-    ])
-    (λ e. let both = or_parts (v.maxval == 0) (nat_lt 65535 v.maxval) e in
-    let some : v.maxval ≡ 0 → ⊥ = eqb-false v.maxval 0 both.0 in
-    let few : v.maxval ≤ 65535 = ltb-false 65535 v.maxval both.1 in
-    let fine : IsMaxval v.maxval = record { low = omega arith; high = few } in
-    cond_both (not (v.width == v.height)) (Err NotSquare) _ (JudgedAs v)
-    (λ d. (fine, eqb-false v.width v.height (not-true (v.width == v.height) d)))
-    (λ d. level_judged v (level_of v.width) refl fine (eqb-true v.width v.height (not-false (v.width == v.height) d)) (level_in v.width)))
-
--- one result at most
-same_level : (m n : ℕ) → IsLevel m → IsLevel n → side_of m ≡ side_of n → m ≡ n
-same_level m n at_m at_n e = let both : Some m ≡ Some n = sym (level_of-side m at_m) ∙ ap level_of e ∙ level_of-side n at_n in cc
-
-abbrev header_with : Bool → ℕ → ℕ → Header
-header_with p n m = record { plain = p; n = n; maxval = m }
-
-same_fields : (p q : Bool) (i j m n : ℕ) → p ≡ q → i ≡ j → m ≡ n → header_with p i m ≡ header_with q j n
-same_fields p q i j m n a b c = ap₂ (λ (x : Bool) (y : ℕ). header_with x y m) a b ∙ ap (header_with q j) c
-
-same_header : (v : HeaderValues) (g h : Header) → Accepts v g → Accepts v h → g ≡ h
-same_header v g h a b =
-    let plain : g.plain ≡ h.plain = a.plain ∙ sym b.plain in
-    let level : g.n ≡ h.n = same_level g.n h.n a.valid.level b.valid.level (sym a.width ∙ b.width) in
-    let maxval : g.maxval ≡ h.maxval = a.maxval ∙ sym b.maxval in same_fields g.plain h.plain g.n h.n g.maxval h.maxval plain level maxval
-
-accepted_as : (v : HeaderValues) (h : Header) (r : Result Header HeaderFault) → JudgedAs v r → Accepts v h → r ≡ Ok h
-accepted_as v h (Ok g) j a = ap (λ (x : Header). Ok x) (same_header v g h j a)
-accepted_as v h (Err BadMaxval) j a = absurd (j (subst IsMaxval a.maxval a.valid.maxval))
-accepted_as v h (Err NotSquare) j a = absurd (j.1 (a.width ∙ sym a.height))
-accepted_as v h (Err BadSide) j a = absurd (j.2 h.n a.valid.level a.width)
-accepted_as v h (Err BadMagic) j a = absurd j
-accepted_as v h (Err (BadHeader at)) j a = absurd j
-accepted_as v h (Err HeaderTooLong) j a = absurd j
-
-maxval_as : (v : HeaderValues) (r : Result Header HeaderFault) → JudgedAs v r → ¬ IsMaxval v.maxval → r ≡ Err BadMaxval
-maxval_as v (Ok g) j a = absurd (a (subst IsMaxval j.maxval j.valid.maxval))
-maxval_as v (Err BadMaxval) j a = refl
-maxval_as v (Err NotSquare) j a = absurd (a j.0)
-maxval_as v (Err BadSide) j a = absurd (a j.0)
-maxval_as v (Err BadMagic) j a = absurd j
-maxval_as v (Err (BadHeader at)) j a = absurd j
-maxval_as v (Err HeaderTooLong) j a = absurd j
-
-oblong_as : (v : HeaderValues) (r : Result Header HeaderFault) → JudgedAs v r → IsMaxval v.maxval → (v.width ≢ v.height) → r ≡ Err NotSquare
-oblong_as v (Ok g) j fine a = absurd (a (j.width ∙ sym j.height))
-oblong_as v (Err BadMaxval) j fine a = absurd (j fine)
-oblong_as v (Err NotSquare) j fine a = refl
-oblong_as v (Err BadSide) j fine a = absurd (a j.1)
-oblong_as v (Err BadMagic) j fine a = absurd j
-oblong_as v (Err (BadHeader at)) j fine a = absurd j
-oblong_as v (Err HeaderTooLong) j fine a = absurd j
-
-side_as : (v : HeaderValues) (r : Result Header HeaderFault) → JudgedAs v r → IsMaxval v.maxval → v.width ≡ v.height → ((n : ℕ) → IsLevel n → v.width ≢ side_of n) → r ≡ Err BadSide
-side_as v (Ok g) j fine square a = absurd (a g.n j.valid.level j.width)
-side_as v (Err BadMaxval) j fine square a = absurd (j fine)
-side_as v (Err NotSquare) j fine square a = absurd (j.1 square)
-side_as v (Err BadSide) j fine square a = refl
-side_as v (Err BadMagic) j fine square a = absurd j
-side_as v (Err (BadHeader at)) j fine square a = absurd j
-side_as v (Err HeaderTooLong) j fine square a = absurd j
+use Rattle.pgm_header.proofs.AcceptedLemmas.{JudgedAs, judges, accepted_as, maxval_as, oblong_as, side_as}
 
 -- Runs over walks.
 
@@ -446,3 +317,37 @@ bad_sides = λ bytes. (
   λ e. subst (Means bytes) e (means bytes),
   λ w. back_judged bytes w.0 BadSide w.1 (side_as w.0 (judged w.0) (judges w.0) w.2 w.3 w.4),
 )
+
+-- Bytes that come later.
+
+-- the later answer is the same, with these bytes left too
+abbrev Stands : List ℕ → HeaderAnswer → HeaderAnswer → Type 0
+Stands more Part later = Unit {0}
+Stands more (Whole h rest) later = later ≡ Whole h (rest ++ more)
+Stands more (Bad f) later = later ≡ Bad f
+
+whole_stands : (r : Result Header HeaderFault) (rest more : List ℕ) → Stands more (whole_answer r rest) (whole_answer r (rest ++ more))
+whole_stands (Ok h) rest more = refl
+whole_stands (Err f) rest more = refl
+
+limit_stands : (last : Bool) (more : List ℕ) (now later : HeaderAnswer) → Stands more now later → Stands more (cond last (Bad HeaderTooLong) now) (cond last (Bad HeaderTooLong) later)
+limit_stands true more now later s = refl
+limit_stands false more now later s = s
+
+step_stands : (r : Step) (place : ℕ) (bytes more : List ℕ) (now later : State → HeaderAnswer) → ((u : State) → Stands more (now u) (later u)) → Stands more (after_step r place bytes now) (after_step r place (bytes ++ more) later)
+step_stands (Goes u) place bytes more now later s = limit_stands (place == 65535) more (now u) (later u) (s u)
+step_stands (Ends v) place bytes more now later s = whole_stands (judged v) bytes more
+step_stands Fails place bytes more now later s = refl
+
+run_stands : (bytes more : List ℕ) (s : State) (place : ℕ) → Stands more (run bytes s place) (run (bytes ++ more) s place)
+run_stands [] more s place = tt
+run_stands (b ∷ bytes) more s place =
+    step_stands (step_of s b) place bytes more (λ u. run bytes u (place + 1)) (λ u. run (bytes ++ more) u (place + 1)) (λ u. run_stands bytes more u (place + 1))
+
+pub read_stands : ReadHeadersStand
+unfolding header_of
+read_stands = λ bytes rest more h e. subst (λ (a : HeaderAnswer). Stands more a (header_of (bytes ++ more))) e (run_stands bytes more Start 0)
+
+pub refusal_stands : RefusalsStand
+unfolding header_of
+refusal_stands = λ bytes more f e. subst (λ (a : HeaderAnswer). Stands more a (header_of (bytes ++ more))) e (run_stands bytes more Start 0)

@@ -1,8 +1,8 @@
 -- Facts about the machine: what the bytes that lead to a state are, and how it walks over a header's text.
-use Rattle.std.proofs.Common.{◌≡◌, ℕ, zero, suc, ◌+◌, ◌-◌, ◌*◌, ◌^◌, ◌<◌, ◌≤◌, ◌⊎◌, Bool, true, false, not, ◌&&◌, ◌||◌, cond, ◌==◌, nat_lt, eqb, leb, ltb, List, [], ◌∷◌, ◌++◌, length, take, drop, Option, Some, None, refl, sym, ap, ap₂, ◌∙◌, subst, arith, length-append, append_assoc, append-nil, take-append-drop, eqb-true, leb-true, le-leb, ne_eqb}
+use Rattle.std.proofs.Common.{◌≡◌, ℕ, suc, ◌+◌, ◌-◌, ◌*◌, ◌^◌, ◌<◌, ◌≤◌, Bool, true, false, not, ◌&&◌, cond, ◌==◌, nat_lt, leb, List, [], ◌∷◌, ◌++◌, length, take, drop, Option, Some, None, refl, sym, ap, ap₂, ◌∙◌, subst, arith, length-append, append_assoc, append-nil, take-append-drop, eqb-true, leb-true, ne_eqb}
 use Rattle.std.specs.List.{flat_map, list_all}
 use Rattle.std.proofs.Math.Nat.{pow-succ'}
-use Rattle.std.proofs.lemmas.Bool.{cond_both, and_parts, and_from, not-true, or_right, or_from, lt-ltb, ltb-true}
+use Rattle.std.proofs.lemmas.Bool.{cond_both, and_parts, and_from, not-true, lt-ltb, ltb-true}
 use Rattle.std.proofs.lemmas.List.{length_push, take_at, take-append-le}
 use Rattle.std.proofs.lemmas.List.Concat.{flat_map-append}
 use Rattle.std.proofs.lemmas.List.Folds.{list_all-append}
@@ -14,13 +14,13 @@ use Rattle.pgm_header.specs.declared.machine.State.TheVariants.{Start, Letter, N
 use Rattle.pgm_header.specs.declared.machine.Step.{Step}
 use Rattle.pgm_header.specs.declared.machine.Step.TheVariants.{Goes, Ends, Fails}
 use Rattle.pgm_header.specs.HeaderText as text
-use Rattle.pgm_header.specs.HeaderText.{is_line_end, is_white, is_digit, GapItem, item_bytes, is_item, IsGap, value_of, IsNumberText, magic_text, IsHeaderText, IsFront, IsProperFront}
-use Rattle.pgm_header.specs.Machine.{letter_step, gap_step, number_ended, number_step, step_of}
+use Rattle.pgm_header.specs.HeaderText.{is_line_end, is_white, is_digit, GapItem, item_bytes, is_comment_text, is_item, IsGap, value_of, IsNumberText, magic_text, IsHeaderText, IsFront, IsProperFront}
+use Rattle.pgm_header.specs.Machine.{number_ended, step_of}
 
 -- Gaps.
 
 -- a whitespace byte is a gap
-gap_first : (byte : ℕ) → is_white byte ≡ true → IsGap (byte ∷ [])
+pub gap_first : (byte : ℕ) → is_white byte ≡ true → IsGap (byte ∷ [])
 gap_first byte white = record { first = byte; items = []; white = white; valid = refl; text = refl }
 
 -- a gap and one more part
@@ -38,7 +38,8 @@ gap_more gap item g good =
 
 -- Numbers.
 
-value_of-push : (digits : List ℕ) (d : ℕ) → value_of (digits ++ d ∷ []) ≡ 10 * value_of digits + (d - 48)
+-- a digit more at the end
+pub value_of-push : (digits : List ℕ) (d : ℕ) → value_of (digits ++ d ∷ []) ≡ 10 * value_of digits + (d - 48)
 value_of-push [] d = omega arith
 value_of-push (x ∷ digits) d =
     let size : length (digits ++ d ∷ []) ≡ suc (length digits) = omega (arith, length_push digits d) in
@@ -72,17 +73,13 @@ AfterFields (fields.Magic p) bytes = bytes ≡ magic_text p
 AfterFields (fields.Width p w) bytes = NumberAfter (λ t. t ≡ magic_text p) w bytes
 AfterFields (fields.Height p w h) bytes = NumberAfter (λ t. NumberAfter (λ u. u ≡ magic_text p) w t) h bytes
 
--- no line end is among the bytes
-abbrev is_inside : List ℕ → Bool
-is_inside bytes = list_all (λ byte. not (is_line_end byte)) bytes
-
 -- the bytes lead to the state
 abbrev Leads : State → List ℕ → Type 0
 Leads Start bytes = bytes ≡ []
 Leads Letter bytes = bytes ≡ 80 ∷ []
 Leads (Named p) bytes = bytes ≡ magic_text p
 Leads (Gap f) bytes = (front : List ℕ) × (gap : List ℕ) × AfterFields f front × IsGap gap × (bytes ≡ front ++ gap)
-Leads (Comment f) bytes = (front : List ℕ) × (gap : List ℕ) × (inside : List ℕ) × AfterFields f front × IsGap gap × (is_inside inside ≡ true) × (bytes ≡ front ++ (gap ++ 35 ∷ inside))
+Leads (Comment f) bytes = (front : List ℕ) × (gap : List ℕ) × (inside : List ℕ) × AfterFields f front × IsGap gap × (is_comment_text inside ≡ true) × (bytes ≡ front ++ (gap ++ 35 ∷ inside))
 Leads (Number f k v) bytes = (front : List ℕ) × (gap : List ℕ) × (digits : List ℕ) × AfterFields f front × IsGap gap × IsNumberText digits v × (length digits ≡ k) × (bytes ≡ front ++ (gap ++ digits))
 
 -- the bytes lead to what a step makes
@@ -154,7 +151,7 @@ sound (Comment f) bytes b l =
       l.0,
       l.1 ++ 35 ∷ (l.2 ++ b ∷ []),
       l.3,
-      gap_more l.1 (text.Comment l.2 b) l.4 (and_from (is_inside l.2) (is_line_end b) l.5 e),
+      gap_more l.1 (text.Comment l.2 b) l.4 (and_from (is_comment_text l.2) (is_line_end b) l.5 e),
       ap (λ (t : List ℕ). t ++ b ∷ []) l.6 ∙ push_inner l.0 l.1 (35 ∷ l.2) b,
     ))
     (λ e. (
@@ -163,7 +160,7 @@ sound (Comment f) bytes b l =
       l.2 ++ b ∷ [],
       l.3,
       l.4,
-      list_all-append (λ byte. not (is_line_end byte)) l.2 (b ∷ []) ∙ and_from (is_inside l.2) (is_inside (b ∷ [])) l.5 (and_from (not (is_line_end b)) true (ap not e) refl),
+      list_all-append (λ byte. not (is_line_end byte)) l.2 (b ∷ []) ∙ and_from (is_comment_text l.2) (is_comment_text (b ∷ [])) l.5 (and_from (not (is_line_end b)) true (ap not e) refl),
       ap (λ (t : List ℕ). t ++ b ∷ []) l.6 ∙ push_inner l.0 l.1 (35 ∷ l.2) b,
     ))
 sound (Number f k v) bytes b l =
@@ -267,10 +264,10 @@ not_hash d digit =
     let both = and_parts (leb 48 d) (leb d 57) digit in
     let low : 48 ≤ d = leb-true 48 d both.0 in ne_eqb d 35 (λ e. omega arith)
 
-walk_comment : (inside : List ℕ) (f : Fields) → is_inside inside ≡ true → walk inside (Comment f) ≡ Some (Comment f)
+walk_comment : (inside : List ℕ) (f : Fields) → is_comment_text inside ≡ true → walk inside (Comment f) ≡ Some (Comment f)
 walk_comment [] f clean = refl
 walk_comment (x ∷ inside) f clean =
-    let both : (not (is_line_end x) ≡ true) × (is_inside inside ≡ true) = and_parts (not (is_line_end x)) (is_inside inside) clean in
+    let both : (not (is_line_end x) ≡ true) × (is_comment_text inside ≡ true) = and_parts (not (is_line_end x)) (is_comment_text inside) clean in
     let inner : is_line_end x ≡ false = not-true (is_line_end x) both.0 in
     let step : step_of (Comment f) x ≡ Goes (Comment f) = rw inner refl in
     walk_step (Comment f) (Comment f) x inside step ∙ walk_comment inside f both.1
@@ -278,7 +275,7 @@ walk_comment (x ∷ inside) f clean =
 walk_item : (item : GapItem) (f : Fields) → is_item item ≡ true → walk (item_bytes item) (Gap f) ≡ Some (Gap f)
 walk_item (text.White b) f good = let step : step_of (Gap f) b ≡ Goes (Gap f) = rw good refl in walk_step (Gap f) (Gap f) b [] step
 walk_item (text.Comment inside last) f good =
-    let both : (is_inside inside ≡ true) × (is_line_end last ≡ true) = and_parts (is_inside inside) (is_line_end last) good in
+    let both : (is_comment_text inside ≡ true) × (is_line_end last ≡ true) = and_parts (is_comment_text inside) (is_line_end last) good in
     let step : step_of (Comment f) last ≡ Goes (Gap f) = rw both.1 refl in
     walk-append inside (last ∷ []) (Comment f) (Comment f) (walk_comment inside f both.0) ∙ walk_step (Comment f) (Gap f) last [] step
 

@@ -1,5 +1,5 @@
 -- Facts about a reader: one byte, and then more.
-use Rattle.std.proofs.Common.{◌≡◌, ℕ, ◌+◌, ◌<◌, ◌≤◌, Bool, true, false, List, [], ◌∷◌, Result, Ok, Err, refl, sym, ap, ◌∙◌, arith, eq-eqb, ne_eqb}
+use Rattle.std.proofs.Common.{◌≡◌, ℕ, ◌+◌, List, [], ◌∷◌, Result, Ok, Err, refl, sym, ap, ◌∙◌, eq-eqb, ne_eqb}
 use Rattle.pgm_header.specs.declared.accepted.Header.{Header}
 use Rattle.pgm_header.specs.declared.fault.HeaderFault.{HeaderFault}
 use Rattle.pgm_header.specs.declared.fault.HeaderFault.TheVariants.{HeaderTooLong}
@@ -7,9 +7,9 @@ use Rattle.pgm_header.specs.declared.machine.HeaderValues.{HeaderValues}
 use Rattle.pgm_header.specs.declared.machine.State.{State}
 use Rattle.pgm_header.specs.declared.machine.State.TheVariants.{Start}
 use Rattle.pgm_header.specs.declared.machine.Step.TheVariants.{Goes, Ends, Fails}
-use Rattle.pgm_header.specs.Accepted.{HeaderAnswer, Part, Whole, Bad, judged}
+use Rattle.pgm_header.specs.Accepted.{Part, Whole, Bad, judged}
 use Rattle.pgm_header.specs.Machine.{step_of}
-use Rattle.pgm_header.specs.Reading.{Progress, unfit, whole_answer, after_step, run, resume, header_of, taken}
+use Rattle.pgm_header.specs.Reading.{Progress, unfit, whole_answer, run, resume, header_of, taken}
 
 -- the header goes on
 pub run_goes : (s t : State) (place b : ℕ) (more : List ℕ) → step_of s b ≡ Goes t → (place ≡ 65535 → ⊥) → run (b ∷ more) s place ≡ run more t (place + 1)

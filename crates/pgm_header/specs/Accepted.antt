@@ -1,7 +1,7 @@
 -- Which headers are accepted, and what is answered for the others: this project's own profile of PGM files.
 --
 -- Words: IsLevel, IsMaxval, IsHeader, Accepts, level_of, judged, HeaderAnswer.
-use Rattle.std.specs.Prelude.{◌≡◌, ℕ, ◌+◌, ◌^◌, ◌<◌, ◌≤◌, Bool, ◌==◌, ◌||◌, not, nat_lt, if◌then◌else◌, List, Option, Some, None, Result, Ok, Err}
+use Rattle.std.specs.Prelude.{◌≡◌, ℕ, ◌≤◌, ◌==◌, ◌||◌, not, nat_lt, if◌then◌else◌, List, Option, Some, None, Result, Ok, Err}
 use Rattle.mesh_defs.specs.HeightField.{side_of}
 use Rattle.pgm_header.specs.declared.machine.HeaderValues.{HeaderValues}
 use Rattle.pgm_header.specs.declared.accepted.Header.{Header}

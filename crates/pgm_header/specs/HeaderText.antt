@@ -2,9 +2,11 @@
 -- comment stands directly after whitespace, that exactly one whitespace byte follows the maxval, and that
 -- a number has at most nine digits are this project's own.
 --
--- Words: is_line_end, is_white, is_digit, GapItem, item_bytes, is_item, IsGap, value_of, IsNumberText,
--- magic_text, IsHeaderText, IsFront, IsProperFront, IsUnfitAt, BeginsWithHeader.
+-- Words: is_line_end, is_white, is_digit, GapItem, item_bytes, is_comment_text, is_item, IsGap, value_of,
+-- IsNumberText, magic_text, IsHeaderText, comment_line, written_header, IsFront, IsProperFront, IsUnfitAt,
+-- BeginsWithHeader.
 use Rattle.std.specs.Prelude.{◌≡◌, ℕ, ◌+◌, ◌-◌, ◌*◌, ◌^◌, ◌<◌, ◌≤◌, Bool, true, false, ◌==◌, ◌||◌, ◌&&◌, not, nat_le, IsTrue, List, [], ◌∷◌, ◌++◌, length, take}
+use Rattle.std.specs.Fmt.{decimal}
 use Rattle.std.specs.List.{flat_map, list_all}
 use Rattle.pgm_header.specs.declared.machine.HeaderValues.{HeaderValues}
 
@@ -30,10 +32,14 @@ abbrev pub item_bytes : GapItem → List ℕ
 item_bytes (White byte) = byte ∷ []
 item_bytes (Comment text last) = 35 ∷ (text ++ last ∷ [])
 
+-- no line end is among the bytes
+abbrev pub is_comment_text : List ℕ → Bool
+is_comment_text bytes = list_all (λ byte. not (is_line_end byte)) bytes
+
 -- the bytes are of their kinds: no line end stands in a comment's text, and one stands after it
 abbrev pub is_item : GapItem → Bool
 is_item (White byte) = is_white byte
-is_item (Comment text last) = list_all (λ byte. not (is_line_end byte)) text && is_line_end last
+is_item (Comment text last) = is_comment_text text && is_line_end last
 
 -- the bytes are a gap: one whitespace byte, and any parts. As each part ends with whitespace, each
 -- comment stands directly after a whitespace byte
@@ -79,6 +85,16 @@ pub record IsHeaderText (bytes : List ℕ) (values : HeaderValues) : Type 0 wher
   pub is_maxval : IsNumberText maxval_text values.maxval
   pub is_last : IsTrue (is_white last)
   pub text : bytes ≡ magic_text values.plain ++ (gap ++ (width_text ++ (second_gap ++ (height_text ++ (third_gap ++ (maxval_text ++ last ∷ []))))))
+
+-- a comment that has a line of its own: `#`, its text, LF
+abbrev pub comment_line : List ℕ → List ℕ
+comment_line inside = 35 ∷ (inside ++ 10 ∷ [])
+
+-- a header as programs write it: the magic, LF, comment lines, the width, a blank, the height, LF, the maxval, LF
+abbrev pub written_header : HeaderValues → List (List ℕ) → List ℕ
+written_header values comments =
+    magic_text values.plain
+    ++ ((10 ∷ flat_map comment_line comments) ++ (decimal values.width ++ (32 ∷ [] ++ (decimal values.height ++ (10 ∷ [] ++ (decimal values.maxval ++ 10 ∷ []))))))
 
 -- the bytes are a front of the text of a header, or the whole of it
 abbrev pub IsFront : List ℕ → Type 0

@@ -1,10 +1,12 @@
 -- What bytes mean, in the words of the format.
-use Rattle.std.specs.Prelude.{◌≡◌, ◌≢◌, ◌↔◌, ℕ, ◌+◌, ◌<◌, ◌≤◌, List, [], ◌++◌, length, take}
+use Rattle.std.specs.Prelude.{◌≡◌, ◌≢◌, ◌↔◌, ℕ, ◌^◌, ◌<◌, ◌≤◌, IsTrue, List, [], ◌++◌, length, take}
+use Rattle.std.specs.List.{list_all}
 use Rattle.mesh_defs.specs.HeightField.{side_of}
 use Rattle.pgm_header.specs.declared.machine.HeaderValues.{HeaderValues}
 use Rattle.pgm_header.specs.declared.accepted.Header.{Header}
+use Rattle.pgm_header.specs.declared.fault.HeaderFault.{HeaderFault}
 use Rattle.pgm_header.specs.declared.fault.HeaderFault.TheVariants.{BadMagic, BadHeader, HeaderTooLong, BadMaxval, NotSquare, BadSide}
-use Rattle.pgm_header.specs.HeaderText.{IsHeaderText, IsProperFront, IsUnfitAt, BeginsWithHeader}
+use Rattle.pgm_header.specs.HeaderText.{is_comment_text, IsHeaderText, written_header, IsProperFront, IsUnfitAt, BeginsWithHeader}
 use Rattle.pgm_header.specs.Accepted.{IsLevel, IsMaxval, Accepts, Part, Whole, Bad}
 use Rattle.pgm_header.specs.Reading.{header_of}
 
@@ -17,6 +19,11 @@ TextsAreRead = (text rest : List ℕ) (values : HeaderValues) (header : Header) 
 abbrev pub ReadTextsAreHeaders : Type 0
 ReadTextsAreHeaders = (bytes rest : List ℕ) (header : Header) → header_of bytes ≡ Whole header rest
     → (text : List ℕ) × (values : HeaderValues) × IsHeaderText text values × (length text ≤ 65536) × Accepts values header × (bytes ≡ text ++ rest)
+
+-- a header as programs write it is a header's text, with any comment lines
+abbrev pub WrittenHeadersAreTexts : Type 0
+WrittenHeadersAreTexts = (values : HeaderValues) (comments : List (List ℕ)) → values.width < 10 ^ 9 → values.height < 10 ^ 9 → values.maxval < 10 ^ 9
+    → IsTrue (list_all is_comment_text comments) → IsHeaderText (written_header values comments) values
 
 -- no header's text goes on as another, and none has two values
 abbrev pub NoTextGoesOn : Type 0
@@ -53,3 +60,11 @@ abbrev pub BadSidesAreRefused : Type 0
 BadSidesAreRefused = (bytes : List ℕ) → (header_of bytes ≡ Bad BadSide)
     ↔ ((values : HeaderValues) × BeginsWithHeader bytes values × IsMaxval values.maxval × (values.width ≡ values.height)
     × ((n : ℕ) → IsLevel n → values.width ≢ side_of n))
+
+-- no later byte changes a header that was read: it is left
+abbrev pub ReadHeadersStand : Type 0
+ReadHeadersStand = (bytes rest more : List ℕ) (header : Header) → header_of bytes ≡ Whole header rest → header_of (bytes ++ more) ≡ Whole header (rest ++ more)
+
+-- nor a refusal
+abbrev pub RefusalsStand : Type 0
+RefusalsStand = (bytes more : List ℕ) (fault : HeaderFault) → header_of bytes ≡ Bad fault → header_of (bytes ++ more) ≡ Bad fault

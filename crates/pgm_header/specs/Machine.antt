@@ -2,9 +2,8 @@
 -- in the format's own words what it reads.
 --
 -- Words: gap_step, number_ended, number_step, step_of, IsState, IsStep.
-use Rattle.std.specs.Prelude.{◌≡◌, ℕ, ◌+◌, ◌-◌, ◌*◌, ◌^◌, ◌<◌, ◌≤◌, Bool, true, false, ◌==◌, ◌&&◌, nat_lt, if◌then◌else◌, ⊤}
+use Rattle.std.specs.Prelude.{ℕ, ◌+◌, ◌-◌, ◌*◌, ◌^◌, ◌<◌, ◌≤◌, true, false, ◌==◌, ◌&&◌, nat_lt, if◌then◌else◌, ⊤}
 use Rattle.pgm_header.specs.HeaderText.{is_line_end, is_white, is_digit}
-use Rattle.pgm_header.specs.declared.machine.HeaderValues.{HeaderValues}
 use Rattle.pgm_header.specs.declared.machine.Fields.{Fields}
 use Rattle.pgm_header.specs.declared.machine.Fields.TheVariants as fields
 use Rattle.pgm_header.specs.declared.machine.State.{State}

@@ -1,4 +1,5 @@
-use Rattle.pgm_header.proofs.LawLemmas.{texts, read, prefix_free, parts, bad_magics, bad_headers, long_headers, bad_maxvals, oblongs, bad_sides}
+use Rattle.pgm_header.proofs.LawLemmas.{texts, read, prefix_free, parts, bad_magics, bad_headers, long_headers, bad_maxvals, oblongs, bad_sides, read_stands, refusal_stands}
+use Rattle.pgm_header.proofs.WrittenLemmas.{written}
 use Rattle.pgm_header.proofs.laws.header_laws.Goals as goal
 
 pub returns-clause-texts : goal.returns-clause-texts
@@ -30,3 +31,12 @@ returns-clause-not_square c = oblongs
 
 pub returns-clause-bad_side : goal.returns-clause-bad_side
 returns-clause-bad_side c = bad_sides
+
+pub returns-clause-written : goal.returns-clause-written
+returns-clause-written c = written
+
+pub returns-clause-read_stands : goal.returns-clause-read_stands
+returns-clause-read_stands c = read_stands
+
+pub returns-clause-refusal_stands : goal.returns-clause-refusal_stands
+returns-clause-refusal_stands c = refusal_stands

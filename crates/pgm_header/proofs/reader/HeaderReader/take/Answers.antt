@@ -1,8 +1,6 @@
-use Rattle.std.proofs.Common.{◌≡◌, ◌∙◌, List, ℕ, ◌∷◌, Ok, Err, sym, subst}
+use Rattle.std.proofs.Common.{◌≡◌, ◌∙◌, ◌∷◌, sym, subst}
 use Rattle.pgm_header.specs.declared.fault.HeaderFault.TheVariants.{HeaderTooLong}
-use Rattle.pgm_header.specs.declared.machine.Step.TheVariants.{Ends}
-use Rattle.pgm_header.specs.Accepted.{Whole, Bad, judged}
-use Rattle.pgm_header.specs.Machine.{step_of}
+use Rattle.pgm_header.specs.Accepted.{Whole, Bad}
 use Rattle.pgm_header.specs.Reading.{Progress, resume}
 use Rattle.pgm_header.specs.Inside.{progress_of}
 use Rattle.pgm_header.proofs.ReadingLemmas.{resume_long, resume_ends, resume_judged}
