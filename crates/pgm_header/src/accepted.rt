@@ -1,7 +1,7 @@
 //! The tests of a header's values.
 
-ghost use Rattle.std.specs.Prelude.{◌≡◌, OnOk, IfOk};
-ghost use Rattle.pgm_header.specs.Accepted.{level_of, judged, IsHeader, IsLevel};
+ghost use Rattle.std.specs.Prelude.{◌≡◌};
+ghost use Rattle.pgm_header.specs.Accepted.{level_of, judged};
 
 use crate::fault::HeaderFault;
 use crate::machine::HeaderValues;

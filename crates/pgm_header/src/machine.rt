@@ -1,6 +1,6 @@
 //! The header as a machine of bytes, without places and without a limit of length.
 
-ghost use Rattle.std.specs.Prelude.{◌≡◌, ◌<◌};
+ghost use Rattle.std.specs.Prelude.{◌≡◌};
 ghost use Rattle.pgm_header.specs.HeaderText.{is_white, is_line_end, is_digit};
 ghost use Rattle.pgm_header.specs.Machine.{step_of, gap_step, number_step, number_ended, IsState, IsStep};
 

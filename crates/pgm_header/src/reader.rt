@@ -1,6 +1,6 @@
 //! The reader of a header.
 
-ghost use Rattle.std.specs.Prelude.{◌≡◌, ◌≢◌, ◌+◌, ◌≤◌, [], ◌∷◌, List, ℕ, OnOk, IfOk, IfErr, IfSome, IfNone, OnErr, IsNone, IsSome, OnSome};
+ghost use Rattle.std.specs.Prelude.{◌≡◌, ◌+◌, ◌≤◌, [], ◌∷◌, List, ℕ, IfOk, IfErr, OnErr, IfSome, IfNone};
 ghost use Rattle.pgm_header.specs.Accepted.{IsHeader, Part, Whole, Bad};
 ghost use Rattle.pgm_header.specs.Reading.{resume, header_of, taken, unfit};
 
@@ -27,16 +27,15 @@ pub struct HeaderReader {
 }
 
 impl Model for HeaderReader {
-    ghost use Rattle.std.specs.Prelude.{◌≤◌};
     ghost use Rattle.pgm_header.specs.Reading.{Progress};
 
     ghost Value = { Progress };
 
     ghost use Rattle.pgm_header.specs.Inside.{progress_of, IsReader};
 
-    ghost view = { λ r. progress_of r };
+    ghost view = { progress_of };
 
-    ghost invariant = { λ r. IsReader r };
+    ghost invariant = { IsReader };
 }
 
 impl HeaderReader {
