@@ -1,0 +1,5 @@
+pub mod ReadingLemmas
+pub mod MachineLemmas
+pub mod AcceptedLemmas
+pub mod LawLemmas
+pub mod WrittenLemmas

@@ -1,0 +1,64 @@
+-- Facts about a reader: one byte, and then more.
+use Rattle.std.proofs.Common.{◌≡◌, ℕ, ◌+◌, List, [], ◌∷◌, Result, Ok, Err, refl, sym, ap, ◌∙◌, eq-eqb, ne_eqb}
+use Rattle.pgm_header.specs.declared.accepted.Header.{Header}
+use Rattle.pgm_header.specs.declared.fault.HeaderFault.{HeaderFault}
+use Rattle.pgm_header.specs.declared.fault.HeaderFault.TheVariants.{HeaderTooLong}
+use Rattle.pgm_header.specs.declared.machine.HeaderValues.{HeaderValues}
+use Rattle.pgm_header.specs.declared.machine.State.{State}
+use Rattle.pgm_header.specs.declared.machine.State.TheVariants.{Start}
+use Rattle.pgm_header.specs.declared.machine.Step.TheVariants.{Goes, Ends, Fails}
+use Rattle.pgm_header.specs.Accepted.{Part, Whole, Bad, judged}
+use Rattle.pgm_header.specs.Machine.{step_of}
+use Rattle.pgm_header.specs.Reading.{Progress, unfit, whole_answer, run, resume, header_of, taken}
+
+-- the header goes on
+pub run_goes : (s t : State) (place b : ℕ) (more : List ℕ) → step_of s b ≡ Goes t → (place ≡ 65535 → ⊥) → run (b ∷ more) s place ≡ run more t (place + 1)
+run_goes s t place b more e on = rw (e, ne_eqb place 65535 on) refl
+
+-- the header goes on where it may not
+pub run_long : (s t : State) (place b : ℕ) (more : List ℕ) → step_of s b ≡ Goes t → place ≡ 65535 → run (b ∷ more) s place ≡ Bad HeaderTooLong
+run_long s t place b more e last = rw (e, eq-eqb place 65535 last) refl
+
+-- the byte ends the header
+pub run_ends : (s : State) (v : HeaderValues) (place b : ℕ) (more : List ℕ) → step_of s b ≡ Ends v → run (b ∷ more) s place ≡ whole_answer (judged v) more
+run_ends s v place b more e = rw e refl
+
+-- the byte continues no header
+pub run_fails : (s : State) (place b : ℕ) (more : List ℕ) → step_of s b ≡ Fails → run (b ∷ more) s place ≡ Bad (unfit place)
+run_fails s place b more e = rw e refl
+
+-- The same of a reader as clauses see it.
+
+pub resume_goes : (p q : Progress) (b : ℕ) (more : List ℕ) → step_of p.state b ≡ Goes q.state → (p.place ≡ 65535 → ⊥) → q.place ≡ p.place + 1 → resume p (b ∷ more) ≡ resume q more
+unfolding resume
+resume_goes p q b more e on next = run_goes p.state q.state p.place b more e on ∙ ap (run more q.state) (sym next)
+
+pub resume_long : (p : Progress) (t : State) (b : ℕ) (more : List ℕ) → step_of p.state b ≡ Goes t → p.place ≡ 65535 → resume p (b ∷ more) ≡ Bad HeaderTooLong
+unfolding resume
+resume_long p t b more e last = run_long p.state t p.place b more e last
+
+pub resume_ends : (p : Progress) (v : HeaderValues) (h : Header) (b : ℕ) (more : List ℕ) → step_of p.state b ≡ Ends v → judged v ≡ Ok h → resume p (b ∷ more) ≡ Whole h more
+unfolding resume
+resume_ends p v h b more e fine = run_ends p.state v p.place b more e ∙ ap (λ (r : Result Header HeaderFault). whole_answer r more) fine
+
+pub resume_judged : (p : Progress) (v : HeaderValues) (f : HeaderFault) (b : ℕ) (more : List ℕ) → step_of p.state b ≡ Ends v → judged v ≡ Err f → resume p (b ∷ more) ≡ Bad f
+unfolding resume
+resume_judged p v f b more e bad = run_ends p.state v p.place b more e ∙ ap (λ (r : Result Header HeaderFault). whole_answer r more) bad
+
+pub resume_fails : (p : Progress) (b : ℕ) (more : List ℕ) → step_of p.state b ≡ Fails → resume p (b ∷ more) ≡ Bad (unfit p.place)
+unfolding resume
+resume_fails p b more e = run_fails p.state p.place b more e
+
+pub resume_none : (p : Progress) → resume p [] ≡ Part
+unfolding resume
+resume_none p = refl
+
+pub taken_place : (p : Progress) → taken p ≡ p.place
+unfolding taken
+taken_place p = refl
+
+pub resume_start : (more : List ℕ) → resume (record { state = Start; place = 0 }) more ≡ header_of more
+unfolding resume header_of
+resume_start more = refl
+
+pub ruleset reads = (resume_goes, resume_long, resume_ends, resume_judged, resume_fails, resume_none, taken_place, resume_start)

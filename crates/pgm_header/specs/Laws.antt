@@ -1,0 +1,70 @@
+-- What bytes mean, in the words of the format.
+use Rattle.std.specs.Prelude.{◌≡◌, ◌≢◌, ◌↔◌, ℕ, ◌^◌, ◌<◌, ◌≤◌, IsTrue, List, [], ◌++◌, length, take}
+use Rattle.std.specs.List.{list_all}
+use Rattle.mesh_defs.specs.HeightField.{side_of}
+use Rattle.pgm_header.specs.declared.machine.HeaderValues.{HeaderValues}
+use Rattle.pgm_header.specs.declared.accepted.Header.{Header}
+use Rattle.pgm_header.specs.declared.fault.HeaderFault.{HeaderFault}
+use Rattle.pgm_header.specs.declared.fault.HeaderFault.TheVariants.{BadMagic, BadHeader, HeaderTooLong, BadMaxval, NotSquare, BadSide}
+use Rattle.pgm_header.specs.HeaderText.{is_comment_text, IsHeaderText, written_header, IsProperFront, IsUnfitAt, BeginsWithHeader}
+use Rattle.pgm_header.specs.Accepted.{IsLevel, IsMaxval, Accepts, Part, Whole, Bad}
+use Rattle.pgm_header.specs.Reading.{header_of}
+
+-- a header's text of at most 65,536 bytes whose values are accepted is read, whatever follows
+abbrev pub TextsAreRead : Type 0
+TextsAreRead = (text rest : List ℕ) (values : HeaderValues) (header : Header) → IsHeaderText text values → length text ≤ 65536 → Accepts values header
+    → header_of (text ++ rest) ≡ Whole header rest
+
+-- what is read is such a text, and then what is left
+abbrev pub ReadTextsAreHeaders : Type 0
+ReadTextsAreHeaders = (bytes rest : List ℕ) (header : Header) → header_of bytes ≡ Whole header rest
+    → (text : List ℕ) × (values : HeaderValues) × IsHeaderText text values × (length text ≤ 65536) × Accepts values header × (bytes ≡ text ++ rest)
+
+-- a header as programs write it is a header's text, with any comment lines
+abbrev pub WrittenHeadersAreTexts : Type 0
+WrittenHeadersAreTexts = (values : HeaderValues) (comments : List (List ℕ)) → values.width < 10 ^ 9 → values.height < 10 ^ 9 → values.maxval < 10 ^ 9
+    → IsTrue (list_all is_comment_text comments) → IsHeaderText (written_header values comments) values
+
+-- no header's text goes on as another, and none has two values
+abbrev pub NoTextGoesOn : Type 0
+NoTextGoesOn = (text more : List ℕ) (values others : HeaderValues) → IsHeaderText text values → IsHeaderText (text ++ more) others
+    → (more ≡ []) × (others ≡ values)
+
+-- bytes are a part of a header exactly where they are a proper front of one, and fewer than 65,536
+abbrev pub PartsAreFronts : Type 0
+PartsAreFronts = (bytes : List ℕ) → (header_of bytes ≡ Part) ↔ (IsProperFront bytes × (length bytes < 65536))
+
+-- a bad magic is answered exactly where the first or the second byte continues no header
+abbrev pub BadMagicsAreRefused : Type 0
+BadMagicsAreRefused = (bytes : List ℕ) → (header_of bytes ≡ Bad BadMagic) ↔ ((place : ℕ) × (place < 2) × IsUnfitAt bytes place)
+
+-- a bad header is answered exactly at the place of a later byte that continues none
+abbrev pub BadHeadersAreRefused : Type 0
+BadHeadersAreRefused = (bytes : List ℕ) (place : ℕ) → (header_of bytes ≡ Bad (BadHeader place)) ↔ ((2 ≤ place) × (place < 65536) × IsUnfitAt bytes place)
+
+-- a header is too long exactly where 65,536 bytes are a proper front of one
+abbrev pub LongHeadersAreRefused : Type 0
+LongHeadersAreRefused = (bytes : List ℕ) → (header_of bytes ≡ Bad HeaderTooLong) ↔ ((65536 ≤ length bytes) × IsProperFront (take 65536 bytes))
+
+-- the maxval is tested first
+abbrev pub BadMaxvalsAreRefused : Type 0
+BadMaxvalsAreRefused = (bytes : List ℕ) → (header_of bytes ≡ Bad BadMaxval) ↔ ((values : HeaderValues) × BeginsWithHeader bytes values × ¬ IsMaxval values.maxval)
+
+-- then the width and the height
+abbrev pub OblongsAreRefused : Type 0
+OblongsAreRefused = (bytes : List ℕ) → (header_of bytes ≡ Bad NotSquare)
+    ↔ ((values : HeaderValues) × BeginsWithHeader bytes values × IsMaxval values.maxval × (values.width ≢ values.height))
+
+-- and then the side
+abbrev pub BadSidesAreRefused : Type 0
+BadSidesAreRefused = (bytes : List ℕ) → (header_of bytes ≡ Bad BadSide)
+    ↔ ((values : HeaderValues) × BeginsWithHeader bytes values × IsMaxval values.maxval × (values.width ≡ values.height)
+    × ((n : ℕ) → IsLevel n → values.width ≢ side_of n))
+
+-- no later byte changes a header that was read: it is left
+abbrev pub ReadHeadersStand : Type 0
+ReadHeadersStand = (bytes rest more : List ℕ) (header : Header) → header_of bytes ≡ Whole header rest → header_of (bytes ++ more) ≡ Whole header (rest ++ more)
+
+-- nor a refusal
+abbrev pub RefusalsStand : Type 0
+RefusalsStand = (bytes more : List ℕ) (fault : HeaderFault) → header_of bytes ≡ Bad fault → header_of (bytes ++ more) ≡ Bad fault

@@ -1,0 +1,101 @@
+//! The reader of a header.
+
+ghost use Rattle.std.specs.Prelude.{◌≡◌, ◌+◌, ◌≤◌, [], ◌∷◌, List, ℕ, IfOk, IfErr, OnErr, IfSome, IfNone};
+ghost use Rattle.pgm_header.specs.Accepted.{IsHeader, Part, Whole, Bad};
+ghost use Rattle.pgm_header.specs.Reading.{resume, header_of, taken, unfit};
+
+use crate::accepted::{Header, judge};
+use crate::fault::HeaderFault;
+use crate::machine::{State, Step, step_from};
+use std::marker::Model;
+
+/// The place of the last byte that a header may have: it has at most 65,536 bytes.
+const LAST_PLACE: u32 = 65535;
+
+/// A reader of the bytes of a PGM file's header, one after the other.
+///
+/// A byte that ends the header or is refused leaves it as it was.
+/// Cost (not proved): a few steps a byte; takes no memory.
+/// Source: Netpbm manual, "pgm"; where comments may stand, the one byte after the maxval and the limits
+/// are this project's own.
+#[derive(Drop)]
+pub struct HeaderReader {
+    /// What the bytes so far have come to.
+    state: State,
+    /// The place of the next byte.
+    place: u32,
+}
+
+impl Model for HeaderReader {
+    ghost use Rattle.pgm_header.specs.Reading.{Progress};
+
+    ghost Value = { Progress };
+
+    ghost use Rattle.pgm_header.specs.Inside.{progress_of, IsReader};
+
+    ghost view = { progress_of };
+
+    ghost invariant = { IsReader };
+}
+
+impl HeaderReader {
+    /// A reader that has taken no byte.
+    #[tactic(auto, using(crate::proofs::ReadingLemmas::reads))]
+    pub fn new() -> HeaderReader
+        ensures value { (more : List ℕ) → resume result more ≡ header_of more }
+        ensures count { taken result ≡ 0 }
+    {
+        HeaderReader {
+            state: State::Start,
+            place: 0,
+        }
+    }
+
+    /// Takes the next byte. `None`: the header goes on. A header: the byte ended it.
+    #[tactic(auto, using(crate::proofs::ReadingLemmas::reads))]
+    pub fn take(&mut self, byte: u8) -> Result<Option<Header>, HeaderFault>
+        // What the bytes mean together is not changed by taking them one by one.
+        ensures goes_on { IfOk result (λ ended. IfNone ended
+            ((more : List ℕ) → resume self.old (byte ∷ more) ≡ resume self.new more)) }
+        // No byte so far is refused, or ends the header.
+        ensures part { IfOk result (λ ended. IfNone ended (resume self.new [] ≡ Part)) }
+        ensures count { IfOk result (λ ended. IfNone ended (taken self.new ≡ taken self.old + 1)) }
+        ensures limit { IfOk result (λ ended. IfNone ended (taken self.new ≤ 65535)) }
+        // The header is that of the text, whatever follows, and what follows is left.
+        ensures ends { IfOk result (λ ended. IfSome ended (λ header.
+            (more : List ℕ) → resume self.old (byte ∷ more) ≡ Whole header more)) }
+        ensures accepted { IfOk result (λ ended. IfSome ended IsHeader) }
+        // The refusal is that of the text, whatever follows.
+        ensures refusal { IfErr result (λ fault.
+            (more : List ℕ) → resume self.old (byte ∷ more) ≡ Bad fault) }
+        ensures ended_same { IfOk result (λ ended. IfSome ended (λ _. self.new ≡ self.old)) }
+        ensures err_same { OnErr result (self.new ≡ self.old) }
+    {
+        match step_from(self.state, byte) {
+            Step::Goes(state) => {
+                if self.place == LAST_PLACE {
+                    return Err(HeaderFault::HeaderTooLong);
+                }
+                self.state = state;
+                self.place += 1;
+                Ok(None)
+            }
+            Step::Ends(values) => match judge(values) {
+                Ok(header) => Ok(Some(header)),
+                Err(fault) => Err(fault),
+            },
+            Step::Fails => Err(unfit_at(self.place)),
+        }
+    }
+}
+
+/// The refusal of a byte at this place that continues no header.
+fn unfit_at(place: u32) -> HeaderFault
+    ensures { result ≡ unfit place }
+{
+    if place < 2 {
+        HeaderFault::BadMagic
+    } else {
+        HeaderFault::BadHeader { at: place as u64 }
+    }
+}
