@@ -1,0 +1,3 @@
+pub mod RasterLemmas
+pub mod PlainLemmas
+pub mod ReaderLemmas

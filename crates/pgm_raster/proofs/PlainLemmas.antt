@@ -1,0 +1,32 @@
+-- Facts about the digits of samples.
+use Rattle.std.proofs.Common.{◌≡◌, ℕ, zero, suc, ◌+◌, ◌-◌, ◌*◌, ◌^◌, ◌<◌, ◌≤◌, Bool, true, false, ◌&&◌, List, [], ◌∷◌, ◌++◌, length, take, drop, get_or, Result, Ok, Err, refl, sym, ap, ap₂, ◌∙◌, subst, arith, lit<, IfErr, IsErrAnd}
+use Rattle.std.specs.Char.{is_ascii_digit}
+use Rattle.std.proofs.Math.Nat.{pow-le-pow_right}
+use Rattle.std.proofs.lemmas.List.{drop_more, drop_all}
+use Rattle.std.proofs.lemmas.Bool.{lt-ltb, le-ltb, cond-true, cond-false, and_left, and_right, and_from}
+use Rattle.pgm_raster.specs.declared.fault.RasterFault.{RasterFault}
+use Rattle.pgm_raster.specs.declared.fault.RasterFault.TheVariants.{BadSample, AboveMaxval, Trailing}
+use Rattle.pgm_raster.specs.declared.part.Limits.{Limits}
+use Rattle.pgm_raster.specs.declared.part.Digits.{Digits}
+use Rattle.pgm_raster.specs.Progress.{Answer, after, sample_then, ended_then, end_at, is_space, no_digits, with_digit, plain_from}
+
+pub plain-space : (l : Limits) (index : ℕ) (digits : Digits) (at byte : ℕ) (more : List ℕ) → is_space byte ≡ true → plain_from l index digits at (byte ∷ more) ≡ ended_then l index digits (λ i. plain_from l i no_digits (at + 1) more)
+plain-space l index digits at byte more space = cond-true _ _ _ space
+
+pub plain-full : (l : Limits) (index : ℕ) (digits : Digits) (at byte : ℕ) (more : List ℕ) → is_space byte ≡ false → l.count ≤ index → plain_from l index digits at (byte ∷ more) ≡ Err (Trailing at)
+plain-full l index digits at byte more space full = cond-false _ _ _ space ∙ cond-false _ _ _ (le-ltb index l.count full)
+
+pub plain-digit : (l : Limits) (index : ℕ) (digits : Digits) (at byte : ℕ) (more : List ℕ) → is_space byte ≡ false → index < l.count → is_ascii_digit byte ≡ true → digits.count < 9 → plain_from l index digits at (byte ∷ more) ≡ plain_from l index (with_digit digits byte) (at + 1) more
+plain-digit l index digits at byte more space wanted digit short =
+    cond-false _ _ _ space ∙ cond-true _ _ _ (lt-ltb index l.count wanted) ∙ cond-true _ _ _ (and_from _ _ digit (lt-ltb digits.count 9 short))
+
+-- at most eight digits leave room for one more
+pub eight_digits : (count value : ℕ) → count < 9 → value < 10 ^ count → value < 10 ^ 8
+eight_digits count value short small =
+    let size : count ≤ 8 = omega arith in
+    let top : 10 ^ count ≤ 10 ^ 8 = pow-le-pow_right (lit< tt) size in
+    omega (arith, small, top)
+
+-- one more byte of a list
+pub drop-step : (bytes : List ℕ) (i : ℕ) (more : List ℕ) → i < length bytes → drop i bytes ++ more ≡ get_or bytes i 0 ∷ (drop (i + 1) bytes ++ more)
+drop-step bytes i more below = ap (λ (s : List ℕ). s ++ more) (drop_more bytes i 0 below)
