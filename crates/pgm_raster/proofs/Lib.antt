@@ -1,3 +1,4 @@
 pub mod RasterLemmas
 pub mod PlainLemmas
 pub mod ReaderLemmas
+pub mod LawLemmas

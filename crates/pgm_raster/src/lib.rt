@@ -10,6 +10,7 @@
 mod bulk;
 mod fault;
 mod form;
+mod laws;
 mod part;
 mod plain;
 mod raw;
@@ -19,4 +20,5 @@ mod tests;
 
 pub use fault::RasterFault;
 pub use form::RasterForm;
+pub use laws::raster_laws;
 pub use reader::RasterReader;
