@@ -40,8 +40,14 @@ raster-append Bytes a b p q x y = ended-append Bytes a b p q x y
 raster-append Words a b p q x y = ended-append Words a b p q x y
 raster-append Plain a b p q x (inl y) = inl (ended_texts-append a b p q x y)
 raster-append Plain a b p q x (inr y) = inr (
-  a ++ y.0, y.1, p ++ y.2, y.3, ap (λ (s : List ℕ). a ++ s) y.4 ∙ sym (append_assoc a y.0 (y.1 ∷ [])), ap (λ (s : List ℕ). p ++ s) y.5 ∙ sym (append_assoc p y.2 y.3),
-  ended_texts-append a y.0 p y.2 x y.6, y.7,
+  a ++ y.0,
+  y.1,
+  p ++ y.2,
+  y.3,
+  ap (λ (s : List ℕ). a ++ s) y.4 ∙ sym (append_assoc a y.0 (y.1 ∷ [])),
+  ap (λ (s : List ℕ). p ++ s) y.5 ∙ sym (append_assoc p y.2 y.3),
+  ended_texts-append a y.0 p y.2 x y.6,
+  y.7,
 )
 
 -- no samples in no bytes
@@ -84,49 +90,62 @@ told-more f l index at vs p rest (Err Truncated) ended fits room w = record {
   bound = All-append (λ h. h ≤ l.maxval) vs w.samples fits w.bound;
   fewer = omega (arith, length-append vs w.samples, w.fewer);
 }
-told-more f l index at vs p rest (Err (Trailing k)) ended fits room w = (length p + w.0, omega (arith, w.1), record {
-  samples = vs ++ w.2.samples;
-  front = p ++ w.2.front;
-  byte = w.2.byte;
-  more = w.2.more;
-  whole = ap (λ (s : List ℕ). p ++ s) w.2.whole ∙ sym (append_assoc p w.2.front (w.2.byte ∷ w.2.more));
-  at = omega (arith, length-append p w.2.front, w.2.at);
-  ended = ended-append f vs w.2.samples p w.2.front ended w.2.ended;
-  stray = w.2.stray;
-  bound = All-append (λ h. h ≤ l.maxval) vs w.2.samples fits w.2.bound;
-  all = omega (arith, length-append vs w.2.samples, w.2.all);
-})
-told-more f l index at vs p rest (Err (AboveMaxval k)) ended fits room w = (length vs + w.0, omega (arith, w.1), record {
-  samples = vs ++ w.2.samples;
-  front = p ++ w.2.front;
-  sample = w.2.sample;
-  text = w.2.text;
-  more = w.2.more;
-  whole = ap (λ (s : List ℕ). p ++ s) w.2.whole ∙ sym (append_assoc p w.2.front (w.2.text ++ w.2.more));
-  at = omega (arith, length-append vs w.2.samples, w.2.at);
-  ended = ended-append f vs w.2.samples p w.2.front ended w.2.ended;
-  next = w.2.next;
-  ends = w.2.ends;
-  bound = All-append (λ h. h ≤ l.maxval) vs w.2.samples fits w.2.bound;
-  above = w.2.above;
-  wanted = omega (arith, length-append vs w.2.samples, w.2.wanted);
-})
-told-more f l index at vs p rest (Err (BadSample k)) ended fits room w = (w.0, length p + w.1, omega (arith, w.2), record {
-  samples = vs ++ w.3.samples;
-  front = p ++ w.3.front;
-  digits = w.3.digits;
-  byte = w.3.byte;
-  more = w.3.more;
-  whole = ap (λ (s : List ℕ). p ++ s) w.3.whole ∙ sym (append_assoc p w.3.front (w.3.digits ++ w.3.byte ∷ w.3.more));
-  at = omega (arith, length-append p w.3.front, w.3.at);
-  ended = ended_texts-append vs w.3.samples p w.3.front (subst (λ (k : RasterForm). AreEnded k vs p) w.0 ended) w.3.ended;
-  short = w.3.short;
-  are = w.3.are;
-  no_space = w.3.no_space;
-  bad = w.3.bad;
-  bound = All-append (λ h. h ≤ l.maxval) vs w.3.samples fits w.3.bound;
-  wanted = omega (arith, length-append vs w.3.samples, w.3.wanted);
-})
+told-more f l index at vs p rest (Err (Trailing k)) ended fits room w = (
+  length p + w.0,
+  omega (arith, w.1),
+  record {
+    samples = vs ++ w.2.samples;
+    front = p ++ w.2.front;
+    byte = w.2.byte;
+    more = w.2.more;
+    whole = ap (λ (s : List ℕ). p ++ s) w.2.whole ∙ sym (append_assoc p w.2.front (w.2.byte ∷ w.2.more));
+    at = omega (arith, length-append p w.2.front, w.2.at);
+    ended = ended-append f vs w.2.samples p w.2.front ended w.2.ended;
+    stray = w.2.stray;
+    bound = All-append (λ h. h ≤ l.maxval) vs w.2.samples fits w.2.bound;
+    all = omega (arith, length-append vs w.2.samples, w.2.all);
+  },
+)
+told-more f l index at vs p rest (Err (AboveMaxval k)) ended fits room w = (
+  length vs + w.0,
+  omega (arith, w.1),
+  record {
+    samples = vs ++ w.2.samples;
+    front = p ++ w.2.front;
+    sample = w.2.sample;
+    text = w.2.text;
+    more = w.2.more;
+    whole = ap (λ (s : List ℕ). p ++ s) w.2.whole ∙ sym (append_assoc p w.2.front (w.2.text ++ w.2.more));
+    at = omega (arith, length-append vs w.2.samples, w.2.at);
+    ended = ended-append f vs w.2.samples p w.2.front ended w.2.ended;
+    next = w.2.next;
+    ends = w.2.ends;
+    bound = All-append (λ h. h ≤ l.maxval) vs w.2.samples fits w.2.bound;
+    above = w.2.above;
+    wanted = omega (arith, length-append vs w.2.samples, w.2.wanted);
+  },
+)
+told-more f l index at vs p rest (Err (BadSample k)) ended fits room w = (
+  w.0,
+  length p + w.1,
+  omega (arith, w.2),
+  record {
+    samples = vs ++ w.3.samples;
+    front = p ++ w.3.front;
+    digits = w.3.digits;
+    byte = w.3.byte;
+    more = w.3.more;
+    whole = ap (λ (s : List ℕ). p ++ s) w.3.whole ∙ sym (append_assoc p w.3.front (w.3.digits ++ w.3.byte ∷ w.3.more));
+    at = omega (arith, length-append p w.3.front, w.3.at);
+    ended = ended_texts-append vs w.3.samples p w.3.front (subst (λ (k : RasterForm). AreEnded k vs p) w.0 ended) w.3.ended;
+    short = w.3.short;
+    are = w.3.are;
+    no_space = w.3.no_space;
+    bad = w.3.bad;
+    bound = All-append (λ h. h ≤ l.maxval) vs w.3.samples fits w.3.bound;
+    wanted = omega (arith, length-append vs w.3.samples, w.3.wanted);
+  },
+)
 
 -- ---- one sample, or the end
 
@@ -142,7 +161,10 @@ told-sample : (f : RasterForm) (l : Limits) (index at sample : ℕ) (text p rest
     → (more : List ℕ) → p ++ rest ≡ text ++ more → EndsThere f more → Told f l (index + 1) (at + length p) rest r → Told f l index at (p ++ rest) (sample_then l index sample r)
 told-sample f l index at sample text p rest r wanted is ended more whole ends w =
     elim (cases_lt l.maxval sample) as (λ _. Told f l index at (p ++ rest) (sample_then l index sample r)) [
-      | inl above ↦ subst (Told f l index at (p ++ rest)) (sym (sample-refused l index sample r above)) (0, omega arith, record {
+      | inl above ↦ subst (Told f l index at (p ++ rest)) (sym (sample-refused l index sample r above)) (
+        0,
+        omega arith,
+        record {
           samples = [];
           front = [];
           sample = sample;
@@ -156,24 +178,29 @@ told-sample f l index at sample text p rest r wanted is ended more whole ends w 
           bound = All-nil (λ h. h ≤ l.maxval);
           above = above;
           wanted = omega arith;
-        })
+        },
+      )
       | inr fits ↦ subst (Told f l index at (p ++ rest)) (sym (sample-passed l index sample r fits))
           (told-more f l index at (sample ∷ []) p rest r ended (All-cons (λ h. h ≤ l.maxval) sample [] fits (All-nil (λ h. h ≤ l.maxval))) (omega arith) w)
     ]
 
 told-trailing : (f : RasterForm) (l : Limits) (index at byte : ℕ) (more : List ℕ) → index ≡ l.count → IsStray f byte → Told f l index at (byte ∷ more) (Err (Trailing at))
-told-trailing f l index at byte more full stray = (0, omega arith, record {
-  samples = [];
-  front = [];
-  byte = byte;
-  more = more;
-  whole = refl;
-  at = refl;
-  ended = nothing-ended f;
-  stray = stray;
-  bound = All-nil (λ h. h ≤ l.maxval);
-  all = omega arith;
-})
+told-trailing f l index at byte more full stray = (
+  0,
+  omega arith,
+  record {
+    samples = [];
+    front = [];
+    byte = byte;
+    more = more;
+    whole = refl;
+    at = refl;
+    ended = nothing-ended f;
+    stray = stray;
+    bound = All-nil (λ h. h ≤ l.maxval);
+    all = omega arith;
+  },
+)
 
 -- ---- what the bytes of a raw raster are
 
@@ -284,6 +311,7 @@ plain-end l index at (digit ∷ text) room are short wanted =
   where
     open_end : (t : List ℕ) → IsSampleText t (value_of t) → IsRaster Plain (value_of t ∷ []) t
     open_end t is = inr ([], value_of t, [], t, refl, refl, All-nil IsSpace, is)
+
     whole : (t : List ℕ) → IsSampleText t (value_of t) → index < l.count → value_of t ≤ l.maxval → Told Plain l index at t (after (value_of t ∷ []) (end_at l (index + 1)))
     whole t is less fits =
         let bound : All (λ h. h ≤ l.maxval) (value_of t ∷ []) = All-cons (λ h. h ≤ l.maxval) (value_of t) [] fits (All-nil (λ h. h ≤ l.maxval)) in
@@ -293,11 +321,15 @@ plain-end l index at (digit ∷ text) room are short wanted =
           | inr all ↦ subst (λ (r : Answer). Told Plain l index at t (after (value_of t ∷ []) r)) (sym (cond-false _ _ _ (le-ltb (index + 1) l.count all)))
               (open_end t is, omega arith, bound)
         ]
+
     last : (t : List ℕ) → IsSampleText t (value_of t) → index < l.count → Told Plain l index at (t ++ []) (sample_then l index (value_of t) (end_at l (index + 1)))
     last t is less =
         subst (λ (s : List ℕ). Told Plain l index at s (sample_then l index (value_of t) (end_at l (index + 1)))) (sym (append-nil t))
         (elim (cases_lt l.maxval (value_of t)) as (λ _. Told Plain l index at t (sample_then l index (value_of t) (end_at l (index + 1)))) [
-          | inl above ↦ subst (Told Plain l index at t) (sym (sample-refused l index (value_of t) (end_at l (index + 1)) above)) (0, omega arith, record {
+          | inl above ↦ subst (Told Plain l index at t) (sym (sample-refused l index (value_of t) (end_at l (index + 1)) above)) (
+            0,
+            omega arith,
+            record {
               samples = [];
               front = [];
               sample = value_of t;
@@ -311,7 +343,8 @@ plain-end l index at (digit ∷ text) room are short wanted =
               bound = All-nil (λ h. h ≤ l.maxval);
               above = above;
               wanted = omega arith;
-            })
+            },
+          )
           | inr fits ↦ subst (Told Plain l index at t) (sym (sample-passed l index (value_of t) (end_at l (index + 1)) fits)) (whole t is less fits)
         ])
 
@@ -358,22 +391,27 @@ plain-other l byte more again space index at text wanted are short =
   where
     refusing : (IsDigit byte → ⊥) ⊎ (length text ≡ 9) → (is_ascii_digit byte && nat_lt (length text) 9) ≡ false → Told Plain l index at (text ++ byte ∷ more) (plain_from l index (digits_of text) (at + length text) (byte ∷ more))
     refusing why test =
-        subst (Told Plain l index at (text ++ byte ∷ more)) (sym (cond-false _ _ _ space ∙ cond-true _ _ _ (lt-ltb index l.count wanted) ∙ cond-false _ _ _ test)) (refl, length text, refl, record {
-          samples = [];
-          front = [];
-          digits = text;
-          byte = byte;
-          more = more;
-          whole = refl;
-          at = omega arith;
-          ended = All-nil IsSpace;
-          short = short;
-          are = are;
-          no_space = space-no byte space;
-          bad = why;
-          bound = All-nil (λ h. h ≤ l.maxval);
-          wanted = omega arith;
-        })
+        subst (Told Plain l index at (text ++ byte ∷ more)) (sym (cond-false _ _ _ space ∙ cond-true _ _ _ (lt-ltb index l.count wanted) ∙ cond-false _ _ _ test)) (
+          refl,
+          length text,
+          refl,
+          record {
+            samples = [];
+            front = [];
+            digits = text;
+            byte = byte;
+            more = more;
+            whole = refl;
+            at = omega arith;
+            ended = All-nil IsSpace;
+            short = short;
+            are = are;
+            no_space = space-no byte space;
+            bad = why;
+            bound = All-nil (λ h. h ≤ l.maxval);
+            wanted = omega arith;
+          },
+        )
 
 plain-behind : (l : Limits) (byte : ℕ) (more : List ℕ) → PlainTold l more → is_space byte ≡ false → (index at : ℕ) (text : List ℕ) → index ≤ l.count → All IsDigit text → length text ≤ 9 → (0 < length text → index < l.count)
     → Told Plain l index at (text ++ byte ∷ more) (plain_from l index (digits_of text) (at + length text) (byte ∷ more))
@@ -497,9 +535,9 @@ raster-read Plain l samples bytes index at (inr x) room all =
     ap (plain_from l index no_digits at) (x.5 ∙ ap (λ (t : List ℕ). x.2 ++ t) (sym (append-nil x.3)))
     ∙ plain-read l x.0 x.2 index at (x.3 ++ []) x.6 (omega arith) (All-front (λ h. h ≤ l.maxval) x.0 (x.1 ∷ []) bound)
     ∙ ap (after x.0) (
-      digits-read l x.3 [] (index + length x.0) (at + length x.2) [] (omega arith) x.7.digits (omega (arith, x.7.short))
-      ∙ text-last l x.3 x.1 (index + length x.0) (at + length x.2 + length x.3) x.7
-      ∙ sample-passed l (index + length x.0) x.1 (end_at l (index + length x.0 + 1)) (All-head (λ h. h ≤ l.maxval) x.1 [] (All-back (λ h. h ≤ l.maxval) x.0 (x.1 ∷ []) bound))
+    digits-read l x.3 [] (index + length x.0) (at + length x.2) [] (omega arith) x.7.digits (omega (arith, x.7.short))
+    ∙ text-last l x.3 x.1 (index + length x.0) (at + length x.2 + length x.3) x.7
+    ∙ sample-passed l (index + length x.0) x.1 (end_at l (index + length x.0 + 1)) (All-head (λ h. h ≤ l.maxval) x.1 [] (All-back (λ h. h ≤ l.maxval) x.0 (x.1 ∷ []) bound))
     )
     ∙ sym (after-append x.0 (x.1 ∷ []) (end_at l (index + length x.0 + 1)))
     ∙ ap₂ (λ (s : List ℕ) (k : ℕ). after s (end_at l k)) (sym x.4) i
@@ -571,13 +609,14 @@ bad-read l bytes at place p e w =
     let here : at + length w.front + length w.digits ≡ p = omega (arith, w.at) in
     ap (plain_from l 0 no_digits at) w.whole ∙ plain-read l w.samples w.front 0 at (w.digits ++ w.byte ∷ w.more) w.ended (omega (arith, w.wanted)) w.bound
     ∙ ap (after w.samples) (
-      digits-read l w.digits [] (0 + length w.samples) (at + length w.front) (w.byte ∷ w.more) (omega (arith, w.wanted)) w.are (omega (arith, w.short))
-      ∙ cond-false _ _ _ (space-isnt w.byte w.no_space) ∙ cond-true _ _ _ (lt-ltb (0 + length w.samples) l.count (omega (arith, w.wanted))) ∙ cond-false _ _ _ (test w.bad)
+    digits-read l w.digits [] (0 + length w.samples) (at + length w.front) (w.byte ∷ w.more) (omega (arith, w.wanted)) w.are (omega (arith, w.short))
+    ∙ cond-false _ _ _ (space-isnt w.byte w.no_space) ∙ cond-true _ _ _ (lt-ltb (0 + length w.samples) l.count (omega (arith, w.wanted))) ∙ cond-false _ _ _ (test w.bad)
     )
     ∙ ap (λ (k : ℕ). err_at k) here
   where
     err_at : ℕ → Answer
     err_at k = Err (BadSample k)
+
     test : (IsDigit w.byte → ⊥) ⊎ (length w.digits ≡ 9) → (is_ascii_digit w.byte && nat_lt (length w.digits) 9) ≡ false
     test (inl other) = and_left _ _ (digit-isnt w.byte other)
     test (inr nine) = and_right (is_ascii_digit w.byte) _ (le-ltb (length w.digits) 9 (omega arith))

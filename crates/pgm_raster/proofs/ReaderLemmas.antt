@@ -113,3 +113,10 @@ finished-err l old part self at (Err f) e h = e [] ∙ h at
 
 pub settled-by : (self : Progress) (fault : RasterFault) → self ≡ HasRefused fault → IsSettled self fault
 settled-by self fault e = subst (λ (p : Progress). IsSettled p fault) (sym e) (refused-settled fault)
+
+pub place-refused : (fault : RasterFault) → next_place (HasRefused fault) ≡ 0
+unfolding next_place
+place-refused fault = refl
+
+pub closed-place : (r : Inside) (self : Progress) (fault : RasterFault) → progress_of r.refused (Reading r.limits r.heights.items r.part r.at) ≡ self → r.refused ≡ Some fault → next_place self ≡ 0
+closed-place r self fault v e = ap next_place (closed r self fault v e) ∙ place-refused fault

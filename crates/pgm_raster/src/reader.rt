@@ -74,6 +74,16 @@ impl RasterReader {
         })
     }
 
+    /// The place of the next byte in the file, and 0 after a refusal.
+    pub fn place(&self) -> u64
+        ensures value { result ≡ next_place self.now }
+    {
+        match self.refused {
+            Some(_) => 0,
+            None => self.at,
+        }
+    }
+
     /// Takes further bytes of the file.
     ///
     /// A refusal comes with the piece that brings the byte that is refused.
