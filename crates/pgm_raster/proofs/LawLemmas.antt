@@ -19,7 +19,7 @@ use Rattle.pgm_raster.specs.RasterText.{two_bytes, IsSpace, IsDigit, value_of, I
 use Rattle.pgm_raster.specs.Progress.{Answer, after, sample_then, samples_then, end_at, bytes_from, words_from, is_space, no_digits, with_digit, ended_then, plain_from, rest_of, nothing_of, raster_of}
 use Rattle.pgm_raster.specs.Laws.{RastersAreRead, ReadBytesAreRasters, CutRastersAreRefused, TrailingBytesAreRefused, GreatSamplesAreRefused, BadSamplesAreRefused}
 use Rattle.pgm_raster.proofs.RasterLemmas.{after-append, after-nil, sample-passed, sample-refused, samples-passed, bytes-samples, words-samples}
-use Rattle.pgm_raster.proofs.PlainLemmas.{plain-space, plain-full, plain-digit}
+use Rattle.pgm_raster.proofs.PlainLemmas.{by_test, space-yes, space-no, space-is, space-isnt, digit-yes, digit-no, digit-is, digit-isnt, digit-no_space, plain-space, plain-full, plain-digit}
 
 -- ---- texts that are joined
 
@@ -240,46 +240,6 @@ words-told l (high ∷ low ∷ more) index at room all =
     ]
 
 -- ---- what the bytes of a plain raster are
-
-by_test : {P : Type 0} → (b : Bool) → (b ≡ true → P) → (b ≡ false → P) → P
-by_test true at_true at_false = at_true refl
-by_test false at_true at_false = at_false refl
-
-space-yes : (byte : ℕ) → is_space byte ≡ true → IsSpace byte
-space-yes byte h = grind (arith, nat_tests)
-
-space-no : (byte : ℕ) → is_space byte ≡ false → IsSpace byte → ⊥
-space-no byte h is = grind (arith, nat_tests)
-
-space-is : (byte : ℕ) → IsSpace byte → is_space byte ≡ true
-space-is byte (inl e) = ap is_space e
-space-is byte (inr (inl e)) = ap is_space e
-space-is byte (inr (inr (inl e))) = ap is_space e
-space-is byte (inr (inr (inr e))) = ap is_space e
-
-space-isnt : (byte : ℕ) → (IsSpace byte → ⊥) → is_space byte ≡ false
-space-isnt byte h = by_test (is_space byte) (λ yes. absurd (h (space-yes byte yes))) (λ no. no)
-
-digit-yes : (byte : ℕ) → is_ascii_digit byte ≡ true → IsDigit byte
-digit-yes byte h = grind arith
-
-digit-no : (byte : ℕ) → is_ascii_digit byte ≡ false → IsDigit byte → ⊥
-digit-no byte h is = grind arith
-
-digit-is : (byte : ℕ) → IsDigit byte → is_ascii_digit byte ≡ true
-digit-is byte h = grind arith
-
-digit-isnt : (byte : ℕ) → (IsDigit byte → ⊥) → is_ascii_digit byte ≡ false
-digit-isnt byte h = by_test (is_ascii_digit byte) (λ yes. absurd (h (digit-yes byte yes))) (λ no. no)
-
-digit-no_space : (byte : ℕ) → IsDigit byte → is_space byte ≡ false
-digit-no_space byte h = space-isnt byte (λ s. no s)
-  where
-    no : IsSpace byte → ⊥
-    no (inl e) = omega arith
-    no (inr (inl e)) = omega arith
-    no (inr (inr (inl e))) = omega arith
-    no (inr (inr (inr e))) = omega arith
 
 -- one more digit
 value-push : (text : List ℕ) (byte : ℕ) → value_of (text ++ byte ∷ []) ≡ 10 * value_of text + (byte - 48)

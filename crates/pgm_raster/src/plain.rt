@@ -72,20 +72,21 @@ fn plain_step(
     ensures valid { OnOk result (HasRoom limits heights.new) }
     ensures part { IfOk result (λ next. IsPart limits (vec_len heights.new) (part.Plain next)) }
 {
+    let wanted = heights.len() < limits.count;
+    if byte.is_ascii_digit() && wanted && digits.count < LONGEST {
+        return Ok(Digits {
+            count: digits.count + 1,
+            value: 10 * digits.value + u32::from(byte - b'0'),
+        });
+    }
     if is_whitespace(byte) {
         end_digits(heights, limits, digits)?;
         return Ok(Digits::NONE);
     }
-    if heights.len() >= limits.count {
-        return Err(RasterFault::Trailing { at });
-    }
-    if !byte.is_ascii_digit() || digits.count >= LONGEST {
+    if wanted {
         return Err(RasterFault::BadSample { at });
     }
-    Ok(Digits {
-        count: digits.count + 1,
-        value: 10 * digits.value + u32::from(byte - b'0'),
-    })
+    Err(RasterFault::Trailing { at })
 }
 
 /// Takes bytes, and answers the digits of the sample that is not ended.

@@ -23,7 +23,7 @@ overflow_mul-result c =
     let small : c.args.digits.value < 10 ^ 8 = eight_digits c.args.digits.count c.args.digits.value (omega arith) c.requires.part.small in
     omega (arith, small)
 
-pub overflow_add-result-2 : goal.overflow_add-result-2
-overflow_add-result-2 c =
+pub overflow_add-result-then-digits-lt-LONGEST : goal.overflow_add-result-then-digits-lt-LONGEST
+overflow_add-result-then-digits-lt-LONGEST c =
     let small : c.args.digits.value < 10 ^ 8 = eight_digits c.args.digits.count c.args.digits.value (omega arith) c.requires.part.small in
     omega (arith, small)
