@@ -1,22 +1,20 @@
 -- What the bytes of a raster mean: the laws of `Laws`.
-use Rattle.std.proofs.Common.{◌≡◌, ℕ, zero, suc, ◌+◌, ◌-◌, ◌*◌, ◌/◌, ◌%◌, ◌^◌, ◌<◌, ◌≤◌, ◌⊎◌, inl, inr, Bool, true, false, ◌&&◌, nat_lt, List, [], ◌∷◌, ◌++◌, length, Option, Some, None, Result, Ok, Err, refl, sym, ap, ap₂, ◌∙◌, subst, arith, All, append_assoc, append-nil, add-one, length-append}
+use Rattle.std.proofs.Common.{◌≡◌, ℕ, suc, ◌+◌, ◌-◌, ◌*◌, ◌/◌, ◌%◌, ◌^◌, ◌<◌, ◌≤◌, ◌⊎◌, inl, inr, false, ◌&&◌, nat_lt, List, [], ◌∷◌, ◌++◌, length, None, Ok, Err, refl, sym, ap, ap₂, ◌∙◌, subst, arith, All, append_assoc, append-nil, add-one, length-append}
 use Rattle.std.specs.List.{flat_map}
 use Rattle.std.specs.Char.{is_ascii_digit}
 use Rattle.std.proofs.lemmas.List.{length_push, take_at, drop_at}
 use Rattle.std.proofs.lemmas.List.Concat.{flat_map-append}
 use Rattle.std.proofs.lemmas.List.Elements.{All-nil, All-cons, All-head, All-tail, All-append, All-push, All-take, All-drop}
-use Rattle.std.proofs.lemmas.Bool.{cases_lt, lt-ltb, le-ltb, cond-true, cond-false, ne_eqb, ltb-true, ltb-false, and_from, and_left, and_right}
-use Rattle.std.proofs.lemmas.Bool.Decides.{nat_tests}
+use Rattle.std.proofs.lemmas.Bool.{cases_lt, lt-ltb, le-ltb, cond-true, cond-false, ne_eqb, and_left, and_right}
 use Rattle.std.proofs.Math.Nat.{pow-succ'}
 use Rattle.roam_lanes.specs.Words.{words_of}
-use Rattle.pgm_raster.specs.declared.fault.RasterFault.{RasterFault}
 use Rattle.pgm_raster.specs.declared.fault.RasterFault.TheVariants.{BadSample, AboveMaxval, Trailing, Truncated}
 use Rattle.pgm_raster.specs.declared.form.RasterForm.{RasterForm}
 use Rattle.pgm_raster.specs.declared.form.RasterForm.TheVariants.{Bytes, Words, Plain}
 use Rattle.pgm_raster.specs.declared.part.Limits.{Limits}
 use Rattle.pgm_raster.specs.declared.part.Digits.{Digits}
-use Rattle.pgm_raster.specs.RasterText.{two_bytes, IsSpace, IsDigit, value_of, IsSampleText, IsSample, AreEndedTexts, AreEnded, HasOpenEnd, IsRaster, IsCut, IsCutShort, IsStray, IsTrailingAt, EndsThere, IsAboveAt, IsBadSampleAt}
-use Rattle.pgm_raster.specs.Progress.{Answer, after, sample_then, samples_then, end_at, bytes_from, words_from, is_space, no_digits, with_digit, ended_then, plain_from, rest_of, nothing_of, raster_of}
+use Rattle.pgm_raster.specs.RasterText.{two_bytes, IsSpace, IsDigit, value_of, IsSampleText, IsSample, AreEndedTexts, AreEnded, IsRaster, IsCut, IsCutShort, IsStray, IsTrailingAt, EndsThere, IsAboveAt, IsBadSampleAt}
+use Rattle.pgm_raster.specs.Progress.{Answer, after, sample_then, end_at, bytes_from, words_from, is_space, no_digits, with_digit, ended_then, plain_from, rest_of, nothing_of, raster_of}
 use Rattle.pgm_raster.specs.Laws.{RastersAreRead, ReadBytesAreRasters, CutRastersAreRefused, TrailingBytesAreRefused, GreatSamplesAreRefused, BadSamplesAreRefused}
 use Rattle.pgm_raster.proofs.RasterLemmas.{after-append, after-nil, sample-passed, sample-refused, samples-passed, bytes-samples, words-samples}
 use Rattle.pgm_raster.proofs.PlainLemmas.{by_test, space-yes, space-no, space-is, space-isnt, digit-yes, digit-no, digit-is, digit-isnt, digit-no_space, plain-space, plain-full, plain-digit}
@@ -68,7 +66,7 @@ nothing-cut Plain = refl
 
 -- ---- what an answer tells of the bytes, behind `index` samples
 
-abbrev Told : RasterForm → Limits → ℕ → ℕ → List ℕ → Answer → Type 0
+abbrev pub Told : RasterForm → Limits → ℕ → ℕ → List ℕ → Answer → Type 0
 Told f l index at bytes (Ok samples) = IsRaster f samples bytes × (index + length samples ≡ l.count) × All (λ h. h ≤ l.maxval) samples
 Told f l index at bytes (Err Truncated) = IsCutShort f (l.count - index) l.maxval bytes
 Told f l index at bytes (Err (Trailing p)) = (place : ℕ) × (p ≡ at + place) × IsTrailingAt f (l.count - index) l.maxval bytes place
@@ -204,7 +202,7 @@ told-trailing f l index at byte more full stray = (
 
 -- ---- what the bytes of a raw raster are
 
-bytes-told : (l : Limits) (bytes : List ℕ) (index at : ℕ) → index ≤ l.count → Told Bytes l index at bytes (bytes_from l index at bytes)
+pub bytes-told : (l : Limits) (bytes : List ℕ) (index at : ℕ) → index ≤ l.count → Told Bytes l index at bytes (bytes_from l index at bytes)
 bytes-told l [] index at room = told-end Bytes l index at room
 bytes-told l (byte ∷ more) index at room =
     elim (cases_lt index l.count) as (λ _. Told Bytes l index at (byte ∷ more) (bytes_from l index at (byte ∷ more))) [
@@ -219,7 +217,7 @@ two_bytes-back high low h l =
     let second : low ≡ (256 * high + low) % 256 = omega arith in
     ap₂ (λ (x : ℕ) (y : ℕ). x ∷ y ∷ []) first second
 
-words-told : (l : Limits) (bytes : List ℕ) (index at : ℕ) → index ≤ l.count → All (λ b. b < 256) bytes → Told Words l index at bytes (words_from l index None at bytes)
+pub words-told : (l : Limits) (bytes : List ℕ) (index at : ℕ) → index ≤ l.count → All (λ b. b < 256) bytes → Told Words l index at bytes (words_from l index None at bytes)
 words-told l [] index at room all = told-end Words l index at room
 words-told l (byte ∷ []) index at room all =
     elim (cases_lt index l.count) as (λ _. Told Words l index at (byte ∷ []) (words_from l index None at (byte ∷ []))) [
@@ -443,7 +441,7 @@ plain-read l (s ∷ samples) front index at more x room all =
     ∙ sym (after-append (s ∷ []) samples (plain_from l (index + 1 + length samples) no_digits (at + length x.0 + length x.1 + 1 + length x.3) more))
     ∙ ap₂ (λ (k : ℕ) (q : ℕ). after (s ∷ samples) (plain_from l k no_digits q more)) i p
 
-length-flat : (samples : List ℕ) → length (flat_map two_bytes samples) ≡ 2 * length samples
+pub length-flat : (samples : List ℕ) → length (flat_map two_bytes samples) ≡ 2 * length samples
 length-flat [] = refl
 length-flat (s ∷ samples) = omega (arith, length-flat samples)
 

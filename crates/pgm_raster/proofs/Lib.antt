@@ -2,3 +2,4 @@ pub mod RasterLemmas
 pub mod PlainLemmas
 pub mod ReaderLemmas
 pub mod LawLemmas
+pub mod OpenLemmas

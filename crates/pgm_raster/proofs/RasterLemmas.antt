@@ -1,13 +1,13 @@
 -- Facts about samples that come after one another, and about the bytes that bring them.
-use Rattle.std.proofs.Common.{◌≡◌, ℕ, zero, suc, ◌+◌, ◌-◌, ◌*◌, ◌/◌, ◌<◌, ◌≤◌, List, [], ◌∷◌, ◌++◌, length, take, drop, get_or, Option, Some, None, Result, Ok, Err, refl, sym, ap, ap₂, ◌∙◌, subst, arith, All, slice_get, IsSomeAnd, IsErrAnd, IfErr, append_assoc, length-append, take-append-drop, length-take-le, length-drop}
+use Rattle.std.proofs.Common.{◌≡◌, ℕ, zero, suc, ◌+◌, ◌*◌, ◌<◌, ◌≤◌, List, [], ◌∷◌, ◌++◌, length, take, drop, get_or, Some, None, Result, Ok, Err, refl, sym, ap, ap₂, ◌∙◌, subst, arith, All, slice_get, IsSomeAnd, IsErrAnd, IfErr, append_assoc, take-append-drop, length-take-le, length-drop}
 use Rattle.std.proofs.lemmas.List.{drop_all}
 use Rattle.std.proofs.lemmas.Bool.{lt-ltb, le-ltb, cond-true, cond-false}
-use Rattle.std.proofs.lemmas.List.Elements.{All-nil, All-cons, All-head, All-tail}
+use Rattle.std.proofs.lemmas.List.Elements.{All-head, All-tail}
 use Rattle.roam_lanes.specs.Words.{words_of}
 use Rattle.pgm_raster.specs.declared.fault.RasterFault.{RasterFault}
 use Rattle.pgm_raster.specs.declared.fault.RasterFault.TheVariants.{AboveMaxval, Trailing}
 use Rattle.pgm_raster.specs.declared.part.Limits.{Limits}
-use Rattle.pgm_raster.specs.Progress.{Answer, after, sample_then, samples_then, end_at, bytes_from, words_from}
+use Rattle.pgm_raster.specs.Progress.{Answer, after, sample_then, samples_then, bytes_from, words_from}
 
 -- ---- samples that came before
 

@@ -1,5 +1,5 @@
 -- What readers come to.
-use Rattle.std.proofs.Common.{◌≡◌, ℕ, ◌+◌, ◌<◌, ◌≤◌, append-nil, Option, Some, None, IfSome, IfOk, IfErr, OnOk, Vec, Global, subst, List, [], ◌++◌, length, Result, Ok, Err, refl, sym, ap, ◌∙◌}
+use Rattle.std.proofs.Common.{◌≡◌, ℕ, ◌<◌, ◌≤◌, append-nil, Option, Some, None, IfSome, IfOk, IfErr, OnOk, Vec, Global, subst, List, [], length, Result, Ok, Err, refl, sym, ap, ◌∙◌}
 use Rattle.std.proofs.lemmas.Bool.{lt-ltb, le-ltb, cond-true, cond-false}
 use Rattle.pgm_raster.specs.declared.fault.RasterFault.{RasterFault}
 use Rattle.pgm_raster.specs.declared.fault.RasterFault.TheVariants.{Truncated}
@@ -120,3 +120,7 @@ place-refused fault = refl
 
 pub closed-place : (r : Inside) (self : Progress) (fault : RasterFault) → progress_of r.refused (Reading r.limits r.heights.items r.part r.at) ≡ self → r.refused ≡ Some fault → next_place self ≡ 0
 closed-place r self fault v e = ap next_place (closed r self fault v e) ∙ place-refused fault
+
+pub settled-reading : (l : Limits) (samples : List ℕ) (p : Part) (at : ℕ) (fault : RasterFault) → IsSettled (Reading l samples p at) fault → (more : List ℕ) → reads l samples p at more ≡ Err fault
+unfolding IsSettled
+settled-reading l samples p at fault settled more = sym (resume-reading l samples p at more) ∙ settled more

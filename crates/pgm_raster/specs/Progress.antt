@@ -4,7 +4,7 @@
 -- Words: Answer, after, sample_then, end_at, is_space, bytes_from, words_from, plain_from,
 -- rest_of, reads, raster_of, Progress, resume, next_place, refusal_of,
 -- IsSettled.
-use Rattle.std.specs.Prelude.{◌≡◌, ℕ, ◌+◌, ◌-◌, ◌*◌, ◌<◌, ◌≤◌, Bool, ◌&&◌, ◌||◌, cond, List, [], ◌∷◌, ◌++◌, length, Option, Some, None, Result, Ok, Err, nat_eq, nat_le, nat_lt}
+use Rattle.std.specs.Prelude.{◌≡◌, ℕ, ◌+◌, ◌-◌, ◌*◌, Bool, ◌&&◌, ◌||◌, cond, List, [], ◌∷◌, ◌++◌, length, Option, Some, None, Result, Ok, Err, nat_eq, nat_lt}
 use Rattle.std.specs.Char.{is_ascii_digit}
 use Rattle.pgm_raster.specs.declared.fault.RasterFault.{RasterFault}
 use Rattle.pgm_raster.specs.declared.fault.RasterFault.TheVariants.{BadSample, AboveMaxval, Trailing, Truncated}

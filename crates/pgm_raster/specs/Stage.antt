@@ -1,5 +1,5 @@
 -- The fields of a reader: what they have come to, and what holds of them.
-use Rattle.std.specs.Prelude.{◌≡◌, ℕ, ◌^◌, ◌<◌, ◌≤◌, ⊤, List, Option, Some, None, vec_len}
+use Rattle.std.specs.Prelude.{ℕ, ◌^◌, ◌<◌, ◌≤◌, ⊤, Option, Some, None, vec_len}
 use Rattle.std.specs.Vec.{vec_capacity}
 use Rattle.std.specs.declared.vec.Vec.{Vec}
 use Rattle.std.specs.declared.alloc.Global.{Global}
@@ -8,7 +8,7 @@ use Rattle.pgm_raster.specs.declared.part.Limits.{Limits}
 use Rattle.pgm_raster.specs.declared.part.Digits.{Digits}
 use Rattle.pgm_raster.specs.declared.part.Part.{Part}
 use Rattle.pgm_raster.specs.declared.part.Part.TheVariants as part
-use Rattle.pgm_raster.specs.Progress.{Progress, Reading, HasRefused}
+use Rattle.pgm_raster.specs.Progress.{Progress, HasRefused}
 
 -- no more samples have come than are wanted, and there is room for all of them
 pub record HasRoom (l : Limits) (heights : Vec ℕ Global) : Type 0 where

@@ -92,6 +92,8 @@ impl RasterReader {
         // What the bytes mean together is not changed by where they are cut.
         ensures ok { OnOk result ((more : List ℕ) → resume self.old (piece.now ++ more) ≡ resume self.new more) }
         ensures place { OnOk result (next_place self.new ≡ next_place self.old + length piece.now) }
+        // No byte so far is refused: what still comes decides.
+        ensures unsettled { OnOk result ((fault : RasterFault) → ¬ IsSettled self.new fault) }
         // The refusal is that of the file, whatever still comes.
         ensures refusal { IfErr result (λ fault. (more : List ℕ) → resume self.old (piece.now ++ more) ≡ Err fault) }
         ensures err { IfErr result (λ fault. IsSettled self.new fault) }

@@ -1,6 +1,4 @@
-use Rattle.std.proofs.Common.{◌≡◌, ◌∙◌, ◌+◌, ◌*◌, ◌/◌, ◌++◌, ◌≤◌, ℕ, length, take, drop, vec_len, vec_capacity, arith, ap, ap₂, subst, List, Err, sym, take-append-drop}
-use Rattle.pgm_raster.specs.Progress.{Answer, after, samples_then}
-use Rattle.pgm_raster.specs.declared.fault.RasterFault.{RasterFault}
+use Rattle.std.proofs.Common.{◌≡◌, ◌∙◌, ◌+◌, ◌++◌, ℕ, length, arith, ap, subst, List}
 use Rattle.pgm_raster.proofs.RasterLemmas.{Pushes, Refuses, passed_on, chunk-pushed, chunk-refused, parts}
 use Rattle.pgm_raster.proofs.bulk.push_bytes.Goals as goal
 

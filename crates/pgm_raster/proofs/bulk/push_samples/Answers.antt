@@ -1,5 +1,4 @@
-use Rattle.std.proofs.Common.{◌≡◌, ◌+◌, ◌∙◌, ◌++◌, ◌≤◌, ◌<◌, ℕ, length, take, arith, refl, All, slice_get, IsSomeAnd, ap}
-use Rattle.std.specs.Vec.{vec_len}
+use Rattle.std.proofs.Common.{◌≡◌, ◌+◌, ◌++◌, ◌≤◌, ◌<◌, length, take, arith, refl, All, slice_get, IsSomeAnd}
 use Rattle.pgm_raster.proofs.RasterLemmas.{pushed, refused}
 use Rattle.pgm_raster.proofs.bulk.push_samples.Goals as goal
 

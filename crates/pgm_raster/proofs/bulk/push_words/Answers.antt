@@ -1,7 +1,5 @@
-use Rattle.std.proofs.Common.{◌≡◌, ◌∙◌, ◌+◌, ◌*◌, ◌/◌, ◌++◌, ◌≤◌, ℕ, length, take, drop, vec_len, vec_capacity, arith, ap, ap₂, subst, List, Err, sym}
+use Rattle.std.proofs.Common.{◌≡◌, ◌∙◌, ◌+◌, ◌/◌, ◌++◌, ℕ, length, arith, ap, subst, List}
 use Rattle.roam_lanes.specs.Words.{words_of}
-use Rattle.pgm_raster.specs.Progress.{Answer, after, samples_then}
-use Rattle.pgm_raster.specs.declared.fault.RasterFault.{RasterFault}
 use Rattle.pgm_raster.proofs.RasterLemmas.{Pushes, Refuses, passed_on, chunk-pushed, chunk-refused, words-parts, length-words}
 use Rattle.pgm_raster.proofs.bulk.push_words.Goals as goal
 

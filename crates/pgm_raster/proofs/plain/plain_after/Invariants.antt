@@ -1,4 +1,4 @@
-use Rattle.std.proofs.Common.{◌≡◌, ℕ, ◌+◌, ◌++◌, List, length, drop, vec_len}
+use Rattle.std.proofs.Common.{◌≡◌, ℕ, ◌+◌, ◌++◌, List, drop, vec_len}
 use Rattle.pgm_raster.specs.Progress.{reads}
 use Rattle.pgm_raster.specs.Stage.{HasRoom, IsPart}
 use Rattle.pgm_raster.specs.declared.part.Part.TheVariants as part

@@ -1,4 +1,4 @@
-use Rattle.std.proofs.Common.{◌≡◌, ◌∙◌, ◌+◌, ◌*◌, ◌-◌, ◌^◌, ◌<◌, ◌∷◌, ℕ, length, arith, ap, subst, List, Err, sym}
+use Rattle.std.proofs.Common.{◌≡◌, ◌∙◌, ◌+◌, ◌^◌, ◌<◌, ◌∷◌, ℕ, length, arith, ap, List, Err, sym}
 use Rattle.pgm_raster.specs.Progress.{after, plain_from, no_digits}
 use Rattle.pgm_raster.specs.declared.fault.RasterFault.{RasterFault}
 use Rattle.pgm_raster.proofs.RasterLemmas.{passed_on}

@@ -1,6 +1,5 @@
-use Rattle.std.proofs.Common.{◌≡◌, ◌∙◌, ◌<◌, ◌+◌, ◌++◌, ◌≤◌, ℕ, length, take, arith, ap, subst, List, Err, sym}
+use Rattle.std.proofs.Common.{◌≡◌, ◌∙◌, ◌++◌, ℕ, length, take, arith, subst, List, Err, sym}
 use Rattle.std.proofs.lemmas.Bool.{eqb-true, eqb-false}
-use Rattle.std.specs.Vec.{vec_len}
 use Rattle.pgm_raster.specs.Progress.{after, bytes_from}
 use Rattle.pgm_raster.specs.declared.fault.RasterFault.{RasterFault}
 use Rattle.pgm_raster.proofs.RasterLemmas.{Refuses, passed_on, bytes-taken, bytes-trailing, bytes-front-refused}

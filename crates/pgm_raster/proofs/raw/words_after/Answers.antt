@@ -1,6 +1,5 @@
-use Rattle.std.proofs.Common.{◌≡◌, ◌∙◌, ◌<◌, ◌+◌, ◌*◌, ◌++◌, ◌≤◌, ℕ, length, take, arith, ap, subst, List, None, Err, sym}
+use Rattle.std.proofs.Common.{◌≡◌, ◌∙◌, ◌*◌, ◌++◌, ℕ, length, take, arith, subst, List, None, Err, sym}
 use Rattle.std.proofs.lemmas.Bool.{eqb-true, eqb-false}
-use Rattle.std.specs.Vec.{vec_len}
 use Rattle.roam_lanes.specs.Words.{words_of}
 use Rattle.pgm_raster.specs.Progress.{after, words_from}
 use Rattle.pgm_raster.specs.declared.fault.RasterFault.{RasterFault}

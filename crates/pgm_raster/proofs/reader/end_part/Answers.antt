@@ -1,7 +1,3 @@
-use Rattle.std.proofs.Common.{◌≡◌, ◌∙◌, ℕ, [], Err, Ok, OnOk, IfErr, ap, length}
-use Rattle.pgm_raster.specs.declared.fault.RasterFault.{RasterFault}
-use Rattle.pgm_raster.specs.declared.part.Part.{Part}
-use Rattle.pgm_raster.specs.Progress.{after, reads, end_at}
 use Rattle.pgm_raster.proofs.ReaderLemmas.{ended-ok, ended-err}
 use Rattle.pgm_raster.proofs.reader.end_part.Goals as goal
 

@@ -1,8 +1,9 @@
-use Rattle.std.proofs.Common.{◌≡◌, ◌∙◌, ◌+◌, ◌<◌, ◌++◌, ℕ, length, sym, refl, ap, arith, Option, None, Some, Err}
+use Rattle.std.proofs.Common.{◌≡◌, ◌∙◌, ◌+◌, ◌≤◌, subst, vec_len, ◌++◌, ℕ, length, sym, refl, ap, arith, Option}
 use Rattle.pgm_raster.specs.declared.fault.RasterFault.{RasterFault}
-use Rattle.pgm_raster.specs.Progress.{Progress, Reading, resume, next_place, refusal_of}
-use Rattle.pgm_raster.specs.Stage.{progress_of}
-use Rattle.pgm_raster.proofs.ReaderLemmas.{opened, opened-resume, opened-place, opened-refusal, closed, closed-resume, closed-refusal, resume-reading, place-reading, refusal-reading, refusal-refused, refused-settled, at-none, at-some, settled-by}
+use Rattle.pgm_raster.specs.Progress.{Progress, Reading, resume, next_place, refusal_of, IsSettled}
+use Rattle.pgm_raster.specs.Stage.{progress_of, IsPart}
+use Rattle.pgm_raster.proofs.ReaderLemmas.{opened-resume, opened-place, opened-refusal, closed, closed-resume, closed-refusal, resume-reading, place-reading, refusal-reading, refusal-refused, refused-settled, at-none, at-some, settled-by, settled-reading}
+use Rattle.pgm_raster.proofs.OpenLemmas.{still-open}
 use Rattle.pgm_raster.proofs.reader.RasterReader.feed.Goals as goal
 
 pub returns-in-Some-clause-refusal : goal.returns-in-Some-clause-refusal
@@ -61,3 +62,14 @@ returns-in-Err-clause-bad c = refusal-refused c.in-Err.fault
 
 pub returns-in-Err-clause-sticks : goal.returns-in-Err-clause-sticks
 returns-in-Err-clause-sticks c = at-none (refusal_of c.args.self.now) _ (opened-refusal c.self.inside c.args.self.now c.self.view_is c.in_default.is)
+
+pub returns-in-Ok-clause-unsettled : goal.returns-in-Ok-clause-unsettled
+returns-in-Ok-clause-unsettled c =
+    let next : Progress = Reading c.self.inside.limits c.part_after.new.heights.items c.in-Ok.part (c.self.inside.at + length c.args.piece.now) in
+    let view : progress_of c.self.inside.refused next ≡ next = ap (λ (o : Option RasterFault). progress_of o next) c.in_default.is in
+    let room : vec_len c.part_after.new.heights ≤ c.self.inside.limits.count = c.in-Ok.ensures.valid.within in
+    let within : length c.part_after.new.heights.items ≤ c.self.inside.limits.count = omega arith in
+    let size : vec_len c.part_after.new.heights ≡ length c.part_after.new.heights.items = omega arith in
+    λ fault. λ settled. still-open c.self.inside.limits c.part_after.new.heights.items c.in-Ok.part (c.self.inside.at + length c.args.piece.now) fault within
+    (subst (λ (n : ℕ). IsPart c.self.inside.limits n c.in-Ok.part) size c.in-Ok.ensures.part)
+    (settled-reading c.self.inside.limits c.part_after.new.heights.items c.in-Ok.part (c.self.inside.at + length c.args.piece.now) fault (subst (λ (p : Progress). IsSettled p fault) view settled))

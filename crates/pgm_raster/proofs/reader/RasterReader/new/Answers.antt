@@ -1,4 +1,4 @@
-use Rattle.std.proofs.Common.{◌≡◌, ◌∙◌, ap, ap₂, sym, ℕ, List, []}
+use Rattle.std.proofs.Common.{◌≡◌, ◌∙◌, ap, ap₂, sym, ℕ, List}
 use Rattle.pgm_raster.specs.declared.part.Part.{Part}
 use Rattle.pgm_raster.specs.Progress.{Reading, resume, nothing_of}
 use Rattle.pgm_raster.proofs.ReaderLemmas.{resume-start, place-reading, refusal-reading}
