@@ -30,6 +30,16 @@ fn read(reader: RasterReader, bytes: &[u8], length: usize) -> Result<Vec<u16>, R
 }
 
 #[test]
+fn a_sample_may_be_cut_between_two_pieces(rt: HostRuntime) -> Result<(), Fail> {
+    let mut reader = RasterReader::new(rt.alloc(), RasterForm::Words, 2, 300, 15)?;
+    reader.feed(b"\0\x07\x01")?;
+    reader.feed(b"\x2c")?;
+    let heights = reader.finish()?;
+    assert_eq!(rt; heights.as_slice(), [7, 300].as_slice());
+    Ok(())
+}
+
+#[test]
 fn each_form_is_read_whole_and_in_pieces(rt: HostRuntime) -> Result<(), Fail> {
     let cases: [(RasterForm, u16, &[u8], [u16; 4]); 4] = [
         (RasterForm::Bytes, 255, b"\0\x07\xfe\xff", [0, 7, 254, 255]),
