@@ -3,3 +3,4 @@ pub mod PlainLemmas
 pub mod ReaderLemmas
 pub mod LawLemmas
 pub mod OpenLemmas
+pub mod WantedLemmas

@@ -1,6 +1,6 @@
 -- What the bytes of a raster mean, in the words of the format. Places are counted from the file's
 -- beginning, and the raster begins at place `at`.
-use Rattle.std.specs.Prelude.{◌≡◌, ◌↔◌, ℕ, ◌+◌, ◌<◌, ◌≤◌, List, length, All, Ok, Err}
+use Rattle.std.specs.Prelude.{◌≡◌, ◌↔◌, ℕ, ◌+◌, ◌<◌, ◌≤◌, List, length, All, Ok, Err, IfOk}
 use Rattle.pgm_raster.specs.declared.fault.RasterFault.TheVariants.{BadSample, AboveMaxval, Trailing, Truncated}
 use Rattle.pgm_raster.specs.declared.form.RasterForm.{RasterForm}
 use Rattle.pgm_raster.specs.declared.form.RasterForm.TheVariants.{Plain}
@@ -16,6 +16,10 @@ RastersAreRead = (form : RasterForm) (count maxval at : ℕ) (samples bytes : Li
 abbrev pub ReadBytesAreRasters : Type 0
 ReadBytesAreRasters = (form : RasterForm) (count maxval at : ℕ) (samples bytes : List ℕ) → All (λ b. b < 256) bytes → raster_of form count maxval at bytes ≡ Ok samples →
     IsRaster form samples bytes × (length samples ≡ count) × All (λ h. h ≤ maxval) samples
+
+-- what is read are so many samples, none above maxval, whatever the bytes are
+abbrev pub OnlyWantedSamplesAreRead : Type 0
+OnlyWantedSamplesAreRead = (form : RasterForm) (count maxval at : ℕ) (bytes : List ℕ) → IfOk (raster_of form count maxval at bytes) (λ samples. (length samples ≡ count) × All (λ h. h ≤ maxval) samples)
 
 -- bytes are truncated exactly where they end too early
 abbrev pub CutRastersAreRefused : Type 0

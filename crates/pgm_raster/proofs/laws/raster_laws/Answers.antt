@@ -1,4 +1,5 @@
 use Rattle.pgm_raster.proofs.LawLemmas.{rasters, samples_back, truncated, trailing, above, bad_sample}
+use Rattle.pgm_raster.proofs.WantedLemmas.{only_wanted}
 use Rattle.pgm_raster.proofs.laws.raster_laws.Goals as goal
 
 pub returns-clause-rasters : goal.returns-clause-rasters
@@ -18,3 +19,6 @@ returns-clause-above c = above
 
 pub returns-clause-bad_sample : goal.returns-clause-bad_sample
 returns-clause-bad_sample c = bad_sample
+
+pub returns-clause-wanted : goal.returns-clause-wanted
+returns-clause-wanted c = only_wanted
