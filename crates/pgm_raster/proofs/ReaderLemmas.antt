@@ -1,0 +1,126 @@
+-- What readers come to.
+use Rattle.std.proofs.Common.{◌≡◌, ℕ, ◌<◌, ◌≤◌, append-nil, Option, Some, None, IfSome, IfOk, IfErr, OnOk, Vec, Global, subst, List, [], length, Result, Ok, Err, refl, sym, ap, ◌∙◌}
+use Rattle.std.proofs.lemmas.Bool.{lt-ltb, le-ltb, cond-true, cond-false}
+use Rattle.pgm_raster.specs.declared.fault.RasterFault.{RasterFault}
+use Rattle.pgm_raster.specs.declared.fault.RasterFault.TheVariants.{Truncated}
+use Rattle.pgm_raster.specs.declared.form.RasterForm.{RasterForm}
+use Rattle.pgm_raster.specs.declared.part.Limits.{Limits}
+use Rattle.pgm_raster.specs.declared.part.Digits.{Digits}
+use Rattle.pgm_raster.specs.declared.part.Part.{Part}
+use Rattle.pgm_raster.specs.declared.part.Part.TheVariants as part
+use Rattle.pgm_raster.specs.Progress.{Answer, Progress, Reading, HasRefused, after, rest_of, reads, nothing_of, raster_of, resume, next_place, refusal_of, ended_then, end_at, IsSettled}
+use Rattle.pgm_raster.specs.Stage.{progress_of, IsReader}
+use Rattle.pgm_raster.specs.declared.reader.RasterReader.TheInside.{Inside}
+use Rattle.pgm_raster.proofs.RasterLemmas.{after-nil}
+
+pub resume-reading : (l : Limits) (samples : List ℕ) (part : Part) (at : ℕ) (more : List ℕ) → resume (Reading l samples part at) more ≡ reads l samples part at more
+unfolding resume
+resume-reading l samples part at more = refl
+
+pub resume-refused : (fault : RasterFault) (more : List ℕ) → resume (HasRefused fault) more ≡ Err fault
+unfolding resume
+resume-refused fault more = refl
+
+pub refused-settled : (fault : RasterFault) → IsSettled (HasRefused fault) fault
+unfolding IsSettled
+refused-settled fault more = resume-refused fault more
+
+pub place-reading : (l : Limits) (samples : List ℕ) (part : Part) (at : ℕ) → next_place (Reading l samples part at) ≡ at
+unfolding next_place
+place-reading l samples part at = refl
+
+pub resume-start : (form : RasterForm) (count maxval at : ℕ) (more : List ℕ) → resume (Reading (record { count = count; maxval = maxval }) [] (nothing_of form) at) more ≡ raster_of form count maxval at more
+unfolding resume raster_of
+resume-start form count maxval at more = after-nil (rest_of (record { count = count; maxval = maxval }) 0 (nothing_of form) at more)
+
+pub refusal-reading : (l : Limits) (samples : List ℕ) (part : Part) (at : ℕ) → refusal_of (Reading l samples part at) ≡ None
+unfolding refusal_of
+refusal-reading l samples part at = refl
+
+pub refusal-refused : (fault : RasterFault) → refusal_of (HasRefused fault) ≡ Some fault
+unfolding refusal_of
+refusal-refused fault = refl
+
+-- the file ends
+pub end-short : (l : Limits) (samples : List ℕ) → length samples < l.count → after samples (end_at l (length samples)) ≡ Err Truncated
+end-short l samples short = ap (after samples) (cond-true _ _ _ (lt-ltb (length samples) l.count short))
+
+pub end-whole : (l : Limits) (samples : List ℕ) → l.count ≤ length samples → after samples (end_at l (length samples)) ≡ Ok samples
+end-whole l samples whole =
+    ap (after samples) (cond-false _ _ _ (le-ltb (length samples) l.count whole)) ∙ ap (λ (s : List ℕ). let r : Answer = Ok s in r) (append-nil samples)
+
+-- ---- a reader's fields
+
+-- a reader that has refused no byte
+pub opened : (r : Inside) (self : Progress) → progress_of r.refused (Reading r.limits r.heights.items r.part r.at) ≡ self → r.refused ≡ None → self ≡ Reading r.limits r.heights.items r.part r.at
+opened r self v e = sym v ∙ ap (λ (o : Option RasterFault). progress_of o (Reading r.limits r.heights.items r.part r.at)) e
+
+-- a reader that has refused one
+pub closed : (r : Inside) (self : Progress) (fault : RasterFault) → progress_of r.refused (Reading r.limits r.heights.items r.part r.at) ≡ self → r.refused ≡ Some fault → self ≡ HasRefused fault
+closed r self fault v e = sym v ∙ ap (λ (o : Option RasterFault). progress_of o (Reading r.limits r.heights.items r.part r.at)) e
+
+-- what holds of the fields of a reader that has refused no byte
+pub opened-fields : (r : Inside) → IsReader r.refused r.limits r.heights r.part → r.refused ≡ None → IsReader None r.limits r.heights r.part
+opened-fields r valid e = subst (λ (o : Option RasterFault). IsReader o r.limits r.heights r.part) e valid
+
+pub opened-refusal : (r : Inside) (self : Progress) → progress_of r.refused (Reading r.limits r.heights.items r.part r.at) ≡ self → r.refused ≡ None → refusal_of self ≡ None
+opened-refusal r self v e = ap refusal_of (opened r self v e) ∙ refusal-reading r.limits r.heights.items r.part r.at
+
+pub closed-refusal : (r : Inside) (self : Progress) (fault : RasterFault) → progress_of r.refused (Reading r.limits r.heights.items r.part r.at) ≡ self → r.refused ≡ Some fault → refusal_of self ≡ Some fault
+closed-refusal r self fault v e = ap refusal_of (closed r self fault v e) ∙ refusal-refused fault
+
+pub opened-resume : (r : Inside) (self : Progress) → progress_of r.refused (Reading r.limits r.heights.items r.part r.at) ≡ self → r.refused ≡ None → (bytes : List ℕ) → resume self bytes ≡ reads r.limits r.heights.items r.part r.at bytes
+opened-resume r self v e bytes = ap (λ (p : Progress). resume p bytes) (opened r self v e) ∙ resume-reading r.limits r.heights.items r.part r.at bytes
+
+pub closed-resume : (r : Inside) (self : Progress) (fault : RasterFault) → progress_of r.refused (Reading r.limits r.heights.items r.part r.at) ≡ self → r.refused ≡ Some fault → (bytes : List ℕ) → resume self bytes ≡ Err fault
+closed-resume r self fault v e bytes = ap (λ (p : Progress). resume p bytes) (closed r self fault v e) ∙ resume-refused fault bytes
+
+pub opened-place : (r : Inside) (self : Progress) → progress_of r.refused (Reading r.limits r.heights.items r.part r.at) ≡ self → r.refused ≡ None → next_place self ≡ r.at
+opened-place r self v e = ap next_place (opened r self v e) ∙ place-reading r.limits r.heights.items r.part r.at
+
+pub at-none : {A : Type 0} → (o : Option A) (P : A → Type 0) → o ≡ None → IfSome o P
+at-none None P e = tt
+at-none (Some x) P e = absurd (cc)
+
+pub at-some : {A : Type 0} → (o : Option A) (x : A) (P : A → Type 0) → o ≡ Some x → P x → IfSome o P
+at-some o x P e h = subst (λ (p : Option _). IfSome p P) (sym e) h
+
+-- ---- digits that the end of the file ends
+
+pub ended-ok : (l : Limits) (old new : List ℕ) (p : Part) (digits : Digits) (r : Result (Unit {0}) RasterFault) → p ≡ part.Plain digits
+    → OnOk r ((rest : ℕ → Answer) → after old (ended_then l (length old) digits rest) ≡ after new (rest (length new)))
+    → OnOk r ((at : ℕ) → reads l old p at [] ≡ after new (end_at l (length new)))
+ended-ok l old new p digits (Ok x) e h = λ at. ap (λ (q : Part). reads l old q at []) e ∙ h (λ (i : ℕ). end_at l i)
+ended-ok l old new p digits (Err f) e h = tt
+
+pub ended-err : (l : Limits) (old : List ℕ) (p : Part) (digits : Digits) (r : Result (Unit {0}) RasterFault) → p ≡ part.Plain digits
+    → IfErr r (λ f. (rest : ℕ → Answer) → after old (ended_then l (length old) digits rest) ≡ Err f)
+    → IfErr r (λ f. (at : ℕ) → reads l old p at [] ≡ Err f)
+ended-err l old p digits (Ok x) e h = tt
+ended-err l old p digits (Err f) e h = λ at. ap (λ (q : Part). reads l old q at []) e ∙ h (λ (i : ℕ). end_at l i)
+
+-- ---- the last answer
+
+pub finished-ok : (l : Limits) (old : List ℕ) (part : Part) (self : Progress) (at : ℕ) (r : Result (Vec ℕ Global) RasterFault) → ((bytes : List ℕ) → resume self bytes ≡ reads l old part at bytes)
+    → IfOk r (λ all. (at : ℕ) → reads l old part at [] ≡ Ok all.items) → IfOk r (λ all. resume self [] ≡ Ok all.items)
+finished-ok l old part self at (Ok all) e h = e [] ∙ h at
+finished-ok l old part self at (Err f) e h = tt
+
+pub finished-err : (l : Limits) (old : List ℕ) (part : Part) (self : Progress) (at : ℕ) (r : Result (Vec ℕ Global) RasterFault) → ((bytes : List ℕ) → resume self bytes ≡ reads l old part at bytes)
+    → IfErr r (λ f. (at : ℕ) → reads l old part at [] ≡ Err f) → IfErr r (λ f. resume self [] ≡ Err f)
+finished-err l old part self at (Ok all) e h = tt
+finished-err l old part self at (Err f) e h = e [] ∙ h at
+
+pub settled-by : (self : Progress) (fault : RasterFault) → self ≡ HasRefused fault → IsSettled self fault
+settled-by self fault e = subst (λ (p : Progress). IsSettled p fault) (sym e) (refused-settled fault)
+
+pub place-refused : (fault : RasterFault) → next_place (HasRefused fault) ≡ 0
+unfolding next_place
+place-refused fault = refl
+
+pub closed-place : (r : Inside) (self : Progress) (fault : RasterFault) → progress_of r.refused (Reading r.limits r.heights.items r.part r.at) ≡ self → r.refused ≡ Some fault → next_place self ≡ 0
+closed-place r self fault v e = ap next_place (closed r self fault v e) ∙ place-refused fault
+
+pub settled-reading : (l : Limits) (samples : List ℕ) (p : Part) (at : ℕ) (fault : RasterFault) → IsSettled (Reading l samples p at) fault → (more : List ℕ) → reads l samples p at more ≡ Err fault
+unfolding IsSettled
+settled-reading l samples p at fault settled more = sym (resume-reading l samples p at more) ∙ settled more

@@ -1,0 +1,4 @@
+pub mod RasterText
+pub mod Progress
+pub mod Laws
+pub mod Stage

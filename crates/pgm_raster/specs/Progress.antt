@@ -1,0 +1,118 @@
+-- What further bytes of a raster mean, read byte by byte: the samples, or the first refusal. The laws of
+-- `Laws` say in the format's own words what these answers are.
+--
+-- Words: Answer, after, sample_then, end_at, is_space, bytes_from, words_from, plain_from,
+-- rest_of, reads, raster_of, Progress, resume, next_place, refusal_of,
+-- IsSettled.
+use Rattle.std.specs.Prelude.{◌≡◌, ℕ, ◌+◌, ◌-◌, ◌*◌, Bool, ◌&&◌, ◌||◌, cond, List, [], ◌∷◌, ◌++◌, length, Option, Some, None, Result, Ok, Err, nat_eq, nat_lt}
+use Rattle.std.specs.Char.{is_ascii_digit}
+use Rattle.pgm_raster.specs.declared.fault.RasterFault.{RasterFault}
+use Rattle.pgm_raster.specs.declared.fault.RasterFault.TheVariants.{BadSample, AboveMaxval, Trailing, Truncated}
+use Rattle.pgm_raster.specs.declared.form.RasterForm.{RasterForm}
+use Rattle.pgm_raster.specs.declared.form.RasterForm.TheVariants as form
+use Rattle.pgm_raster.specs.declared.part.Limits.{Limits}
+use Rattle.pgm_raster.specs.declared.part.Digits.{Digits}
+use Rattle.pgm_raster.specs.declared.part.Part.{Part}
+use Rattle.pgm_raster.specs.declared.part.Part.TheVariants as part
+
+-- the samples that bytes are, or why they are refused
+abbrev pub Answer : Type 0
+Answer = Result (List ℕ) RasterFault
+
+-- these samples came before
+abbrev pub after : List ℕ → Answer → Answer
+after samples (Ok rest) = Ok (samples ++ rest)
+after samples (Err fault) = Err fault
+
+-- a sample has come, as number `index` from 0, and then the rest
+abbrev pub sample_then : Limits → ℕ → ℕ → Answer → Answer
+sample_then l index sample rest = cond (nat_lt l.maxval sample) (Err (AboveMaxval index)) (after (sample ∷ []) rest)
+
+-- the file ends behind so many samples
+abbrev pub end_at : Limits → ℕ → Answer
+end_at l index = cond (nat_lt index l.count) (Err Truncated) (Ok [])
+
+-- samples have come, the first as number `index`, and then the rest
+abbrev pub samples_then : Limits → ℕ → List ℕ → Answer → Answer
+samples_then l index [] rest = rest
+samples_then l index (sample ∷ samples) rest = sample_then l index sample (samples_then l (index + 1) samples rest)
+
+-- Raw, one byte a sample: the bytes from place `at` on, behind so many samples.
+abbrev pub bytes_from : Limits → ℕ → ℕ → List ℕ → Answer
+bytes_from l index at [] = end_at l index
+bytes_from l index at (byte ∷ more) = cond (nat_lt index l.count) (sample_then l index byte (bytes_from l (index + 1) (at + 1) more)) (Err (Trailing at))
+
+-- Raw, two bytes a sample: the same, where `high` is the first byte of a sample that is not whole.
+abbrev pub words_from : Limits → ℕ → Option ℕ → ℕ → List ℕ → Answer
+words_from l index high at [] = end_at l index
+words_from l index None at (byte ∷ more) = cond (nat_lt index l.count) (words_from l index (Some byte) (at + 1) more) (Err (Trailing at))
+words_from l index (Some high) at (byte ∷ more) = sample_then l index (256 * high + byte) (words_from l (index + 1) None (at + 1) more)
+
+-- whether the byte is whitespace
+abbrev pub is_space : ℕ → Bool
+is_space byte = nat_eq byte 32 || (nat_eq byte 9 || (nat_eq byte 13 || nat_eq byte 10))
+
+-- no digit of a sample has come
+abbrev pub no_digits : Digits
+no_digits = record { count = 0; value = 0 }
+
+-- one more digit has come
+abbrev pub with_digit : Digits → ℕ → Digits
+with_digit digits byte = record { count = digits.count + 1; value = 10 * digits.value + (byte - 48) }
+
+-- the digits, if there are any, are ended: what comes of the rest behind so many samples
+abbrev pub ended_then : Limits → ℕ → Digits → (ℕ → Answer) → Answer
+ended_then l index digits rest = cond (nat_eq digits.count 0) (rest index) (sample_then l index digits.value (rest (index + 1)))
+
+-- Plain: the same, where `digits` are those of a sample that is not ended.
+abbrev pub plain_from : Limits → ℕ → Digits → ℕ → List ℕ → Answer
+plain_from l index digits at [] = ended_then l index digits (λ i. end_at l i)
+plain_from l index digits at (byte ∷ more) =
+    cond (is_space byte) (ended_then l index digits (λ i. plain_from l i no_digits (at + 1) more))
+    (cond (nat_lt index l.count)
+    (cond (is_ascii_digit byte && nat_lt digits.count 9) (plain_from l index (with_digit digits byte) (at + 1) more) (Err (BadSample at)))
+    (Err (Trailing at)))
+
+-- the bytes from place `at` on, behind so many samples and a part of the next
+abbrev pub rest_of : Limits → ℕ → Part → ℕ → List ℕ → Answer
+rest_of l index part.Bytes at more = bytes_from l index at more
+rest_of l index (part.Words high) at more = words_from l index high at more
+rest_of l index (part.Plain digits) at more = plain_from l index digits at more
+
+-- the answer for these samples, a part of the next, and the bytes that still come
+abbrev pub reads : Limits → List ℕ → Part → ℕ → List ℕ → Answer
+reads l samples part at more = after samples (rest_of l (length samples) part at more)
+
+-- no part of a sample has come
+abbrev pub nothing_of : RasterForm → Part
+nothing_of form.Bytes = part.Bytes
+nothing_of form.Words = part.Words None
+nothing_of form.Plain = part.Plain no_digits
+
+-- the samples of which the bytes are a raster, from place `at` of the file on, or the refusal of the bytes
+unfoldable pub raster_of : RasterForm → (count maxval at : ℕ) → List ℕ → Answer
+raster_of form count maxval at bytes = rest_of (record { count = count; maxval = maxval }) 0 (nothing_of form) at bytes
+
+-- what a reader has come to: samples, a part of the next and the place of the next byte, or a refusal
+pub data Progress : Type 0 where
+  Reading : (limits : Limits) (samples : List ℕ) (part : Part) (at : ℕ) → Progress
+  HasRefused : (fault : RasterFault) → Progress
+
+-- what a reader answers if exactly these bytes still come
+unfoldable pub resume : Progress → List ℕ → Answer
+resume (Reading l samples part at) more = reads l samples part at more
+resume (HasRefused fault) more = Err fault
+
+-- the place of the next byte in the file, of a reader that has refused none
+unfoldable pub next_place : Progress → ℕ
+next_place (Reading l samples part at) = at
+next_place (HasRefused fault) = 0
+
+-- what a reader has refused
+unfoldable pub refusal_of : Progress → Option RasterFault
+refusal_of (Reading l samples part at) = None
+refusal_of (HasRefused fault) = Some fault
+
+-- whatever still comes, the answer is this refusal
+unfoldable pub IsSettled : Progress → RasterFault → Type 0
+IsSettled reader fault = (more : List ℕ) → resume reader more ≡ Err fault

@@ -1,0 +1,39 @@
+-- The fields of a reader: what they have come to, and what holds of them.
+use Rattle.std.specs.Prelude.{ℕ, ◌^◌, ◌<◌, ◌≤◌, ⊤, Option, Some, None, vec_len}
+use Rattle.std.specs.Vec.{vec_capacity}
+use Rattle.std.specs.declared.vec.Vec.{Vec}
+use Rattle.std.specs.declared.alloc.Global.{Global}
+use Rattle.pgm_raster.specs.declared.fault.RasterFault.{RasterFault}
+use Rattle.pgm_raster.specs.declared.part.Limits.{Limits}
+use Rattle.pgm_raster.specs.declared.part.Digits.{Digits}
+use Rattle.pgm_raster.specs.declared.part.Part.{Part}
+use Rattle.pgm_raster.specs.declared.part.Part.TheVariants as part
+use Rattle.pgm_raster.specs.Progress.{Progress, HasRefused}
+
+-- no more samples have come than are wanted, and there is room for all of them
+pub record HasRoom (l : Limits) (heights : Vec ℕ Global) : Type 0 where
+  pub within : vec_len heights ≤ l.count
+  pub room : l.count ≤ vec_capacity heights
+
+-- nine digits at most, of a sample that is still wanted
+pub record IsDigits (l : Limits) (index : ℕ) (digits : Digits) : Type 0 where
+  pub short : digits.count ≤ 9
+  pub small : digits.value < 10 ^ digits.count
+  pub wanted : 0 < digits.count → index < l.count
+
+-- a part of a sample that is still wanted
+abbrev pub IsPart : Limits → ℕ → Part → Type 0
+IsPart l index part.Bytes = ⊤
+IsPart l index (part.Words None) = ⊤
+IsPart l index (part.Words (Some high)) = index < l.count
+IsPart l index (part.Plain digits) = IsDigits l index digits
+
+-- the fields of a reader that has refused no byte agree
+abbrev pub IsReader : Option RasterFault → Limits → Vec ℕ Global → Part → Type 0
+IsReader None l heights part = HasRoom l heights × IsPart l (vec_len heights) part
+IsReader (Some fault) l heights part = ⊤
+
+-- what a reader has come to that has refused no byte, or this one
+abbrev pub progress_of : Option RasterFault → Progress → Progress
+progress_of None reading = reading
+progress_of (Some fault) reading = HasRefused fault

@@ -1,0 +1,14 @@
+//! What the bytes of a raster mean.
+
+ghost use Rattle.pgm_raster.specs.Laws.{RastersAreRead, ReadBytesAreRasters, OnlyWantedSamplesAreRead, CutRastersAreRefused, TrailingBytesAreRefused, GreatSamplesAreRefused, BadSamplesAreRefused};
+
+/// States what `raster_of` answers for the bytes of a raster, in the words of the format. It does nothing.
+pub fn raster_laws()
+    ensures rasters { RastersAreRead }
+    ensures samples { ReadBytesAreRasters }
+    ensures wanted { OnlyWantedSamplesAreRead }
+    ensures truncated { CutRastersAreRefused }
+    ensures trailing { TrailingBytesAreRefused }
+    ensures above { GreatSamplesAreRefused }
+    ensures bad_sample { BadSamplesAreRefused }
+{}

@@ -1,0 +1,24 @@
+//! The raster of a PGM file: the samples that stand behind its header, in three forms.
+//!
+//! For the reader of grids, which knows from the header the form, how many samples there are and how
+//! great they may be. The bytes come in pieces of any length, and are read into a list of heights for
+//! which room was taken once. Raw samples go through the kernels of `roam_lanes`, chunk by chunk.
+//! The header is not read here, and no limit is set to the length of a file.
+
+#![tactic(auto)]
+
+mod bulk;
+mod fault;
+mod form;
+mod laws;
+mod part;
+mod plain;
+mod raw;
+mod reader;
+#[cfg(test)]
+mod tests;
+
+pub use fault::RasterFault;
+pub use form::RasterForm;
+pub use laws::raster_laws;
+pub use reader::RasterReader;

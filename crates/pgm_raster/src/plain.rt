@@ -1,0 +1,116 @@
+//! Further bytes of a plain raster.
+
+ghost use Rattle.std.specs.Prelude.{◌≡◌, ◌+◌, ◌^◌, ◌<◌, ◌≤◌, ◌++◌, ◌∷◌, ℕ, List, length, vec_len, OnOk, IfOk, IfErr};
+ghost use Rattle.std.specs.Vec.{vec_capacity};
+ghost use Rattle.pgm_raster.specs.Progress.{Answer, after, is_space, reads, ended_then, no_digits};
+ghost use Rattle.pgm_raster.specs.Stage.{HasRoom, IsPart, IsDigits};
+ghost use Rattle.pgm_raster.specs.declared.part.Part.TheVariants as part;
+
+use crate::fault::RasterFault;
+use crate::part::{Digits, Limits};
+
+/// The most digits of a sample: each such number fits 32 bits.
+const LONGEST: u32 = 9;
+
+impl Digits {
+    /// No digit.
+    pub(crate) const NONE: Digits = Digits { count: 0, value: 0 };
+}
+
+/// Whether the byte is a blank, a TAB, a CR or an LF.
+#[inline(always)]
+fn is_whitespace(byte: u8) -> bool
+    ensures { result ≡ is_space byte }
+{
+    byte == b' ' || byte == b'\t' || byte == b'\r' || byte == b'\n'
+}
+
+/// Ends the digits so far, if there are any: they are a sample.
+#[inline(always)]
+pub(crate) fn end_digits(
+    heights: &mut Vec<u16>,
+    limits: Limits,
+    digits: Digits,
+) -> Result<(), RasterFault>
+    requires room { HasRoom limits heights.old }
+    requires part { IsPart limits (vec_len heights.old) (part.Plain digits) }
+    ensures ok { OnOk result ((rest : ℕ → Answer) →
+        after heights.old.items (ended_then limits (length heights.old.items) digits rest)
+        ≡ after heights.new.items (rest (length heights.new.items))) }
+    ensures err { IfErr result (λ fault. (rest : ℕ → Answer) →
+        after heights.old.items (ended_then limits (length heights.old.items) digits rest) ≡ Err fault) }
+    ensures valid { OnOk result (HasRoom limits heights.new) }
+{
+    if digits.count == 0 {
+        return Ok(());
+    }
+    if digits.value > u32::from(limits.maxval) {
+        return Err(RasterFault::AboveMaxval {
+            index: heights.len() as u64,
+        });
+    }
+    heights.push(digits.value as u16).unwrap();
+    Ok(())
+}
+
+/// Takes a byte, and answers the digits of the sample that is not ended.
+#[inline(always)]
+fn plain_step(
+    heights: &mut Vec<u16>,
+    limits: Limits,
+    at: u64,
+    digits: Digits,
+    byte: u8,
+) -> Result<Digits, RasterFault>
+    requires room { HasRoom limits heights.old }
+    requires part { IsPart limits (vec_len heights.old) (part.Plain digits) }
+    ensures ok { IfOk result (λ next. (more : List ℕ) →
+        reads limits heights.old.items (part.Plain digits) at (byte ∷ more)
+        ≡ reads limits heights.new.items (part.Plain next) (at + 1) more) }
+    ensures err { IfErr result (λ fault. (more : List ℕ) →
+        reads limits heights.old.items (part.Plain digits) at (byte ∷ more) ≡ Err fault) }
+    ensures valid { OnOk result (HasRoom limits heights.new) }
+    ensures part { IfOk result (λ next. IsPart limits (vec_len heights.new) (part.Plain next)) }
+{
+    let wanted = heights.len() < limits.count;
+    if byte.is_ascii_digit() && wanted && digits.count < LONGEST {
+        return Ok(Digits {
+            count: digits.count + 1,
+            value: 10 * digits.value + u32::from(byte - b'0'),
+        });
+    }
+    if is_whitespace(byte) {
+        end_digits(heights, limits, digits)?;
+        return Ok(Digits::NONE);
+    }
+    if wanted {
+        return Err(RasterFault::BadSample { at });
+    }
+    Err(RasterFault::Trailing { at })
+}
+
+/// Takes bytes, and answers the digits of the sample that is not ended.
+pub(crate) fn plain_after(
+    heights: &mut Vec<u16>,
+    limits: Limits,
+    at: u64,
+    digits: Digits,
+    piece: &[u8],
+) -> Result<Digits, RasterFault>
+    requires room { HasRoom limits heights.old }
+    requires part { IsPart limits (vec_len heights.old) (part.Plain digits) }
+    requires place { at + length piece.now < 2 ^ 64 }
+    ensures ok { IfOk result (λ next. (more : List ℕ) →
+        reads limits heights.old.items (part.Plain digits) at (piece.now ++ more)
+        ≡ reads limits heights.new.items (part.Plain next) (at + length piece.now) more) }
+    ensures err { IfErr result (λ fault. (more : List ℕ) →
+        reads limits heights.old.items (part.Plain digits) at (piece.now ++ more) ≡ Err fault) }
+    ensures valid { OnOk result (HasRoom limits heights.new) }
+    ensures part { IfOk result (λ next. IsPart limits (vec_len heights.new) (part.Plain next)) }
+{
+    let mut digits = digits;
+    for i in 0..piece.len() {
+        digits = plain_step(heights, limits, at + i as u64, digits, piece[i])?;
+    }
+    Ok(digits)
+}

@@ -1,0 +1,97 @@
+//! Further bytes of a raw raster.
+
+ghost use Rattle.std.specs.Prelude.{◌≡◌, ◌+◌, ◌^◌, ◌<◌, ◌≤◌, ◌++◌, ℕ, List, None, length, vec_len, OnOk, IfOk, IfErr};
+ghost use Rattle.std.specs.Vec.{vec_capacity};
+ghost use Rattle.pgm_raster.specs.Progress.{reads};
+ghost use Rattle.pgm_raster.specs.Stage.{HasRoom, IsPart};
+ghost use Rattle.pgm_raster.specs.declared.part.Part.TheVariants as part;
+
+use crate::bulk::{push_bytes, push_words};
+use crate::fault::RasterFault;
+use crate::part::Limits;
+
+/// Takes bytes that are a sample each.
+pub(crate) fn bytes_after(
+    heights: &mut Vec<u16>,
+    limits: Limits,
+    at: u64,
+    piece: &[u8],
+) -> Result<(), RasterFault>
+    requires room { HasRoom limits heights.old }
+    requires place { at + length piece.now < 2 ^ 64 }
+    ensures ok { OnOk result ((more : List ℕ) →
+        reads limits heights.old.items part.Bytes at (piece.now ++ more)
+        ≡ reads limits heights.new.items part.Bytes (at + length piece.now) more) }
+    ensures err { IfErr result (λ fault. (more : List ℕ) →
+        reads limits heights.old.items part.Bytes at (piece.now ++ more) ≡ Err fault) }
+    ensures valid { OnOk result (HasRoom limits heights.new) }
+{
+    let wanted = limits.count - heights.len();
+    let (front, back) = piece.split_at(piece.len().min(wanted));
+    push_bytes(heights, limits, front)?;
+    if back.is_empty() {
+        return Ok(());
+    }
+    Err(RasterFault::Trailing {
+        at: at + front.len() as u64,
+    })
+}
+
+/// Takes bytes, two of which are a sample, behind a whole sample, and answers the first byte of the
+/// sample that is not whole.
+pub(crate) fn words_after(
+    heights: &mut Vec<u16>,
+    limits: Limits,
+    at: u64,
+    piece: &[u8],
+) -> Result<Option<u8>, RasterFault>
+    requires room { HasRoom limits heights.old }
+    requires place { at + length piece.now < 2 ^ 64 }
+    ensures ok { IfOk result (λ high. (more : List ℕ) →
+        reads limits heights.old.items (part.Words None) at (piece.now ++ more)
+        ≡ reads limits heights.new.items (part.Words high) (at + length piece.now) more) }
+    ensures err { IfErr result (λ fault. (more : List ℕ) →
+        reads limits heights.old.items (part.Words None) at (piece.now ++ more) ≡ Err fault) }
+    ensures valid { OnOk result (HasRoom limits heights.new) }
+    ensures part { IfOk result (λ high. IsPart limits (vec_len heights.new) (part.Words high)) }
+{
+    let wanted = limits.count - heights.len();
+    let pairs = wanted.min(piece.len() / 2);
+    let (front, back) = piece.split_at(2 * pairs);
+    push_words(heights, limits, front)?;
+    if back.is_empty() {
+        return Ok(None);
+    }
+    if pairs < wanted {
+        return Ok(Some(back[0]));
+    }
+    Err(RasterFault::Trailing {
+        at: at + front.len() as u64,
+    })
+}
+
+/// Takes bytes, two of which are a sample, behind the first byte of a sample.
+pub(crate) fn words_after_half(
+    heights: &mut Vec<u16>,
+    limits: Limits,
+    at: u64,
+    high: u8,
+    piece: &[u8],
+) -> Result<Option<u8>, RasterFault>
+    requires room { HasRoom limits heights.old }
+    requires wanted { vec_len heights.old < limits.count }
+    requires place { at + length piece.now < 2 ^ 64 }
+    ensures ok { IfOk result (λ half. (more : List ℕ) →
+        reads limits heights.old.items (part.Words (Some high)) at (piece.now ++ more)
+        ≡ reads limits heights.new.items (part.Words half) (at + length piece.now) more) }
+    ensures err { IfErr result (λ fault. (more : List ℕ) →
+        reads limits heights.old.items (part.Words (Some high)) at (piece.now ++ more) ≡ Err fault) }
+    ensures valid { OnOk result (HasRoom limits heights.new) }
+    ensures part { IfOk result (λ half. IsPart limits (vec_len heights.new) (part.Words half)) }
+{
+    let [low, rest @ ..] = piece else {
+        return Ok(Some(high));
+    };
+    push_words(heights, limits, &[high, *low])?;
+    words_after(heights, limits, at + 1, rest)
+}

@@ -1,0 +1,191 @@
+//! The reader of rasters.
+
+ghost use Rattle.std.specs.Prelude.{◌≡◌, ◌+◌, ◌^◌, ◌<◌, ◌≤◌, [], ◌++◌, List, ℕ, Ok, Err, Some, None, IfSome, length, vec_len, OnOk, IfOk, IfErr};
+ghost use Rattle.pgm_raster.specs.Progress.{resume, raster_of, next_place, refusal_of, IsSettled, after, end_at, nothing_of, reads};
+ghost use Rattle.pgm_raster.specs.Stage.{HasRoom, IsPart};
+
+use crate::fault::RasterFault;
+use crate::form::RasterForm;
+use crate::part::{Digits, Limits, Part};
+use crate::plain::{end_digits, plain_after};
+use crate::raw::{bytes_after, words_after, words_after_half};
+use roam_edge::NoMemory;
+use std::alloc::Global;
+use std::marker::Model;
+
+/// A reader of the bytes of a raster, in pieces of any length.
+///
+/// After a refusal it answers the same refusal from every later call.
+/// Cost (not proved): raw samples by lanes, plain ones by a step a byte. Memory is taken by `new` alone.
+/// Source: Netpbm manual, "pgm".
+#[derive(Drop)]
+pub struct RasterReader {
+    /// The samples that are whole, with room for all.
+    heights: Vec<u16>,
+    /// What is wanted.
+    limits: Limits,
+    /// What has come of the next sample.
+    part: Part,
+    /// The place of the next byte in the file.
+    at: u64,
+    /// The first refusal.
+    refused: Option<RasterFault>,
+}
+
+impl Model for RasterReader {
+    ghost use Rattle.pgm_raster.specs.Progress.{Progress, Reading};
+
+    ghost Value = { Progress };
+
+    ghost use Rattle.pgm_raster.specs.Stage.{progress_of, IsReader};
+
+    ghost view = { λ r. progress_of r.refused (Reading r.limits r.heights.items r.part r.at) };
+
+    ghost invariant = { λ r. IsReader r.refused r.limits r.heights r.part };
+}
+
+impl RasterReader {
+    /// A reader that has taken no byte of a raster of so many samples, none above `maxval`, whose first
+    /// byte stands at this place of the file, counted from 0.
+    ///
+    /// The room for the samples is taken here. The one error is want of memory.
+    pub fn new(
+        alloc: Global,
+        form: RasterForm,
+        count: usize,
+        maxval: u16,
+        place: u64,
+    ) -> Result<RasterReader, NoMemory>
+        ensures value { IfOk result (λ reader. (more : List ℕ) → resume reader more ≡ raster_of form count maxval place more) }
+        ensures place { IfOk result (λ reader. next_place reader ≡ place) }
+        ensures good { IfOk result (λ reader. refusal_of reader ≡ None) }
+    {
+        let part = match form {
+            RasterForm::Bytes => Part::Bytes,
+            RasterForm::Words => Part::Words(None),
+            RasterForm::Plain => Part::Plain(Digits::NONE),
+        };
+        Ok(RasterReader {
+            heights: Vec::with_capacity(alloc, count)?,
+            limits: Limits { count, maxval },
+            part,
+            at: place,
+            refused: None,
+        })
+    }
+
+    /// The place of the next byte in the file, and 0 after a refusal.
+    pub fn place(&self) -> u64
+        ensures value { result ≡ next_place self.now }
+    {
+        match self.refused {
+            Some(_) => 0,
+            None => self.at,
+        }
+    }
+
+    /// Takes further bytes of the file.
+    ///
+    /// A refusal comes with the piece that brings the byte that is refused.
+    pub fn feed(&mut self, piece: &[u8]) -> Result<(), RasterFault>
+        requires place { next_place self.old + length piece.now < 2 ^ 64 }
+        // What the bytes mean together is not changed by where they are cut.
+        ensures ok { OnOk result ((more : List ℕ) → resume self.old (piece.now ++ more) ≡ resume self.new more) }
+        ensures place { OnOk result (next_place self.new ≡ next_place self.old + length piece.now) }
+        // No byte so far is refused: what still comes decides.
+        ensures unsettled { OnOk result ((fault : RasterFault) → ¬ IsSettled self.new fault) }
+        // The refusal is that of the file, whatever still comes.
+        ensures refusal { IfErr result (λ fault. (more : List ℕ) → resume self.old (piece.now ++ more) ≡ Err fault) }
+        ensures err { IfErr result (λ fault. IsSettled self.new fault) }
+        ensures good { OnOk result (refusal_of self.new ≡ None) }
+        ensures bad { IfErr result (λ fault. refusal_of self.new ≡ Some fault) }
+        ensures sticks { IfSome (refusal_of self.old) (λ fault. result ≡ Err fault) }
+    {
+        if let Some(fault) = self.refused {
+            return Err(fault);
+        }
+        match part_after(&mut self.heights, self.limits, self.part, self.at, piece) {
+            Ok(part) => {
+                self.part = part;
+                self.at += piece.len() as u64;
+                Ok(())
+            }
+            Err(fault) => {
+                self.refused = Some(fault);
+                Err(fault)
+            }
+        }
+    }
+
+    /// Ends the bytes of the file, and answers the samples in file order.
+    pub fn finish(self) -> Result<Vec<u16>, RasterFault>
+        ensures ok { IfOk result (λ heights. resume self [] ≡ Ok heights.items) }
+        ensures err { IfErr result (λ fault. resume self [] ≡ Err fault) }
+    {
+        if let Some(fault) = self.refused {
+            return Err(fault);
+        }
+        last_answer(self.heights, self.limits, self.part)
+    }
+}
+
+/// What further bytes make of a part of a sample.
+fn part_after(
+    heights: &mut Vec<u16>,
+    limits: Limits,
+    part: Part,
+    at: u64,
+    piece: &[u8],
+) -> Result<Part, RasterFault>
+    requires room { HasRoom limits heights.old }
+    requires part { IsPart limits (vec_len heights.old) part }
+    requires place { at + length piece.now < 2 ^ 64 }
+    ensures ok { IfOk result (λ next. (more : List ℕ) →
+        reads limits heights.old.items part at (piece.now ++ more)
+        ≡ reads limits heights.new.items next (at + length piece.now) more) }
+    ensures err { IfErr result (λ fault. (more : List ℕ) →
+        reads limits heights.old.items part at (piece.now ++ more) ≡ Err fault) }
+    ensures valid { OnOk result (HasRoom limits heights.new) }
+    ensures part { IfOk result (λ next. IsPart limits (vec_len heights.new) next) }
+{
+    match part {
+        Part::Bytes => {
+            bytes_after(heights, limits, at, piece)?;
+            Ok(Part::Bytes)
+        }
+        Part::Words(None) => Ok(Part::Words(words_after(heights, limits, at, piece)?)),
+        Part::Words(Some(high)) => Ok(Part::Words(words_after_half(
+            heights, limits, at, high, piece,
+        )?)),
+        Part::Plain(digits) => Ok(Part::Plain(plain_after(heights, limits, at, digits, piece)?)),
+    }
+}
+
+/// Ends the sample that is not whole, if the end of the file can end it.
+fn end_part(heights: &mut Vec<u16>, limits: Limits, part: Part) -> Result<(), RasterFault>
+    requires room { HasRoom limits heights.old }
+    requires part { IsPart limits (vec_len heights.old) part }
+    ensures ok { OnOk result ((at : ℕ) → reads limits heights.old.items part at []
+        ≡ after heights.new.items (end_at limits (length heights.new.items))) }
+    ensures err { IfErr result (λ fault. (at : ℕ) → reads limits heights.old.items part at [] ≡ Err fault) }
+{
+    match part {
+        Part::Bytes | Part::Words(_) => Ok(()),
+        Part::Plain(digits) => end_digits(heights, limits, digits),
+    }
+}
+
+/// The answer if no byte comes any more.
+fn last_answer(heights: Vec<u16>, limits: Limits, part: Part) -> Result<Vec<u16>, RasterFault>
+    requires room { HasRoom limits heights }
+    requires part { IsPart limits (vec_len heights) part }
+    ensures ok { IfOk result (λ all. (at : ℕ) → reads limits heights.items part at [] ≡ Ok all.items) }
+    ensures err { IfErr result (λ fault. (at : ℕ) → reads limits heights.items part at [] ≡ Err fault) }
+{
+    let mut heights = heights;
+    end_part(&mut heights, limits, part)?;
+    if heights.len() < limits.count {
+        return Err(RasterFault::Truncated);
+    }
+    Ok(heights)
+}
