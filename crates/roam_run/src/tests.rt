@@ -487,6 +487,11 @@ fn words_that_are_no_command_open_nothing(rt: HostRuntime) -> Result<(), Fail> {
         assert_eq!(rt; ran.meshes.count(), 0, "{words:?}");
         assert_eq!(rt; ran.report.bytes(), b"".as_slice(), "{words:?}");
     }
+    Ok(())
+}
+
+#[test]
+fn fewer_words_open_nothing(rt: HostRuntime) -> Result<(), Fail> {
     for count in 0..6 {
         let (ran, calls) = run_frail(rt.alloc(), &WORDS[..count], b"frame\n", 64, 0)?;
         assert_eq!(rt; ran.status, Status::Usage, "{count} words");
