@@ -1,11 +1,12 @@
 -- Facts about a reader: one byte, and then more.
-use Rattle.std.proofs.Common.{◌≡◌, ℕ, ◌+◌, List, [], ◌∷◌, Result, Ok, Err, refl, sym, ap, ◌∙◌, eq-eqb, ne_eqb}
+use Rattle.std.proofs.Common.{◌≡◌, ℕ, zero, suc, ◌+◌, ◌-◌, ◌≤◌, arith, List, [], ◌∷◌, Result, Ok, Err, refl, sym, ap, ◌∙◌, eq-eqb, ne_eqb}
 use Rattle.pgm_header.specs.declared.accepted.Header.{Header}
 use Rattle.pgm_header.specs.declared.fault.HeaderFault.{HeaderFault}
 use Rattle.pgm_header.specs.declared.fault.HeaderFault.TheVariants.{HeaderTooLong}
 use Rattle.pgm_header.specs.declared.machine.HeaderValues.{HeaderValues}
 use Rattle.pgm_header.specs.declared.machine.State.{State}
-use Rattle.pgm_header.specs.declared.machine.State.TheVariants.{Start}
+use Rattle.pgm_header.specs.declared.machine.Fields.{Fields}
+use Rattle.pgm_header.specs.declared.machine.State.TheVariants.{Start, Letter, Named, Gap, Comment, Number}
 use Rattle.pgm_header.specs.declared.machine.Step.TheVariants.{Goes, Ends, Fails}
 use Rattle.pgm_header.specs.Accepted.{Part, Whole, Bad, judged}
 use Rattle.pgm_header.specs.Machine.{step_of}
@@ -62,3 +63,29 @@ unfolding resume header_of
 resume_start more = refl
 
 pub ruleset reads = (resume_goes, resume_long, resume_ends, resume_judged, resume_fails, resume_none, taken_place, resume_start)
+
+-- From each state some bytes are refused: a `#` continues no header, or a comment, which may be too long.
+
+comment_refused : (room place : ℕ) (before : Fields) → place + room ≡ 65535 → (more : List ℕ) × (fault : HeaderFault) × (run more (Comment before) place ≡ Bad fault)
+comment_refused zero place before e = (35 ∷ [], HeaderTooLong, run_long (Comment before) (Comment before) place 35 [] refl (omega (arith, e)))
+comment_refused (suc room) place before e =
+    let rest = comment_refused room (place + 1) before (omega (arith, e)) in
+    (35 ∷ rest.0, rest.1, run_goes (Comment before) (Comment before) place 35 rest.0 refl (λ last. omega (arith, e, last)) ∙ rest.2)
+
+gap_refused : (room place : ℕ) (before : Fields) → place + room ≡ 65535 → (more : List ℕ) × (fault : HeaderFault) × (run more (Gap before) place ≡ Bad fault)
+gap_refused zero place before e = (35 ∷ [], HeaderTooLong, run_long (Gap before) (Comment before) place 35 [] refl (omega (arith, e)))
+gap_refused (suc room) place before e =
+    let rest = comment_refused room (place + 1) before (omega (arith, e)) in
+    (35 ∷ rest.0, rest.1, run_goes (Gap before) (Comment before) place 35 rest.0 refl (λ last. omega (arith, e, last)) ∙ rest.2)
+
+state_refused : (room place : ℕ) (s : State) → place + room ≡ 65535 → (more : List ℕ) × (fault : HeaderFault) × (run more s place ≡ Bad fault)
+state_refused room place Start e = (35 ∷ [], unfit place, run_fails Start place 35 [] refl)
+state_refused room place Letter e = (35 ∷ [], unfit place, run_fails Letter place 35 [] refl)
+state_refused room place (Named plain) e = (35 ∷ [], unfit place, run_fails (Named plain) place 35 [] refl)
+state_refused room place (Gap before) e = gap_refused room place before e
+state_refused room place (Comment before) e = comment_refused room place before e
+state_refused room place (Number before digits value) e = (35 ∷ [], unfit place, run_fails (Number before digits value) place 35 [] refl)
+
+pub resume_refused : (p : Progress) → p.place ≤ 65535 → (more : List ℕ) × (fault : HeaderFault) × (resume p more ≡ Bad fault)
+unfolding resume
+resume_refused p within = state_refused (65535 - p.place) p.place p.state (omega (arith, within))

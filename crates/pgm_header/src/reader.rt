@@ -1,6 +1,7 @@
 //! The reader of a header.
 
 ghost use Rattle.std.specs.Prelude.{◌≡◌, ◌+◌, ◌≤◌, [], ◌∷◌, List, ℕ, IfOk, IfErr, OnErr, IfSome, IfNone};
+ghost use Rattle.pgm_header.specs.declared.fault.HeaderFault.{HeaderFault as Fault};
 ghost use Rattle.pgm_header.specs.Accepted.{IsHeader, Part, Whole, Bad};
 ghost use Rattle.pgm_header.specs.Reading.{resume, header_of, taken, unfit};
 
@@ -44,11 +45,21 @@ impl HeaderReader {
     pub fn new() -> HeaderReader
         ensures value { (more : List ℕ) → resume result more ≡ header_of more }
         ensures count { taken result ≡ 0 }
+        ensures open { (more : List ℕ) × (fault : Fault) × (resume result more ≡ Bad fault) }
     {
         HeaderReader {
             state: State::Start,
             place: 0,
         }
+    }
+
+    /// The place of the next byte, counted from 0: how many bytes were taken.
+    #[tactic(auto, using(crate::proofs::ReadingLemmas::taken_place))]
+    pub fn place(&self) -> u32
+        ensures value { result ≡ taken self.now }
+        ensures bound { result ≤ 65535 }
+    {
+        self.place
     }
 
     /// Takes the next byte. `None`: the header goes on. A header: the byte ended it.
@@ -57,8 +68,10 @@ impl HeaderReader {
         // What the bytes mean together is not changed by taking them one by one.
         ensures goes_on { IfOk result (λ ended. IfNone ended
             ((more : List ℕ) → resume self.old (byte ∷ more) ≡ resume self.new more)) }
-        // No byte so far is refused, or ends the header.
+        // No byte so far is refused, or ends the header: what still comes decides.
         ensures part { IfOk result (λ ended. IfNone ended (resume self.new [] ≡ Part)) }
+        ensures open { IfOk result (λ ended. IfNone ended
+            ((more : List ℕ) × (fault : Fault) × (resume self.new more ≡ Bad fault))) }
         ensures count { IfOk result (λ ended. IfNone ended (taken self.new ≡ taken self.old + 1)) }
         ensures limit { IfOk result (λ ended. IfNone ended (taken self.new ≤ 65535)) }
         // The header is that of the text, whatever follows, and what follows is left.

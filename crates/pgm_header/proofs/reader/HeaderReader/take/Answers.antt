@@ -1,9 +1,9 @@
-use Rattle.std.proofs.Common.{◌≡◌, ◌∙◌, ◌∷◌, sym, subst}
+use Rattle.std.proofs.Common.{◌≡◌, ◌+◌, ◌∙◌, ◌∷◌, sym, subst, arith}
 use Rattle.pgm_header.specs.declared.fault.HeaderFault.TheVariants.{HeaderTooLong}
 use Rattle.pgm_header.specs.Accepted.{Whole, Bad}
 use Rattle.pgm_header.specs.Reading.{Progress, resume}
 use Rattle.pgm_header.specs.Inside.{progress_of}
-use Rattle.pgm_header.proofs.ReadingLemmas.{resume_long, resume_ends, resume_judged}
+use Rattle.pgm_header.proofs.ReadingLemmas.{resume_long, resume_ends, resume_judged, resume_refused}
 use Rattle.pgm_header.proofs.reader.HeaderReader.take.Goals as goal
 use Rattle.pgm_header.proofs.reader.HeaderReader.take.Goals.{in-Ok, in-Err}
 
@@ -29,3 +29,8 @@ returns-after-judge-clause-refusal c =
           subst (λ (p : Progress). resume p (c.args.byte ∷ more) ≡ Bad w.in-Err.fault) c.self.view_is
           (resume_judged (progress_of c.self.inside) c.in-Ends.values w.in-Err.fault c.args.byte more (sym c.step_from.ensures.value ∙ c.in-Ends.is) (sym c.judge.ensures ∙ w.in-Err.is)))
     ]
+
+pub returns-else-self-eq-LAST_PLACE-clause-open : goal.returns-else-self-eq-LAST_PLACE-clause-open
+returns-else-self-eq-LAST_PLACE-clause-open c =
+    resume_refused (record { state = c.in-Goes.state; place = c.self.inside.place + 1 })
+    (omega (arith, c.self.invariant.within, c.if-self-eq-LAST_PLACE.false))
