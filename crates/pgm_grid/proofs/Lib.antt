@@ -1,5 +1,2 @@
-pub mod HeaderLemmas
-pub mod RasterLemmas
-pub mod ProgressLemmas
+pub mod GridLemmas
 pub mod ReaderLemmas
-pub mod LawLemmas

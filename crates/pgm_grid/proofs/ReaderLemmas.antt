@@ -1,261 +1,357 @@
--- Facts about what a reader will answer, for the clauses of its calls.
-use Rattle.std.proofs.Common.{◌≡◌, ◌≢◌, ℕ, ◌+◌, ◌*◌, ◌^◌, ◌≤◌, ◌⊎◌, Bool, true, false, cond, nat_eq, List, [], ◌∷◌, ◌++◌, length, replicate, take, Option, Some, None, Result, Ok, Err, OnOk, IfErr, IsErrOf, refl, sym, ap, ◌∙◌, inl, inr, subst, arith, length-append, append-nil, eq-eqb, ne_eqb}
-use Rattle.std.proofs.lemmas.Bool.{cases_lt, cases_eq}
-use Rattle.std.proofs.lemmas.List.{length-replicate, length_push}
-use Rattle.mesh_defs.specs.HeightField.{HeightField}
+-- What a reader answers: the header's answer, and behind it the raster's.
+use Rattle.std.proofs.Common.{◌≡◌, ◌≢◌, ℕ, ◌+◌, ◌-◌, ◌*◌, ◌^◌, ◌<◌, ◌≤◌, ◌⊎◌, List, [], ◌∷◌, ◌++◌, length, take, drop, get_or, All, Option, Some, None, Result, Ok, Err, OnOk, IfErr, IsErrOf, refl, sym, ap, ◌∙◌, inl, inr, subst, arith, length-append, append-nil, append_assoc, rules}
+use Rattle.std.proofs.Math.Seq.{take-append_seam, take-length}
+use Rattle.std.proofs.lemmas.List.Elements.{All-append, All-nil}
+use Rattle.std.proofs.lemmas.List.{take_more, take-append-drop, length-take-le}
+use Rattle.mesh_defs.specs.HeightField.{HeightField, IsHeightField, side_of}
+use Rattle.pgm_header.specs.declared.accepted.Header.{Header}
+use Rattle.pgm_header.specs.declared.fault.HeaderFault.{HeaderFault}
+use Rattle.pgm_header.specs.declared.fault.HeaderFault.TheVariants as header
+use Rattle.pgm_header.specs.Accepted.{IsHeader, HeaderAnswer, Part, Whole, Bad}
+use Rattle.pgm_header.specs.Reading as reading
+use Rattle.pgm_raster.specs.declared.fault.RasterFault.{RasterFault}
+use Rattle.pgm_raster.specs.declared.fault.RasterFault.TheVariants as raster
+use Rattle.pgm_raster.specs.RasterText.{IsRaster}
+use Rattle.pgm_raster.specs.Laws.{RastersAreRead, ReadBytesAreRasters}
+use Rattle.pgm_raster.specs.Progress as samples
 use Rattle.pgm_grid.specs.declared.fault.PgmFault.{PgmFault}
-use Rattle.pgm_grid.specs.declared.fault.PgmFault.TheVariants.{BadHeader, Truncated, Trailing, NoMemory}
-use Rattle.pgm_grid.specs.declared.stage.Stage.{Stage}
-use Rattle.pgm_grid.specs.declared.stage.Stage.TheVariants as stage
-use Rattle.pgm_grid.specs.PgmText.{IsLevel, points_of, header_text, raster_of, text_length}
-use Rattle.pgm_grid.specs.Progress.{Progress, InHeader, InRaster, HasRefused, beginning, raster_step, after_byte, header_step, advance, answer_of, resume, grid_of, taken, IsSettled, EndsHeader}
-use Rattle.pgm_grid.specs.Stage.{progress_of, IsStage, StepsTo, GoesOn, outcome_of}
-use Rattle.pgm_grid.proofs.HeaderLemmas.{no_x_begins, below_header, header_short, points_small}
-use Rattle.pgm_grid.proofs.ProgressLemmas.{advance-append, raster_step-in, raster_step-out, header_step-bad, answer-whole, answer-short}
+use Rattle.pgm_grid.specs.declared.fault.PgmFault.TheVariants.{BadMagic, BadHeader, HeaderTooLong, BadMaxval, NotSquare, BadSide, Truncated, BadSample, AboveMaxval, Trailing, NoMemory}
+use Rattle.pgm_grid.specs.PgmText.{points_of, form_of, most_bytes}
+use Rattle.pgm_grid.specs.Progress.{Progress, InHeader, InRaster, HasRefused, header_fault, raster_fault, grid_with, grid_answer, samples_at, file_answer, resume, grid_of, taken, IsSettled, ReadsRasters, EndsHeader}
+use Rattle.pgm_grid.specs.Stage.{IsOpenHeader, HasRead, BeginsRaster, Takes, Stops}
 
--- What a reader has come to, without the fields.
+-- Faults.
 
-abbrev pub IsSound : Progress → Type 0
-IsSound (InHeader head) = GoesOn head
-IsSound (InRaster n bytes) = IsLevel n × (length bytes ≤ 2 * points_of n)
-IsSound (HasRefused fault) = Unit {0}
+no_header-memory : (fault : HeaderFault) → header_fault fault ≡ NoMemory → ⊥
+no_header-memory header.BadMagic e = cc
+no_header-memory (header.BadHeader at) e = cc
+no_header-memory header.HeaderTooLong e = cc
+no_header-memory header.BadMaxval e = cc
+no_header-memory header.NotSquare e = cc
+no_header-memory header.BadSide e = cc
 
--- it has refused no byte
-abbrev IsTaking : Progress → Type 0
-IsTaking (InHeader head) = Unit {0}
-IsTaking (InRaster n bytes) = Unit {0}
-IsTaking (HasRefused fault) = ⊥
+no_raster-memory : (fault : RasterFault) → raster_fault fault ≡ NoMemory → ⊥
+no_raster-memory (raster.BadSample at) e = cc
+no_raster-memory (raster.AboveMaxval index) e = cc
+no_raster-memory (raster.Trailing at) e = cc
+no_raster-memory raster.Truncated e = cc
 
-pub sound-stage : (s : Stage) → IsStage s → IsSound (progress_of s)
-sound-stage (stage.Header head) h = h.goes_on
-sound-stage (stage.Samples raster) h = (h.level, h.within)
-sound-stage (stage.Stopped fault) h = tt
+header-truncated : (fault : HeaderFault) → header_fault fault ≡ Truncated → ⊥
+header-truncated header.BadMagic e = cc
+header-truncated (header.BadHeader at) e = cc
+header-truncated header.HeaderTooLong e = cc
+header-truncated header.BadMaxval e = cc
+header-truncated header.NotSquare e = cc
+header-truncated header.BadSide e = cc
 
--- Answers for what is still to come.
+-- no two refusals of a raster are the same of a file
+same_raster : (one other : RasterFault) → raster_fault one ≡ raster_fault other → one ≡ other
+same_raster (raster.BadSample at) (raster.BadSample place) e = cc
+same_raster (raster.BadSample at) (raster.AboveMaxval index) e = absurd cc
+same_raster (raster.BadSample at) (raster.Trailing place) e = absurd cc
+same_raster (raster.BadSample at) raster.Truncated e = absurd cc
+same_raster (raster.AboveMaxval index) (raster.BadSample place) e = absurd cc
+same_raster (raster.AboveMaxval index) (raster.AboveMaxval other) e = cc
+same_raster (raster.AboveMaxval index) (raster.Trailing place) e = absurd cc
+same_raster (raster.AboveMaxval index) raster.Truncated e = absurd cc
+same_raster (raster.Trailing at) (raster.BadSample place) e = absurd cc
+same_raster (raster.Trailing at) (raster.AboveMaxval index) e = absurd cc
+same_raster (raster.Trailing at) (raster.Trailing place) e = cc
+same_raster (raster.Trailing at) raster.Truncated e = absurd cc
+same_raster raster.Truncated (raster.BadSample place) e = absurd cc
+same_raster raster.Truncated (raster.AboveMaxval index) e = absurd cc
+same_raster raster.Truncated (raster.Trailing place) e = absurd cc
+same_raster raster.Truncated raster.Truncated e = refl
 
-pub resume-append : (reader : Progress) (a b : List ℕ) → resume reader (a ++ b) ≡ resume (advance reader a) b
+err-same : {A E : Type 0} (one other : E) → ◌≡◌ {A = Result A E} (Err one) (Err other) → one ≡ other
+err-same one other e = cc
+
+ok-err : {A E : Type 0} (value : A) (fault : E) → ◌≡◌ {A = Result A E} (Ok value) (Err fault) → ⊥
+ok-err value fault e = cc
+
+-- Settled readers.
+
+pub refused-settled : (fault : PgmFault) → IsSettled (HasRefused fault) fault
+unfolding IsSettled resume
+refused-settled fault = λ more. refl
+
+pub settled-same : (reader : Progress) (one other : PgmFault) → IsSettled reader one → IsSettled reader other → one ≡ other
+unfolding IsSettled
+settled-same reader one other h k = err-same one other (sym (h []) ∙ k [])
+
+-- a header that goes on is not settled
+pub unsettled-header : (reader : reading.Progress) (fault : PgmFault) → IsOpenHeader reader → IsSettled (InHeader reader) fault → ⊥
+unfolding IsSettled resume
+unsettled-header reader fault free settled =
+    let last = ap (file_answer (reading.taken reader + 0)) (sym free.part) ∙ settled [] in
+    let bad = ap (file_answer (reading.taken reader + length free.refusable.0)) (sym free.refusable.2) ∙ settled free.refusable.0 in
+    header-truncated free.refusable.1 (err-same _ _ (bad ∙ sym last))
+
+-- an answer of the raster that is a refusal
+raster-refused : (header : Header) (answer : samples.Answer) (fault : PgmFault) → grid_answer header answer ≡ Err fault
+    → (found : RasterFault) × (answer ≡ Err found) × (raster_fault found ≡ fault)
+raster-refused header (Ok heights) fault e = absurd (ok-err (grid_with header heights) fault e)
+raster-refused header (Err found) fault e = (found, refl, err-same (raster_fault found) fault e)
+
+-- a raster that is not settled is none with its header
+pub unsettled-raster : (header : Header) (reader : samples.Progress) (fault : PgmFault) → ((f : RasterFault) → samples.IsSettled reader f → ⊥)
+    → IsSettled (InRaster header reader) fault → ⊥
+unfolding IsSettled resume samples.IsSettled
+unsettled-raster header reader fault free settled =
+    let first = raster-refused header (samples.resume reader []) fault (settled []) in
+    free first.0 (λ more.
+        let other = raster-refused header (samples.resume reader more) fault (settled more) in
+        other.1 ∙ ap Err (same_raster other.0 first.0 (other.2 ∙ sym first.2)))
+
+-- Rasters.
+
+module _ (header : Header) (old new : samples.Progress) (piece : List ℕ) where
+  -- a piece of a raster was taken
+  pub raster-takes : ((more : List ℕ) → samples.resume old (piece ++ more) ≡ samples.resume new more)
+      → ((fault : RasterFault) → samples.IsSettled new fault → ⊥)
+      → samples.next_place new ≡ samples.next_place old + length piece → samples.next_place new ≤ 2 ^ 28
+      → Takes (InRaster header old) (InRaster header new) piece
+  unfolding resume taken
+  raster-takes means free count limit = record {
+    means = λ more. ap (grid_answer header) (means more);
+    unsettled = λ fault settled. unsettled-raster header new fault free settled;
+    count = count;
+    limit = limit;
+  }
+
+  -- a piece of a raster was read, behind what was read before
+  pub raster-read : HasRead header old → All (λ b. b < 256) piece
+      → ((more : List ℕ) → samples.resume old (piece ++ more) ≡ samples.resume new more)
+      → ((fault : RasterFault) → samples.IsSettled new fault → ⊥) → samples.next_place new ≤ 2 ^ 28
+      → HasRead header new
+  raster-read read bytes means free limit = record {
+    valid = read.valid;
+    at = read.at;
+    bytes = read.bytes ++ piece;
+    are_bytes = All-append (λ b. b < 256) read.bytes piece read.are_bytes bytes;
+    means = λ more. sym (means more) ∙ read.means (piece ++ more) ∙ ap (samples_at header read.at) (sym (append_assoc read.bytes piece more));
+    unsettled = free;
+    small = limit;
+  }
+
+-- a piece of a raster was refused
+pub raster-stops : (header : Header) (old : samples.Progress) (piece : List ℕ) (fault : RasterFault)
+    → ((f : RasterFault) → samples.IsSettled old f → ⊥)
+    → ((more : List ℕ) → samples.resume old (piece ++ more) ≡ Err fault)
+    → Stops (InRaster header old) piece (raster_fault fault)
 unfolding resume
-resume-append reader a b = ap answer_of (sym (advance-append reader a b))
+raster-stops header old piece fault free refusal = record {
+  refusal = λ other more. ap (grid_answer header) (refusal more);
+  no_memory = λ e. absurd (no_raster-memory fault e);
+  sticks = λ before settled. absurd (unsettled-raster header old before free settled);
+}
 
-pub resume-refused : (fault : PgmFault) (more : List ℕ) → resume (HasRefused fault) more ≡ Err fault
-unfolding resume
-resume-refused fault more = refl
+-- Headers.
 
--- at the end a sound reader answers what it has come to
-pub resume-nothing : (reader : Progress) → IsSound reader → resume reader [] ≡ answer_of reader
-unfolding resume
-resume-nothing (InHeader head) sound = refl
-resume-nothing (InRaster n bytes) sound = ap answer_of (ap (raster_step n) (append-nil bytes) ∙ raster_step-in n bytes sound.1)
-resume-nothing (HasRefused fault) sound = refl
+-- so many bytes of a piece were taken by the reader of a header
+pub record HasTaken (start reader : reading.Progress) (piece : List ℕ) (count : ℕ) : Type 0 where
+  pub means : (more : List ℕ) → reading.resume start (take count piece ++ more) ≡ reading.resume reader more
+  pub counted : reading.taken reader ≡ reading.taken start + count
+  pub goes_on : IsOpenHeader reader
 
-pub resume-start : (more : List ℕ) → resume (InHeader []) more ≡ grid_of more
+module _ (start reader : reading.Progress) (piece : List ℕ) (begun : IsOpenHeader start) where
+  -- the whole piece was taken
+  pub header-takes : HasTaken start reader piece (length piece) → take (length piece) piece ≡ piece
+      → Takes (InHeader start) (InHeader reader) piece
+  unfolding resume taken
+  header-takes so_far whole = record {
+    means = λ more.
+        let total : reading.taken start + length (piece ++ more) ≡ reading.taken reader + length more = omega (arith, length-append piece more, so_far.counted) in
+        let answer : reading.resume start (piece ++ more) ≡ reading.resume reader more = rw whole at so_far.means more in
+        ap (λ n. file_answer n (reading.resume start (piece ++ more))) total ∙ ap (file_answer (reading.taken reader + length more)) answer;
+    unsettled = λ fault settled. unsettled-header reader fault so_far.goes_on settled;
+    count = so_far.counted;
+    limit = omega (arith, so_far.goes_on.small);
+  }
+
+  module _ (count : ℕ) (byte : ℕ) (rest : List ℕ) (so_far : HasTaken start reader piece count) (cut : piece ≡ take count piece ++ (byte ∷ rest)) where
+    -- the piece, from the byte on
+    from-byte : (more : List ℕ) → reading.resume start (piece ++ more) ≡ reading.resume reader (byte ∷ (rest ++ more))
+    from-byte more =
+        ap (λ p. reading.resume start (p ++ more)) cut
+        ∙ ap (reading.resume start) (append_assoc (take count piece) (byte ∷ rest) more)
+        ∙ so_far.means (byte ∷ (rest ++ more))
+
+    -- the byte was refused
+    pub header-stops : (fault : HeaderFault) → ((more : List ℕ) → reading.resume reader (byte ∷ more) ≡ Bad fault)
+        → Stops (InHeader start) piece (header_fault fault)
+    unfolding resume
+    header-stops fault refusal = record {
+      refusal = λ other more. ap (file_answer (reading.taken start + length (piece ++ more))) (from-byte more ∙ refusal (rest ++ more));
+      no_memory = λ e. absurd (no_header-memory fault e);
+      sticks = λ before settled. absurd (unsettled-header start before begun settled);
+    }
+
+    module _ (header : Header) (ends : (more : List ℕ) → reading.resume reader (byte ∷ more) ≡ Whole header more)
+        (at : ℕ) (place : at ≡ reading.taken reader + 1) (size : length (take count piece) ≡ count) where
+      -- what follows the header is its raster
+      whole-answer : (more : List ℕ) → resume (InHeader start) (piece ++ more) ≡ grid_answer header (samples_at header at (rest ++ more))
+      unfolding resume
+      whole-answer more =
+          let total = length (piece ++ more) in
+          let sum : length (piece ++ more) ≡ count + 1 + length (rest ++ more) =
+              ap (λ p. length (p ++ more)) cut ∙ omega (arith, size, length-append (take count piece ++ (byte ∷ rest)) more, length-append (take count piece) (byte ∷ rest), length-append rest more) in
+          let here : reading.taken start + length (piece ++ more) - length (rest ++ more) ≡ at = omega (arith, sum, place, so_far.counted) in
+          ap (file_answer (reading.taken start + length (piece ++ more))) (from-byte more ∙ ends (rest ++ more))
+          ∙ ap (λ k. grid_answer header (samples_at header k (rest ++ more))) here
+
+      -- the byte ended the header, and what follows was taken
+      pub header-ends : (new : Progress) → BeginsRaster header at rest new → Takes (InHeader start) new piece
+      unfolding taken
+      header-ends new begins = record {
+        means = λ more. whole-answer more ∙ begins.means more;
+        unsettled = begins.unsettled;
+        count = (let sum : length piece ≡ count + 1 + length rest = ap length cut ∙ omega (arith, size, length-append (take count piece) (byte ∷ rest)) in
+            begins.count ∙ omega (arith, sum, place, so_far.counted));
+        limit = begins.limit;
+      }
+
+      -- behind the byte each raster is read
+      header-reads : RastersAreRead → ReadsRasters header (taken (InHeader start) + (count + 1)) (λ text. resume (InHeader start) (take (count + 1) piece ++ text))
+      unfolding resume taken
+      header-reads rasters heights text is many bounded short =
+          let front : take (count + 1) piece ≡ take count piece ++ byte ∷ [] = front-byte in
+          let answer : reading.resume start (take (count + 1) piece ++ text) ≡ Whole header text =
+              ap (λ p. reading.resume start (p ++ text)) front ∙ ap (reading.resume start) (append_assoc (take count piece) (byte ∷ []) text)
+              ∙ so_far.means (byte ∷ text) ∙ ends text in
+          let sum : length (take (count + 1) piece ++ text) ≡ count + 1 + length text =
+              ap (λ p. length (p ++ text)) front ∙ omega (arith, size, length-append (take count piece ++ byte ∷ []) text, length-append (take count piece) (byte ∷ [])) in
+          let here : reading.taken start + length (take (count + 1) piece ++ text) - length text ≡ at = omega (arith, sum, place, so_far.counted) in
+          ap (file_answer (reading.taken start + length (take (count + 1) piece ++ text))) answer
+          ∙ ap (λ k. grid_answer header (samples_at header k text)) here
+          ∙ ap (grid_answer header) (rasters (form_of header.plain header.maxval) (points_of header.n) header.maxval at heights text is many bounded)
+        where
+          front-byte : take (count + 1) piece ≡ take count piece ++ byte ∷ []
+          front-byte =
+              let one : length (take count piece ++ byte ∷ []) ≡ count + 1 = omega (arith, size, length-append (take count piece) (byte ∷ [])) in
+              ap (take (count + 1)) (cut ∙ sym (append_assoc (take count piece) (byte ∷ []) rest))
+              ∙ ap (λ k. take k ((take count piece ++ byte ∷ []) ++ rest)) (sym one) ∙ take-append_seam (take count piece ++ byte ∷ []) rest
+
+      -- the byte ended the header, and there was no room, or what follows is refused
+      pub header-full : RastersAreRead → IsHeader header → (fault : PgmFault)
+          → (fault ≢ NoMemory → (more : List ℕ) → grid_answer header (samples_at header at (rest ++ more)) ≡ Err fault)
+          → Stops (InHeader start) piece fault
+      header-full rasters valid fault refusal = record {
+        refusal = λ other more. whole-answer more ∙ refusal other more;
+        no_memory = λ e. inr (record {
+          header = header;
+          count = count + 1;
+          valid = valid;
+          positive = omega arith;
+          within = (let sum : length piece ≡ count + 1 + length rest = ap length cut ∙ omega (arith, size, length-append (take count piece) (byte ∷ rest)) in omega (arith, sum));
+          reads = λ heights text is many bounded short. header-reads rasters heights text is many bounded short;
+        });
+        sticks = λ before settled. absurd (unsettled-header start before begun settled);
+      }
+
+-- a piece around the byte at a place
+pub cut-at : (piece : List ℕ) (i : ℕ) → i < length piece → piece ≡ take i piece ++ (get_or piece i 0 ∷ drop (i + 1) piece)
+cut-at piece i below =
+    sym (take-append-drop (i + 1) piece) ∙ ap (λ m. m ++ drop (i + 1) piece) (take_more piece i 0 below)
+    ∙ append_assoc (take i piece) (get_or piece i 0 ∷ []) (drop (i + 1) piece)
+
+-- nothing was taken
+pub taken-nothing : (start : reading.Progress) (piece : List ℕ) → IsOpenHeader start → HasTaken start start piece 0
+taken-nothing start piece begun = record { means = λ more. refl; counted = omega arith; goes_on = begun }
+
+-- one byte more was taken
+pub taken-more : (start reader new : reading.Progress) (piece : List ℕ) (i : ℕ) → i < length piece → HasTaken start reader piece i
+    → ((more : List ℕ) → reading.resume reader (get_or piece i 0 ∷ more) ≡ reading.resume new more)
+    → reading.taken new ≡ reading.taken reader + 1 → IsOpenHeader new → HasTaken start new piece (i + 1)
+taken-more start reader new piece i below so_far means counted free = record {
+  means = λ more.
+      ap (λ p. reading.resume start (p ++ more)) (take_more piece i 0 below)
+      ∙ ap (reading.resume start) (append_assoc (take i piece) (get_or piece i 0 ∷ []) more)
+      ∙ so_far.means (get_or piece i 0 ∷ more) ∙ means more;
+  counted = counted ∙ omega (arith, so_far.counted);
+  goes_on = free;
+}
+
+-- A reader that is new.
+
+pub new-header : (reader : reading.Progress) → ((more : List ℕ) → reading.resume reader more ≡ reading.header_of more) → reading.taken reader ≡ 0
+    → ((more : List ℕ) × (fault : HeaderFault) × (reading.resume reader more ≡ Bad fault)) → IsOpenHeader reader
+unfolding reading.header_of
+new-header reader means none refusable = record { part = means []; small = omega (arith, none); refusable = refusable }
+
+pub new-resume : (reader : reading.Progress) → ((more : List ℕ) → reading.resume reader more ≡ reading.header_of more) → reading.taken reader ≡ 0
+    → (more : List ℕ) → resume (InHeader reader) more ≡ grid_of more
 unfolding resume grid_of
-resume-start more = refl
+new-resume reader means none more =
+    ap (λ n. file_answer (n + length more) (reading.resume reader more)) none ∙ ap (file_answer (length more)) (means more)
 
-pub taken-start : taken (InHeader []) ≡ 0
+pub new-taken : (reader : reading.Progress) → reading.taken reader ≡ 0 → taken (InHeader reader) ≡ 0
 unfolding taken
-taken-start = refl
+new-taken reader none = none
 
-settled-refused : (fault : PgmFault) → IsSettled (HasRefused fault) fault
-unfolding IsSettled
-settled-refused fault = λ more. resume-refused fault more
+-- The raster behind a header.
 
-settled-at : (reader : Progress) (fault : PgmFault) → IsSettled reader fault → (more : List ℕ) → resume reader more ≡ Err fault
-unfolding IsSettled
-settled-at reader fault h more = h more
+-- the first bytes of a raster were taken
+pub begins-raster : (header : Header) (at : ℕ) (reader : samples.Progress) (rest : List ℕ) (new : Progress)
+    → ((more : List ℕ) → samples.resume reader more ≡ samples_at header at more) → samples.next_place reader ≡ at
+    → Takes (InRaster header reader) new rest → BeginsRaster header at rest new
+unfolding resume taken
+begins-raster header at reader rest new means place takes = record {
+  means = λ more. ap (grid_answer header) (sym (means (rest ++ more))) ∙ takes.means more;
+  unsettled = takes.unsettled;
+  count = takes.count ∙ ap (λ k. k + length rest) place;
+  limit = takes.limit;
+}
 
--- an `x` in a header is a refusal, so the header was not settled
-resume-x : (head : List ℕ) → resume (InHeader head) (120 ∷ []) ≡ Err (BadHeader (length head))
+-- they are refused
+pub begins-refused : (header : Header) (at : ℕ) (reader : samples.Progress) (rest : List ℕ) (fault : PgmFault)
+    → ((more : List ℕ) → samples.resume reader more ≡ samples_at header at more)
+    → Stops (InRaster header reader) rest fault → fault ≢ NoMemory
+    → (more : List ℕ) → grid_answer header (samples_at header at (rest ++ more)) ≡ Err fault
 unfolding resume
-resume-x head = ap answer_of (header_step-bad head 120 [] (no_x_begins head))
+begins-refused header at reader rest fault means stops other more =
+    ap (grid_answer header) (sym (means (rest ++ more))) ∙ stops.refusal other more
 
-resume-header : (head : List ℕ) → resume (InHeader head) [] ≡ Err Truncated
+-- a raster of which no byte has come
+pub raster-begun : (header : Header) (at : ℕ) (reader : samples.Progress) → IsHeader header
+    → ((more : List ℕ) → samples.resume reader more ≡ samples_at header at more)
+    → ((fault : RasterFault) → samples.IsSettled reader fault → ⊥) → samples.next_place reader ≤ 2 ^ 28 → HasRead header reader
+raster-begun header at reader valid means free small = record {
+  valid = valid;
+  at = at;
+  bytes = [];
+  are_bytes = All-nil (λ b. b < 256);
+  means = means;
+  unsettled = free;
+  small = small;
+}
+
+-- The end of a file.
+
+pub end-header : (reader : reading.Progress) → IsOpenHeader reader → resume (InHeader reader) [] ≡ Err Truncated
 unfolding resume
-resume-header head = refl
+end-header reader free = ap (file_answer (reading.taken reader + 0)) free.part
 
--- so many bytes are too many
-resume-many : (n : ℕ) (bytes : List ℕ) → resume (InRaster n bytes) (replicate (2 * points_of n + 1) 0) ≡ Err (Trailing (text_length n))
+pub end-refused : (fault : PgmFault) → resume (HasRefused fault) [] ≡ Err fault
 unfolding resume
-resume-many n bytes = ap answer_of (raster_step-out n (bytes ++ replicate (2 * points_of n + 1) 0)
-    (omega (arith, length-append bytes (replicate (2 * points_of n + 1) 0), length-replicate {A = ℕ} (2 * points_of n + 1) 0)))
+end-refused fault = refl
 
-err_same : {A : Type 0} (r : Result A PgmFault) (f g : PgmFault) → r ≡ Err f → r ≡ Err g → f ≡ g
-err_same r f g a b = let e : Err f ≡ Err g = sym a ∙ b in cc
+pub end-raster : (header : Header) (reader : samples.Progress) (answer : samples.Answer) → samples.resume reader [] ≡ answer
+    → resume (InRaster header reader) [] ≡ grid_answer header answer
+unfolding resume
+end-raster header reader answer e = ap (grid_answer header) e
 
-ok_not_err : (g : HeightField) (f : PgmFault) → ◌≡◌ {A = Result HeightField PgmFault} (Ok g) (Err f) → ⊥
-ok_not_err g f e = cc
-
--- a sound reader that has refused no byte is not settled
-open_lem : (reader : Progress) → IsSound reader → IsTaking reader → (fault : PgmFault) → IsSettled reader fault → ⊥
-open_lem (InHeader head) sound taking fault h =
-    let first : BadHeader (length head) ≡ fault = err_same (resume (InHeader head) (120 ∷ [])) _ _ (resume-x head) (settled-at _ fault h (120 ∷ [])) in
-    let second : Truncated ≡ fault = err_same (resume (InHeader head) []) _ _ (resume-header head) (settled-at _ fault h []) in
-    let clash : Truncated ≡ BadHeader (length head) = second ∙ sym first in cc
-open_lem (InRaster n bytes) sound taking fault h =
-    let first : Trailing (text_length n) ≡ fault = err_same (resume (InRaster n bytes) (replicate (2 * points_of n + 1) 0)) _ _ (resume-many n bytes) (settled-at _ fault h _) in
-    let last : answer_of (InRaster n bytes) ≡ Err fault = sym (resume-nothing (InRaster n bytes) sound) ∙ settled-at (InRaster n bytes) fault h [] in
-    elim (cases_lt (length bytes) (2 * points_of n)) as (λ _. ⊥) [
-      | inl short ↦ let second : Truncated ≡ fault = err_same (answer_of (InRaster n bytes)) _ _ (answer-short n bytes short) last in
-          let clash : Truncated ≡ Trailing (text_length n) = second ∙ sym first in cc
-      | inr long ↦ ok_not_err _ fault (sym (answer-whole n bytes (omega (arith, sound.1))) ∙ last)
-    ]
-open_lem (HasRefused f) sound taking fault h = taking
-
--- Counting.
-
-taken-raster : (n : ℕ) (bytes : List ℕ) → IsTaking (raster_step n bytes) → taken (raster_step n bytes) ≡ length (header_text n) + length bytes
-unfolding taken
-taken-raster n bytes taking =
-    elim (cases_lt (2 * points_of n) (length bytes)) as (λ _. taken (raster_step n bytes) ≡ length (header_text n) + length bytes) [
-      | inl beyond ↦ absurd (subst IsTaking (raster_step-out n bytes beyond) taking)
-      | inr within ↦ ap taken (raster_step-in n bytes within)
-    ]
-
-taken-after : (found : Option ℕ) (head more : List ℕ) (within : Progress) → IsTaking (after_byte found head more within)
-    → (IsTaking within → taken within ≡ length head + 1 + length more) → taken (after_byte found head more within) ≡ length head + 1 + length more
-taken-after None head more within taking count = absurd taking
-taken-after (Some n) head more within taking count =
-    elim (cases_eq (length head + 1) (length (header_text n))) as (λ _. taken (after_byte (Some n) head more within) ≡ length head + 1 + length more) [
-      | inl same ↦
-          let ended : after_byte (Some n) head more within ≡ raster_step n more = rw (eq-eqb (length head + 1) (length (header_text n)) same) refl in
-          ap taken ended ∙ taken-raster n more (subst IsTaking ended taking) ∙ ap (λ (k : ℕ). k + length more) (sym same)
-      | inr other ↦
-          let on : after_byte (Some n) head more within ≡ within = rw (ne_eqb (length head + 1) (length (header_text n)) other) refl in
-          ap taken on ∙ count (subst IsTaking on taking)
-    ]
-
-taken-header : (head more : List ℕ) → IsTaking (header_step head more) → taken (header_step head more) ≡ length head + length more
-unfolding taken
-taken-header head [] taking = omega arith
-taken-header head (byte ∷ more) taking =
-    let rest = taken-after (beginning (head ++ byte ∷ [])) head more (header_step (head ++ byte ∷ []) more) taking
-    (λ t. taken-header (head ++ byte ∷ []) more t ∙ ap (λ (k : ℕ). k + length more) (length_push head byte)) in
-    rest ∙ omega arith
-
--- the bytes of a piece are counted
-taken-advance : (reader : Progress) (piece : List ℕ) → IsTaking (advance reader piece) → taken (advance reader piece) ≡ taken reader + length piece
-unfolding taken
-taken-advance (InHeader head) piece taking = taken-header head piece taking
-taken-advance (InRaster n bytes) piece taking = taken-raster n (bytes ++ piece) taking ∙ omega (arith, length-append bytes piece)
-taken-advance (HasRefused fault) piece taking = absurd taking
-
--- no file is so long
-taken-limit : (reader : Progress) → IsSound reader → taken reader ≤ 2 ^ 28
-unfolding taken
-taken-limit (InHeader head) sound = let short = below_header head sound in omega (arith, short)
-taken-limit (InRaster n bytes) sound = omega (arith, sound.1, header_short n sound.0, points_small n sound.0)
-taken-limit (HasRefused fault) sound = omega arith
-
--- Want of memory is no step of a reader that had room.
-
-abbrev IsFull : Progress → Type 0
-IsFull reader = reader ≡ HasRefused NoMemory
-
-full-raster : (n : ℕ) (bytes : List ℕ) → IsFull (raster_step n bytes) → ⊥
-full-raster n bytes full =
-    elim (cases_lt (2 * points_of n) (length bytes)) as (λ _. ⊥) [
-      | inl beyond ↦ let clash : HasRefused (Trailing (text_length n)) ≡ HasRefused NoMemory = sym (raster_step-out n bytes beyond) ∙ full in cc
-      | inr within ↦ let clash : InRaster n bytes ≡ HasRefused NoMemory = sym (raster_step-in n bytes within) ∙ full in cc
-    ]
-
-full-after : (found : Option ℕ) (head more : List ℕ) (within : Progress) → (IsFull within → ⊥) → IsFull (after_byte found head more within) → ⊥
-full-after None head more within other full = cc
-full-after (Some n) head more within other full = by_test (nat_eq (length head + 1) (length (header_text n))) full
-  where
-    by_test : (t : Bool) → IsFull (cond t (raster_step n more) within) → ⊥
-    by_test true f = full-raster n more f
-    by_test false f = other f
-
-full-header : (head more : List ℕ) → IsFull (header_step head more) → ⊥
-full-header head [] full = cc
-full-header head (byte ∷ more) full = full-after (beginning (head ++ byte ∷ [])) head more (header_step (head ++ byte ∷ []) more) (full-header (head ++ byte ∷ []) more) full
-
-full-advance : (reader : Progress) (piece : List ℕ) → IsFull (advance reader piece) → IsSettled reader NoMemory
-full-advance (InHeader head) piece full = absurd (full-header head piece full)
-full-advance (InRaster n bytes) piece full = absurd (full-raster n (bytes ++ piece) full)
-full-advance (HasRefused fault) piece full =
-    let same : fault ≡ NoMemory = cc in subst (λ (f : PgmFault). IsSettled (HasRefused f) NoMemory) (sym same) (settled-refused NoMemory)
-
--- The clauses of `feed`: old takes the piece and comes to new.
-
-err_not_ok : (f : PgmFault) (g : HeightField) → ◌≡◌ {A = Result HeightField PgmFault} (Err f) (Ok g) → ⊥
-err_not_ok f g e = cc
-
-never_ends : (fault : PgmFault) (piece : List ℕ) → EndsHeader (HasRefused fault) piece → ⊥
-never_ends fault piece h =
-    let heights : List ℕ = replicate (points_of h.n) 0 in
-    err_not_ok fault _ (sym (resume-refused fault (take h.count piece ++ raster_of heights)) ∙ h.room heights (length-replicate {A = ℕ} (points_of h.n) 0))
-
-refused_same : (f g : PgmFault) → HasRefused f ≡ HasRefused g → f ≡ g
-refused_same f g e = cc
-
-ok_unit : ◌≡◌ {A = Result (Unit {0}) PgmFault} (Ok tt) (Err NoMemory) → ⊥
-ok_unit e = cc
-
-err_unit : (f g : PgmFault) → ◌≡◌ {A = Result (Unit {0}) PgmFault} (Err f) (Err g) → f ≡ g
-err_unit f g e = cc
-
-took : (old new : Progress) (piece : List ℕ) → StepsTo old piece new → IsTaking new → new ≡ advance old piece
-took old new piece step taking = elim step as (λ _. new ≡ advance old piece) [ inl e ↦ e | inr w ↦ absurd (subst IsTaking w.0 taking) ]
-
-means : (old new : Progress) (piece : List ℕ) → new ≡ advance old piece → (more : List ℕ) → resume old (piece ++ more) ≡ resume new more
-means old new piece e more = resume-append old piece more ∙ ap (λ (p : Progress). resume p more) (sym e)
-
-pub fed-ok : (old new : Progress) (piece : List ℕ) → StepsTo old piece new → OnOk (outcome_of new) ((more : List ℕ) → resume old (piece ++ more) ≡ resume new more)
-fed-ok old (InHeader head) piece step = means old (InHeader head) piece (took old (InHeader head) piece step tt)
-fed-ok old (InRaster n bytes) piece step = means old (InRaster n bytes) piece (took old (InRaster n bytes) piece step tt)
-fed-ok old (HasRefused fault) piece step = tt
-
-pub fed-open : (new : Progress) → IsSound new → OnOk (outcome_of new) ((fault : PgmFault) → ¬ IsSettled new fault)
-fed-open (InHeader head) sound = open_lem (InHeader head) sound tt
-fed-open (InRaster n bytes) sound = open_lem (InRaster n bytes) sound tt
-fed-open (HasRefused fault) sound = tt
-
-counted : (old new : Progress) (piece : List ℕ) → IsTaking new → StepsTo old piece new → taken new ≡ taken old + length piece
-counted old new piece taking step =
-    let e : new ≡ advance old piece = took old new piece step taking in
-    ap taken e ∙ taken-advance old piece (subst IsTaking e taking)
-
-pub fed-count : (old new : Progress) (piece : List ℕ) → StepsTo old piece new → OnOk (outcome_of new) (taken new ≡ taken old + length piece)
-fed-count old (InHeader head) piece step = counted old (InHeader head) piece tt step
-fed-count old (InRaster n bytes) piece step = counted old (InRaster n bytes) piece tt step
-fed-count old (HasRefused fault) piece step = tt
-
-pub fed-limit : (new : Progress) → IsSound new → OnOk (outcome_of new) (taken new ≤ 2 ^ 28)
-fed-limit (InHeader head) sound = taken-limit (InHeader head) sound
-fed-limit (InRaster n bytes) sound = taken-limit (InRaster n bytes) sound
-fed-limit (HasRefused fault) sound = tt
-
-pub fed-refusal : (old new : Progress) (piece : List ℕ) → StepsTo old piece new
-    → IfErr (outcome_of new) (λ fault. fault ≢ NoMemory → (more : List ℕ) → resume old (piece ++ more) ≡ Err fault)
-fed-refusal old (InHeader head) piece step = tt
-fed-refusal old (InRaster n bytes) piece step = tt
-fed-refusal old (HasRefused fault) piece step = λ other more.
-    elim step as (λ _. resume old (piece ++ more) ≡ Err fault) [
-      | inl e ↦ means old (HasRefused fault) piece e more ∙ resume-refused fault more
-      | inr w ↦ let same : fault ≡ NoMemory = refused_same fault NoMemory w.0 in absurd (other same)
-    ]
-
-pub fed-no_memory : (old new : Progress) (piece : List ℕ) → StepsTo old piece new → IsErrOf (outcome_of new) NoMemory → IsSettled old NoMemory ⊎ EndsHeader old piece
-fed-no_memory old (InHeader head) piece step h = absurd (ok_unit h)
-fed-no_memory old (InRaster n bytes) piece step h = absurd (ok_unit h)
-fed-no_memory old (HasRefused fault) piece step h =
-    elim step as (λ _. IsSettled old NoMemory ⊎ EndsHeader old piece) [
-      | inl e ↦ inl (full-advance old piece (sym e ∙ ap HasRefused (err_unit fault NoMemory h)))
-      | inr w ↦ inr w.1
-    ]
-
-pub fed-err : (new : Progress) → IfErr (outcome_of new) (λ fault. IsSettled new fault)
-fed-err (InHeader head) = tt
-fed-err (InRaster n bytes) = tt
-fed-err (HasRefused fault) = settled-refused fault
-
-pub fed-sticks : (old new : Progress) (piece : List ℕ) → IsSound old → StepsTo old piece new → (fault : PgmFault) → IsSettled old fault → outcome_of new ≡ Err fault
-fed-sticks (InHeader head) new piece sound step fault h = absurd (open_lem (InHeader head) sound tt fault h)
-fed-sticks (InRaster n bytes) new piece sound step fault h = absurd (open_lem (InRaster n bytes) sound tt fault h)
-fed-sticks (HasRefused f) new piece sound step fault h =
-    let same : f ≡ fault = err_same (resume (HasRefused f) []) f fault (resume-refused f []) (settled-at (HasRefused f) fault h []) in
-    elim step as (λ _. outcome_of new ≡ Err fault) [
-      | inl e ↦ ap outcome_of e ∙ ap Err same
-      | inr w ↦ absurd (never_ends f piece w.1)
-    ]
+-- the samples of a whole raster are heights of a grid
+pub whole-field : ReadBytesAreRasters → (header : Header) (reader : samples.Progress) (heights : List ℕ) → HasRead header reader
+    → samples.resume reader [] ≡ Ok heights → IsHeightField (grid_with header heights)
+whole-field laws header reader heights read e =
+    let found = laws (form_of header.plain header.maxval) (points_of header.n) header.maxval read.at heights (read.bytes ++ [])
+        (All-append (λ b. b < 256) read.bytes [] read.are_bytes (All-nil (λ b. b < 256))) (sym (read.means []) ∙ e) in
+    record {
+      n_low = read.valid.level.low;
+      n_high = read.valid.level.high;
+      maxval_low = read.valid.maxval.low;
+      maxval_high = read.valid.maxval.high;
+      count = found.1;
+      bounded = found.2;
+    }

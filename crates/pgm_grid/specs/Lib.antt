@@ -2,5 +2,4 @@ pub mod FaultNumber
 pub mod GridView
 pub mod PgmText
 pub mod Progress
-pub mod Laws
 pub mod Stage

@@ -1,86 +1,103 @@
--- A reader of file texts as a machine: what it has come to, what further bytes make of that, and what it
--- answers. The laws of `Laws` say in the format's own words what these answers are.
+-- What a reader of files has come to, and what it answers: the header's answer, and behind an accepted
+-- header the raster's. The laws of `Laws` say in the format's own words what these answers are.
 --
--- Words: Progress, beginning, advance, answer_of, resume, grid_of, taken, IsSettled, EndsHeader.
-use Rattle.std.specs.Prelude.{◌≡◌, ℕ, zero, suc, ◌+◌, ◌*◌, ◌<◌, ◌≤◌, cond, List, [], ◌∷◌, ◌++◌, length, take, Option, Some, None, Result, Ok, Err, nat_eq, nat_le}
-use Rattle.std.specs.List.{starts_with}
+-- Words: Progress, header_fault, raster_fault, grid_with, grid_answer, file_answer, resume, grid_of, taken,
+-- IsSettled, EndsHeader, IsWholeHeader.
+use Rattle.std.specs.Prelude.{◌≡◌, ℕ, ◌+◌, ◌-◌, ◌<◌, ◌≤◌, List, ◌++◌, length, take, All, Result, Ok, Err}
 use Rattle.mesh_defs.specs.HeightField.{HeightField}
+use Rattle.pgm_header.specs.declared.accepted.Header.{Header}
+use Rattle.pgm_header.specs.declared.fault.HeaderFault.{HeaderFault}
+use Rattle.pgm_header.specs.declared.fault.HeaderFault.TheVariants as header
+use Rattle.pgm_header.specs.Accepted.{IsHeader, HeaderAnswer, Part, Whole, Bad}
+use Rattle.pgm_header.specs.Reading as reading
+use Rattle.pgm_raster.specs.declared.fault.RasterFault.{RasterFault}
+use Rattle.pgm_raster.specs.declared.fault.RasterFault.TheVariants as raster
+use Rattle.pgm_raster.specs.RasterText.{IsRaster}
+use Rattle.pgm_raster.specs.Progress as samples
 use Rattle.pgm_grid.specs.declared.fault.PgmFault.{PgmFault}
-use Rattle.pgm_grid.specs.declared.fault.PgmFault.TheVariants.{BadHeader, Truncated, Trailing}
-use Rattle.pgm_grid.specs.PgmText.{IsLevel, header_text, points_of, raster_of, text_length}
+use Rattle.pgm_grid.specs.declared.fault.PgmFault.TheVariants.{BadMagic, BadHeader, HeaderTooLong, BadMaxval, NotSquare, BadSide, Truncated, BadSample, AboveMaxval, Trailing}
+use Rattle.pgm_grid.specs.PgmText.{points_of, form_of, most_bytes}
 
--- what a reader has come to: the bytes of a header so far, the level of the grid and the bytes of its
--- raster so far, or a refusal
+-- what a reader has come to: a part of a header; an accepted header and a part of its raster; or a refusal
 pub data Progress : Type 0 where
-  InHeader : (head : List ℕ) → Progress
-  InRaster : (n : ℕ) (bytes : List ℕ) → Progress
+  InHeader : (reader : reading.Progress) → Progress
+  InRaster : (header : Header) (reader : samples.Progress) → Progress
   HasRefused : (fault : PgmFault) → Progress
 
--- the greatest level up to k whose header begins with these bytes
-unfoldable pub beginning_up_to : ℕ → List ℕ → Option ℕ
-beginning_up_to zero head = None
-beginning_up_to (suc k) head = cond (starts_with nat_eq (header_text (suc k)) head) (Some (suc k)) (beginning_up_to k head)
+-- a refusal of the header is one of the file
+abbrev pub header_fault : HeaderFault → PgmFault
+header_fault header.BadMagic = BadMagic
+header_fault (header.BadHeader at) = BadHeader at
+header_fault header.HeaderTooLong = HeaderTooLong
+header_fault header.BadMaxval = BadMaxval
+header_fault header.NotSquare = NotSquare
+header_fault header.BadSide = BadSide
 
--- the greatest level whose header begins with these bytes
-unfoldable pub beginning : List ℕ → Option ℕ
-beginning head = beginning_up_to 11 head
+-- a refusal of the raster is one of the file
+abbrev pub raster_fault : RasterFault → PgmFault
+raster_fault (raster.BadSample at) = BadSample at
+raster_fault (raster.AboveMaxval index) = AboveMaxval index
+raster_fault (raster.Trailing at) = Trailing at
+raster_fault raster.Truncated = Truncated
 
--- the samples of these bytes, each of two bytes with the most significant first
-abbrev pub samples_of : List ℕ → List ℕ
-samples_of [] = []
-samples_of (high ∷ []) = []
-samples_of (high ∷ low ∷ bytes) = (256 * high + low) ∷ samples_of bytes
+-- the grid of a header and its heights
+abbrev pub grid_with : Header → List ℕ → HeightField
+grid_with h heights = record { n = h.n; maxval = h.maxval; heights = heights }
 
--- these are the bytes of the raster so far
-abbrev pub raster_step : ℕ → List ℕ → Progress
-raster_step n bytes = cond (nat_le (length bytes) (2 * points_of n)) (InRaster n bytes) (HasRefused (Trailing (text_length n)))
+-- the answer of the raster behind a header
+abbrev pub grid_answer : Header → samples.Answer → Result HeightField PgmFault
+grid_answer h (Ok heights) = Ok (grid_with h heights)
+grid_answer h (Err fault) = Err (raster_fault fault)
 
--- a byte came after head, and then more: the level whose header they begin, and what comes of the rest within a header
-abbrev pub after_byte : Option ℕ → List ℕ → List ℕ → Progress → Progress
-after_byte None head more within = HasRefused (BadHeader (length head))
-after_byte (Some n) head more within = cond (nat_eq (length head + 1) (length (header_text n))) (raster_step n more) within
+-- the samples of these bytes, from a place of the file on, behind this header
+abbrev pub samples_at : Header → ℕ → List ℕ → samples.Answer
+samples_at h at bytes = samples.raster_of (form_of h.plain h.maxval) (points_of h.n) h.maxval at bytes
 
--- more bytes come after these of a header
-abbrev pub header_step : List ℕ → List ℕ → Progress
-header_step head [] = InHeader head
-header_step head (byte ∷ more) = after_byte (beginning (head ++ byte ∷ [])) head more (header_step (head ++ byte ∷ []) more)
-
--- more bytes come
-abbrev pub advance : Progress → List ℕ → Progress
-advance (InHeader head) more = header_step head more
-advance (InRaster n bytes) more = raster_step n (bytes ++ more)
-advance (HasRefused fault) more = HasRefused fault
-
--- the answer if no byte comes any more
-abbrev pub answer_of : Progress → Result HeightField PgmFault
-answer_of (InHeader head) = Err Truncated
-answer_of (InRaster n bytes) = cond (nat_eq (length bytes) (2 * points_of n)) (Ok (record { n = n; maxval = 65535; heights = samples_of bytes })) (Err Truncated)
-answer_of (HasRefused fault) = Err fault
+-- the answer for a file of so many bytes whose header is answered so: a raster begins where what follows
+-- the header does
+abbrev pub file_answer : ℕ → HeaderAnswer → Result HeightField PgmFault
+file_answer total Part = Err Truncated
+file_answer total (Whole h rest) = grid_answer h (samples_at h (total - length rest) rest)
+file_answer total (Bad fault) = Err (header_fault fault)
 
 -- what a reader answers if exactly these bytes still come
 unfoldable pub resume : Progress → List ℕ → Result HeightField PgmFault
-resume reader more = answer_of (advance reader more)
+resume (InHeader reader) more = file_answer (reading.taken reader + length more) (reading.resume reader more)
+resume (InRaster h reader) more = grid_answer h (samples.resume reader more)
+resume (HasRefused fault) more = Err fault
 
 -- the grid of which the bytes are a file text, or the refusal of the bytes
 unfoldable pub grid_of : List ℕ → Result HeightField PgmFault
-grid_of bytes = answer_of (advance (InHeader []) bytes)
+grid_of bytes = file_answer (length bytes) (reading.header_of bytes)
 
 -- how many bytes a reader has taken that has refused none
 unfoldable pub taken : Progress → ℕ
-taken (InHeader head) = length head
-taken (InRaster n bytes) = length (header_text n) + length bytes
+taken (InHeader reader) = reading.taken reader
+taken (InRaster h reader) = samples.next_place reader
 taken (HasRefused fault) = 0
 
 -- whatever still comes, the answer is this refusal
 unfoldable pub IsSettled : Progress → PgmFault → Type 0
 IsSettled reader fault = (more : List ℕ) → resume reader more ≡ Err fault
 
--- so many bytes of the piece, and not fewer than one, end a header of a grid with this n: behind them
--- each raster of such a grid is read
+-- behind so many bytes each raster of an accepted header is read, if the file is not too long
+abbrev pub ReadsRasters : Header → ℕ → (List ℕ → Result HeightField PgmFault) → Type 0
+ReadsRasters h before answer =
+    (heights text : List ℕ) → IsRaster (form_of h.plain h.maxval) heights text → length heights ≡ points_of h.n → All (λ s. s ≤ h.maxval) heights
+    → before + length text ≤ most_bytes → answer text ≡ Ok (grid_with h heights)
+
+-- so many bytes of the piece, and not fewer than one, end an accepted header: behind them each raster of
+-- such a grid is read
 pub record EndsHeader (reader : Progress) (piece : List ℕ) : Type 0 where
-  pub n : ℕ
+  pub header : Header
   pub count : ℕ
-  pub level : IsLevel n
+  pub valid : IsHeader header
   pub positive : 0 < count
   pub within : count ≤ length piece
-  pub room : (heights : List ℕ) → length heights ≡ points_of n → resume reader (take count piece ++ raster_of heights) ≡ Ok (record { n = n; maxval = 65535; heights = heights })
+  pub reads : ReadsRasters header (taken reader + count) (λ text. resume reader (take count piece ++ text))
+
+-- the bytes are a whole accepted header: behind them each raster of such a grid is read
+pub record IsWholeHeader (bytes : List ℕ) : Type 0 where
+  pub header : Header
+  pub valid : IsHeader header
+  pub reads : ReadsRasters header (length bytes) (λ text. grid_of (bytes ++ text))

@@ -1,57 +1,62 @@
 -- The fields of a reader: what they have come to, and what holds of them.
-use Rattle.std.specs.Prelude.{◌≡◌, ℕ, ◌*◌, ◌<◌, ◌≤◌, List, ◌++◌, length, take, Some, Result, Ok, Err, ⊤, ◌⊎◌}
-use Rattle.std.specs.Option.{option_to_list}
-use Rattle.std.specs.Vec.{vec_capacity}
-use Rattle.pgm_grid.specs.declared.header.Head.{Head}
-use Rattle.pgm_grid.specs.declared.raster.Raster.{Raster}
-use Rattle.pgm_grid.specs.declared.stage.Stage.{Stage}
-use Rattle.pgm_grid.specs.declared.stage.Stage.TheVariants as stage
-use Rattle.pgm_grid.specs.PgmText.{IsLevel, points_of, header_text, raster_of}
+-- Words: progress_of, IsOpenHeader, HasRead, IsStage, BeginsRaster, Takes, Stops.
+use Rattle.std.specs.Prelude.{◌≡◌, ◌≢◌, ℕ, ◌+◌, ◌<◌, ◌≤◌, ◌^◌, List, [], ◌++◌, length, All, Option, None, Result, Ok, Err, ⊤, ◌⊎◌}
+use Rattle.pgm_header.specs.declared.accepted.Header.{Header}
+use Rattle.pgm_header.specs.declared.fault.HeaderFault.{HeaderFault}
+use Rattle.pgm_header.specs.Accepted.{IsHeader, Part, Bad}
+use Rattle.pgm_header.specs.Reading as reading
+use Rattle.pgm_raster.specs.declared.fault.RasterFault.{RasterFault}
+use Rattle.pgm_raster.specs.Progress as samples
 use Rattle.pgm_grid.specs.declared.fault.PgmFault.{PgmFault}
 use Rattle.pgm_grid.specs.declared.fault.PgmFault.TheVariants.{NoMemory}
-use Rattle.pgm_grid.specs.Progress.{Progress, InHeader, InRaster, HasRefused, beginning, advance, EndsHeader}
-
--- the bytes of a header so far
-abbrev pub head_of : Head → List ℕ
-head_of head = take head.len head.bytes
-
--- the bytes of a raster so far
-abbrev pub bytes_of : Raster → List ℕ
-bytes_of raster = raster_of raster.heights.items ++ option_to_list raster.half
+use Rattle.pgm_grid.specs.declared.stage.Stage.{Stage}
+use Rattle.pgm_grid.specs.declared.stage.Stage.TheVariants as stage
+use Rattle.pgm_grid.specs.Progress.{Progress, InHeader, InRaster, HasRefused, samples_at, grid_answer, resume, taken, IsSettled, EndsHeader}
 
 -- what a stage has come to
 abbrev pub progress_of : Stage → Progress
-progress_of (stage.Header head) = InHeader (head_of head)
-progress_of (stage.Samples raster) = InRaster raster.n (bytes_of raster)
+progress_of (stage.InHeader reader) = InHeader reader
+progress_of (stage.InRaster header reader) = InRaster header reader
 progress_of (stage.Stopped fault) = HasRefused fault
 
--- these bytes begin a header that goes on
-abbrev pub GoesOn : List ℕ → Type 0
-GoesOn head = (n : ℕ) × (beginning head ≡ Some n) × (length head < length (header_text n))
+-- a header goes on: it is no whole one, and some bytes would be refused
+pub record IsOpenHeader (reader : reading.Progress) : Type 0 where
+  pub part : reading.resume reader [] ≡ Part
+  pub small : reading.taken reader ≤ 65535
+  pub refusable : (more : List ℕ) × (fault : HeaderFault) × (reading.resume reader more ≡ Bad fault)
 
--- a header's buffer has room for a byte, and what is in it goes on
-pub record IsHead (head : Head) : Type 0 where
-  pub room : head.len < 19
-  pub goes_on : GoesOn (head_of head)
-
--- no more than the samples of the grid were taken, and there is room for all of them
-pub record IsRaster (raster : Raster) : Type 0 where
-  pub level : IsLevel raster.n
-  pub within : length (bytes_of raster) ≤ 2 * points_of raster.n
-  pub room : points_of raster.n ≤ vec_capacity raster.heights
+-- bytes of the raster behind this header have come, of which none is refused
+pub record HasRead (header : Header) (reader : samples.Progress) : Type 0 where
+  pub valid : IsHeader header
+  pub at : ℕ
+  pub bytes : List ℕ
+  pub are_bytes : All (λ b. b < 256) bytes
+  pub means : (more : List ℕ) → samples.resume reader more ≡ samples_at header at (bytes ++ more)
+  pub unsettled : (fault : RasterFault) → samples.IsSettled reader fault → ⊥
+  pub small : samples.next_place reader ≤ 2 ^ 28
 
 -- the fields of a stage agree
 abbrev pub IsStage : Stage → Type 0
-IsStage (stage.Header head) = IsHead head
-IsStage (stage.Samples raster) = IsRaster raster
+IsStage (stage.InHeader reader) = IsOpenHeader reader
+IsStage (stage.InRaster header reader) = HasRead header reader
 IsStage (stage.Stopped fault) = ⊤
 
--- further bytes were taken, or there was no room where they ended the header
-abbrev pub StepsTo : Progress → List ℕ → Progress → Type 0
-StepsTo old piece new = (new ≡ advance old piece) ⊎ ((new ≡ HasRefused NoMemory) × EndsHeader old piece)
+-- the first bytes of a raster, from a place on, have come to this behind a header
+pub record BeginsRaster (header : Header) (at : ℕ) (rest : List ℕ) (new : Progress) : Type 0 where
+  pub means : (more : List ℕ) → grid_answer header (samples_at header at (rest ++ more)) ≡ resume new more
+  pub unsettled : (fault : PgmFault) → IsSettled new fault → ⊥
+  pub count : taken new ≡ at + length rest
+  pub limit : taken new ≤ 2 ^ 28
 
--- the answer of the call that came to this
-abbrev pub outcome_of : Progress → Result (Unit {0}) PgmFault
-outcome_of (InHeader head) = Ok tt
-outcome_of (InRaster n bytes) = Ok tt
-outcome_of (HasRefused fault) = Err fault
+-- the piece was taken: what still comes is answered as before, and the bytes are counted
+pub record Takes (old new : Progress) (piece : List ℕ) : Type 0 where
+  pub means : (more : List ℕ) → resume old (piece ++ more) ≡ resume new more
+  pub unsettled : (fault : PgmFault) → IsSettled new fault → ⊥
+  pub count : taken new ≡ taken old + length piece
+  pub limit : taken new ≤ 2 ^ 28
+
+-- the piece was refused, or there was no room where it ended the header
+pub record Stops (old : Progress) (piece : List ℕ) (fault : PgmFault) : Type 0 where
+  pub refusal : fault ≢ NoMemory → (more : List ℕ) → resume old (piece ++ more) ≡ Err fault
+  pub no_memory : fault ≡ NoMemory → IsSettled old NoMemory ⊎ EndsHeader old piece
+  pub sticks : (before : PgmFault) → IsSettled old before → before ≡ fault

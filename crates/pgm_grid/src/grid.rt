@@ -3,7 +3,6 @@
 ghost use Rattle.std.specs.Prelude.{◌≡◌, ◌<◌, ◌≤◌, ◌^◌, ◌*◌, ℕ, length, replicate, slice_set, IfOk};
 ghost use Rattle.mesh_defs.specs.HeightField.{IsHeightField, height_at, place_of, side_of};
 
-use crate::raster::points_for;
 use roam_edge::NoMemory;
 use std::alloc::Global;
 use std::marker::Model;
@@ -118,4 +117,14 @@ impl Grid {
         let last = 1usize << self.n;
         (last - y as usize) * (last + 1) + x as usize
     }
+}
+
+/// The number of points of a grid with this n.
+pub(crate) fn points_for(n: u32) -> usize
+    requires { n ≤ 11 }
+    ensures value { result ≡ side_of n * side_of n }
+    ensures small { result ≤ 2 ^ 23 }
+{
+    let side = (1 << n) + 1;
+    side * side
 }

@@ -6,8 +6,8 @@ ghost use Rattle.pgm_grid.specs.Progress.{resume, grid_of, taken, IsSettled, End
 
 use crate::fault::PgmFault;
 use crate::grid::Grid;
-use crate::header::Head;
-use crate::stage::{Stage, last_answer, outcome, stage_after};
+use crate::stage::{Stage, last_answer, stage_after};
+use pgm_header::HeaderReader;
 use std::alloc::Global;
 use std::marker::Model;
 use std::mem;
@@ -15,8 +15,10 @@ use std::mem;
 /// A reader of the bytes of a PGM file, in pieces of any length.
 ///
 /// After a refusal it answers the same refusal from every later call.
-/// Cost (not proved): a step a byte; memory for the heights is taken once, where the header ends.
-/// Source: Netpbm manual, "pgm"; the raw form with the eleven headers of this project alone.
+/// Cost (not proved): a few steps a byte, of raw rasters by lanes; memory for the heights is taken once,
+/// where the header ends.
+/// Source: Netpbm manual, "pgm"; the sides, where comments may stand and the limits of length are this
+/// project's own.
 #[derive(Drop)]
 pub struct PgmReader {
     /// Where the room for the heights comes from.
@@ -45,7 +47,7 @@ impl PgmReader {
     {
         PgmReader {
             alloc,
-            stage: Stage::Header(Head::new()),
+            stage: Stage::InHeader(HeaderReader::new()),
         }
     }
 
@@ -70,8 +72,16 @@ impl PgmReader {
         ensures sticks { (fault : PgmFault) → IsSettled self.old fault → result ≡ Err fault }
     {
         let stage = mem::replace(&mut self.stage, Stage::Stopped(PgmFault::Truncated));
-        self.stage = stage_after(self.alloc, stage, piece);
-        outcome(&self.stage)
+        match stage_after(self.alloc, stage, piece) {
+            Ok(next) => {
+                self.stage = next;
+                Ok(())
+            }
+            Err(fault) => {
+                self.stage = Stage::Stopped(fault);
+                Err(fault)
+            }
+        }
     }
 
     /// Ends the bytes of the file.

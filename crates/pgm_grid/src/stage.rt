@@ -1,137 +1,170 @@
 //! What the bytes so far have come to, and what further bytes make of it.
 
-ghost use Rattle.std.specs.Prelude.{◌≡◌, ◌⊎◌, ◌++◌};
-ghost use Rattle.pgm_grid.specs.PgmText.{IsLevel};
-ghost use Rattle.pgm_grid.specs.Progress.{InHeader, InRaster, HasRefused, answer_of, raster_step};
-ghost use Rattle.pgm_grid.specs.Stage.{progress_of, head_of, bytes_of, IsStage, IsHead, IsRaster, StepsTo, outcome_of};
+ghost use Rattle.std.specs.Prelude.{◌≡◌, ◌≢◌, ◌≤◌, ◌++◌, ℕ, List, [], IfOk, IfErr, Err};
+ghost use Rattle.pgm_header.specs.Accepted.{IsHeader};
+ghost use Rattle.pgm_grid.specs.PgmText.{form_of};
+ghost use Rattle.pgm_grid.specs.Progress.{InHeader, InRaster, header_fault, raster_fault, resume, grid_answer, samples_at};
+ghost use Rattle.pgm_grid.specs.Stage.{progress_of, IsOpenHeader, HasRead, IsStage, Takes, Stops, BeginsRaster};
 
 use crate::fault::PgmFault;
-use crate::grid::Grid;
-use crate::header::{Head, header_for, level_of_beginning};
-use crate::raster::{Raster, heights_fit, points_for, push_after};
+use crate::grid::{Grid, points_for};
+use pgm_header::{Header, HeaderFault, HeaderReader};
+use pgm_raster::{RasterFault, RasterForm, RasterReader, raster_laws};
 use std::alloc::Global;
 
 /// What the bytes so far have come to.
 #[derive(Drop)]
 pub(crate) enum Stage {
     /// They are a part of a header.
-    Header(Head),
-    /// They are a header and some of the samples.
-    Samples(Raster),
+    InHeader(HeaderReader),
+    /// They are a header and a part of its raster.
+    InRaster(Header, RasterReader),
     /// They are refused.
     Stopped(PgmFault),
 }
 
-/// The answer of the call that came to this stage.
-pub(crate) fn outcome(stage: &Stage) -> Result<(), PgmFault>
-    ensures { result ≡ outcome_of (progress_of stage.now) }
-{
-    match stage {
-        Stage::Header(_) | Stage::Samples(_) => Ok(()),
-        Stage::Stopped(fault) => Err(*fault),
-    }
-}
-
 /// What further bytes make of a stage.
-pub(crate) fn stage_after(alloc: Global, stage: Stage, piece: &[u8]) -> Stage
+pub(crate) fn stage_after(alloc: Global, stage: Stage, piece: &[u8]) -> Result<Stage, PgmFault>
     requires { IsStage stage }
-    ensures valid { IsStage result }
-    ensures step { StepsTo (progress_of stage) piece.now (progress_of result) }
+    ensures valid { IfOk result IsStage }
+    ensures takes { IfOk result (λ next. Takes (progress_of stage) (progress_of next) piece.now) }
+    ensures stops { IfErr result (λ fault. Stops (progress_of stage) piece.now fault) }
 {
     match stage {
-        Stage::Header(head) => header_after(alloc, head, piece),
-        Stage::Samples(raster) => samples_after(raster, piece),
-        Stage::Stopped(fault) => Stage::Stopped(fault),
+        Stage::InHeader(reader) => header_after(alloc, reader, piece),
+        Stage::InRaster(header, reader) => raster_after(header, reader, piece),
+        Stage::Stopped(fault) => Err(fault),
     }
 }
 
 /// What further bytes make of a part of a header.
-fn header_after(alloc: Global, mut head: Head, piece: &[u8]) -> Stage
-    requires { IsHead head }
-    ensures valid { IsStage result }
-    ensures step { StepsTo (InHeader (head_of head)) piece.now (progress_of result) }
+fn header_after(
+    alloc: Global,
+    mut reader: HeaderReader,
+    piece: &[u8],
+) -> Result<Stage, PgmFault>
+    requires { IsOpenHeader reader }
+    ensures valid { IfOk result IsStage }
+    ensures takes { IfOk result (λ next. Takes (InHeader reader) (progress_of next) piece.now) }
+    ensures stops { IfErr result (λ fault. Stops (InHeader reader) piece.now fault) }
 {
+    raster_laws();
     for i in 0..piece.len() {
-        let place = head.len;
-        head.push(piece[i]);
-        match level_of_beginning(head.as_slice()) {
-            None => return Stage::Stopped(PgmFault::BadHeader { at: place as u64 }),
-            Some(n) => {
-                if place + 1 == header_for(n).len() {
-                    return raster_begun(alloc, n, &piece[i + 1..]);
-                }
+        match reader.take(piece[i]) {
+            Ok(None) => {}
+            Ok(Some(header)) => {
+                let at = u64::from(reader.place()) + 1;
+                return raster_begun(alloc, header, at, &piece[i + 1..]);
             }
+            Err(fault) => return Err(fault_of_header(fault)),
         }
     }
-    Stage::Header(head)
+    Ok(Stage::InHeader(reader))
 }
 
-/// What the bytes after a header make, if there is room for the heights.
-fn raster_begun(alloc: Global, n: u32, samples: &[u8]) -> Stage
-    requires { IsLevel n }
-    ensures valid { IsStage result }
-    ensures step { (progress_of result ≡ raster_step n samples.now)
-        ⊎ (progress_of result ≡ HasRefused PgmFault.NoMemory) }
+/// What the bytes after a header make, if there is room for the heights. The first has this place.
+fn raster_begun(
+    alloc: Global,
+    header: Header,
+    at: u64,
+    rest: &[u8],
+) -> Result<Stage, PgmFault>
+    requires valid { IsHeader header }
+    requires place { at ≤ 65536 }
+    ensures valid { IfOk result IsStage }
+    // As if the raster's first bytes came to a reader that has taken none.
+    ensures takes { IfOk result (λ next. BeginsRaster header at rest.now (progress_of next)) }
+    ensures stops { IfErr result (λ fault. fault ≢ PgmFault.NoMemory →
+        (more : List ℕ) → grid_answer header (samples_at header at (rest.now ++ more)) ≡ Err fault) }
 {
-    match Vec::with_capacity(alloc, points_for(n)) {
-        Ok(heights) => samples_after(
-            Raster {
-                n,
-                heights,
-                half: None,
-            },
-            samples,
-        ),
-        Err(_) => Stage::Stopped(PgmFault::NoMemory),
+    let form = form_for(&header);
+    let count = points_for(header.n);
+    match RasterReader::new(alloc, form, count, header.maxval, at) {
+        Ok(reader) => raster_after(header, reader, rest),
+        Err(_) => Err(PgmFault::NoMemory),
     }
 }
 
-/// What further bytes make of some samples.
-#[tactic(auto, using(crate::proofs::ProgressLemmas::raster_steps))]
-fn samples_after(raster: Raster, piece: &[u8]) -> Stage
-    requires { IsRaster raster }
-    ensures valid { IsStage result }
-    ensures step { progress_of result ≡ raster_step raster.n (bytes_of raster ++ piece.now) }
+/// What further bytes make of a part of a raster.
+fn raster_after(
+    header: Header,
+    mut reader: RasterReader,
+    piece: &[u8],
+) -> Result<Stage, PgmFault>
+    requires { HasRead header reader }
+    ensures valid { IfOk result IsStage }
+    ensures takes { IfOk result (λ next. Takes (InRaster header reader) (progress_of next) piece.now) }
+    ensures stops { IfErr result (λ fault. Stops (InRaster header reader) piece.now fault) }
 {
-    let all = 2 * points_for(raster.n);
-    if piece.len() > all - raster.len() {
-        let at = header_for(raster.n).len() + all;
-        return Stage::Stopped(PgmFault::Trailing { at: at as u64 });
+    match reader.feed(piece) {
+        Ok(()) => Ok(Stage::InRaster(header, reader)),
+        Err(fault) => Err(fault_of_raster(fault)),
     }
-    let Raster {
-        n,
-        mut heights,
-        half,
-    } = raster;
-    let half = push_after(&mut heights, half, piece);
-    Stage::Samples(Raster { n, heights, half })
 }
 
-/// The grid of these samples, if they are whole.
-#[tactic(auto, using(crate::proofs::ProgressLemmas::whole_grids))]
-fn grid_from(raster: Raster) -> Result<Grid, PgmFault>
-    requires { IsRaster raster }
-    ensures { result ≡ answer_of (InRaster raster.n (bytes_of raster)) }
+/// The form of the raster behind a header.
+fn form_for(header: &Header) -> RasterForm
+    ensures { result ≡ form_of header.now.plain header.now.maxval }
 {
-    if raster.heights.len() < points_for(raster.n) {
-        return Err(PgmFault::Truncated);
+    if header.plain {
+        RasterForm::Plain
+    } else if header.maxval < 256 {
+        RasterForm::Bytes
+    } else {
+        RasterForm::Words
     }
-    heights_fit(raster.heights.as_slice());
-    Ok(Grid {
-        n: raster.n,
-        maxval: u16::MAX,
-        heights: raster.heights,
-    })
+}
+
+/// A refusal of the header, as one of the file.
+fn fault_of_header(fault: HeaderFault) -> PgmFault
+    ensures { result ≡ header_fault fault }
+{
+    match fault {
+        HeaderFault::BadMagic => PgmFault::BadMagic,
+        HeaderFault::BadHeader { at } => PgmFault::BadHeader { at },
+        HeaderFault::HeaderTooLong => PgmFault::HeaderTooLong,
+        HeaderFault::BadMaxval => PgmFault::BadMaxval,
+        HeaderFault::NotSquare => PgmFault::NotSquare,
+        HeaderFault::BadSide => PgmFault::BadSide,
+    }
+}
+
+/// A refusal of the raster, as one of the file.
+fn fault_of_raster(fault: RasterFault) -> PgmFault
+    ensures { result ≡ raster_fault fault }
+{
+    match fault {
+        RasterFault::BadSample { at } => PgmFault::BadSample { at },
+        RasterFault::AboveMaxval { index } => PgmFault::AboveMaxval { index },
+        RasterFault::Trailing { at } => PgmFault::Trailing { at },
+        RasterFault::Truncated => PgmFault::Truncated,
+    }
 }
 
 /// The answer if no byte comes any more.
 pub(crate) fn last_answer(stage: Stage) -> Result<Grid, PgmFault>
     requires { IsStage stage }
-    ensures { result ≡ answer_of (progress_of stage) }
+    ensures { result ≡ resume (progress_of stage) [] }
 {
     match stage {
-        Stage::Header(_) => Err(PgmFault::Truncated),
-        Stage::Samples(raster) => grid_from(raster),
+        Stage::InHeader(_) => Err(PgmFault::Truncated),
+        Stage::InRaster(header, reader) => grid_from(header, reader),
         Stage::Stopped(fault) => Err(fault),
+    }
+}
+
+/// The grid of a header and its raster, if the raster is whole.
+fn grid_from(header: Header, reader: RasterReader) -> Result<Grid, PgmFault>
+    requires { HasRead header reader }
+    ensures { result ≡ resume (InRaster header reader) [] }
+{
+    raster_laws();
+    match reader.finish() {
+        Ok(heights) => Ok(Grid {
+            n: header.n,
+            maxval: header.maxval,
+            heights,
+        }),
+        Err(fault) => Err(fault_of_raster(fault)),
     }
 }

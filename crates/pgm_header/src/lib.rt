@@ -17,6 +17,7 @@ mod reader;
 pub use accepted::Header;
 pub use fault::HeaderFault;
 pub use laws::header_laws;
+pub use machine::HeaderValues;
 pub use reader::HeaderReader;
 
 #[cfg(test)]

@@ -4,17 +4,17 @@ ghost use Rattle.std.specs.Prelude.{◌≡◌};
 ghost use Rattle.pgm_header.specs.HeaderText.{is_white, is_line_end, is_digit};
 ghost use Rattle.pgm_header.specs.Machine.{step_of, gap_step, number_step, number_ended, IsState, IsStep};
 
-/// The values that stand in the text of a header.
+/// The values that stand in the text of a header, whether they are accepted or not.
 #[derive(Clone, Copy)]
-pub(crate) struct HeaderValues {
+pub struct HeaderValues {
     /// Whether the magic is `P2`.
-    pub(crate) plain: bool,
+    pub plain: bool,
     /// The first number.
-    pub(crate) width: u32,
+    pub width: u32,
     /// The second number.
-    pub(crate) height: u32,
+    pub height: u32,
     /// The third number.
-    pub(crate) maxval: u32,
+    pub maxval: u32,
 }
 
 /// The parts of a header that were read whole.

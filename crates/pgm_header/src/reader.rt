@@ -45,7 +45,7 @@ impl HeaderReader {
     pub fn new() -> HeaderReader
         ensures value { (more : List ℕ) → resume result more ≡ header_of more }
         ensures count { taken result ≡ 0 }
-        ensures open { (more : List ℕ) × (fault : Fault) × (resume result more ≡ Bad fault) }
+        ensures refusable { (more : List ℕ) × (fault : Fault) × (resume result more ≡ Bad fault) }
     {
         HeaderReader {
             state: State::Start,
@@ -70,7 +70,7 @@ impl HeaderReader {
             ((more : List ℕ) → resume self.old (byte ∷ more) ≡ resume self.new more)) }
         // No byte so far is refused, or ends the header: what still comes decides.
         ensures part { IfOk result (λ ended. IfNone ended (resume self.new [] ≡ Part)) }
-        ensures open { IfOk result (λ ended. IfNone ended
+        ensures refusable { IfOk result (λ ended. IfNone ended
             ((more : List ℕ) × (fault : Fault) × (resume self.new more ≡ Bad fault))) }
         ensures count { IfOk result (λ ended. IfNone ended (taken self.new ≡ taken self.old + 1)) }
         ensures limit { IfOk result (λ ended. IfNone ended (taken self.new ≤ 65535)) }

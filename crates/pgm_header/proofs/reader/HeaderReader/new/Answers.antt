@@ -3,5 +3,5 @@ use Rattle.pgm_header.specs.declared.machine.State.TheVariants.{Start}
 use Rattle.pgm_header.proofs.ReadingLemmas.{resume_refused}
 use Rattle.pgm_header.proofs.reader.HeaderReader.new.Goals as goal
 
-pub returns-clause-open : goal.returns-clause-open
-returns-clause-open c = resume_refused (record { state = Start; place = 0 }) (omega arith)
+pub returns-clause-refusable : goal.returns-clause-refusable
+returns-clause-refusable c = resume_refused (record { state = Start; place = 0 }) (omega arith)

@@ -30,7 +30,7 @@ returns-after-judge-clause-refusal c =
           (resume_judged (progress_of c.self.inside) c.in-Ends.values w.in-Err.fault c.args.byte more (sym c.step_from.ensures.value ∙ c.in-Ends.is) (sym c.judge.ensures ∙ w.in-Err.is)))
     ]
 
-pub returns-else-self-eq-LAST_PLACE-clause-open : goal.returns-else-self-eq-LAST_PLACE-clause-open
-returns-else-self-eq-LAST_PLACE-clause-open c =
+pub returns-else-self-eq-LAST_PLACE-clause-refusable : goal.returns-else-self-eq-LAST_PLACE-clause-refusable
+returns-else-self-eq-LAST_PLACE-clause-refusable c =
     resume_refused (record { state = c.in-Goes.state; place = c.self.inside.place + 1 })
     (omega (arith, c.self.invariant.within, c.if-self-eq-LAST_PLACE.false))
