@@ -53,18 +53,18 @@ words-few left maxval bytes w =
 -- enough bytes are not truncated
 bytes-enough : (l : Limits) (index at : ℕ) → index ≤ l.count → bytes_from l index at (replicate l.count 0) ≡ Err Truncated → ⊥
 bytes-enough l index at room e =
-    let few : length (replicate l.count 0) < l.count - index =
+    let few : length {A = ℕ} (replicate {A = ℕ} l.count 0) < l.count - index =
     bytes-few (l.count - index) l.maxval (replicate l.count 0) (subst (Told Bytes l index at (replicate l.count 0)) e (bytes-told l (replicate l.count 0) index at room)) in
-    let below : l.count < l.count - index = subst (λ (n : ℕ). n < l.count - index) (length-replicate l.count 0) few in
+    let below : l.count < l.count - index = subst (λ (n : ℕ). n < l.count - index) (length-replicate {A = ℕ} l.count 0) few in
     absurd (omega (arith, below))
 
 words-enough : (l : Limits) (index at : ℕ) → index ≤ l.count → words_from l index None at (replicate (2 * l.count) 0) ≡ Err Truncated → ⊥
 words-enough l index at room e =
     let small : 0 < 256 = omega arith in
-    let few : length (replicate (2 * l.count) 0) < 2 * (l.count - index) =
+    let few : length {A = ℕ} (replicate {A = ℕ} (2 * l.count) 0) < 2 * (l.count - index) =
     words-few (l.count - index) l.maxval (replicate (2 * l.count) 0)
     (subst (Told Words l index at (replicate (2 * l.count) 0)) e (words-told l (replicate (2 * l.count) 0) index at room (All-replicate (λ b. b < 256) (2 * l.count) 0 small))) in
-    let below : 2 * l.count < 2 * (l.count - index) = subst (λ (n : ℕ). n < 2 * (l.count - index)) (length-replicate (2 * l.count) 0) few in
+    let below : 2 * l.count < 2 * (l.count - index) = subst (λ (n : ℕ). n < 2 * (l.count - index)) (length-replicate {A = ℕ} (2 * l.count) 0) few in
     absurd (omega (arith, below))
 
 half-enough : (l : Limits) (index at high : ℕ) → index < l.count → words_from l index (Some high) at (0 ∷ replicate (2 * l.count) 0) ≡ Err Truncated → ⊥
