@@ -1,7 +1,7 @@
 -- What a reader answers: the header's answer, and behind it the raster's.
-use Rattle.std.proofs.Common.{◌≡◌, ◌≢◌, ℕ, ◌+◌, ◌-◌, ◌*◌, ◌^◌, ◌<◌, ◌≤◌, ◌⊎◌, List, [], ◌∷◌, ◌++◌, length, take, drop, get_or, All, Option, Some, None, Result, Ok, Err, OnOk, IfErr, IsErrOf, refl, sym, ap, ◌∙◌, inl, inr, subst, arith, length-append, append-nil, append_assoc, rules}
+use Rattle.std.proofs.Common.{◌≡◌, ◌≢◌, ℕ, ◌+◌, ◌-◌, ◌*◌, ◌^◌, ◌<◌, ◌≤◌, ◌⊎◌, List, [], ◌∷◌, ◌++◌, length, take, drop, get_or, All, Option, Some, None, Result, Ok, Err, OnOk, IfOk, IfErr, IsErrOf, refl, sym, ap, ◌∙◌, inl, inr, subst, arith, length-append, append-nil, append_assoc, rules}
 use Rattle.std.proofs.Math.Seq.{take-append_seam, take-length}
-use Rattle.std.proofs.lemmas.List.Elements.{All-append, All-nil}
+use Rattle.std.proofs.lemmas.Result.{IfOk-at_ok}
 use Rattle.std.proofs.lemmas.List.{take_more, take-append-drop, length-take-le}
 use Rattle.mesh_defs.specs.HeightField.{HeightField, IsHeightField, side_of}
 use Rattle.pgm_header.specs.declared.accepted.Header.{Header}
@@ -12,13 +12,13 @@ use Rattle.pgm_header.specs.Reading as reading
 use Rattle.pgm_raster.specs.declared.fault.RasterFault.{RasterFault}
 use Rattle.pgm_raster.specs.declared.fault.RasterFault.TheVariants as raster
 use Rattle.pgm_raster.specs.RasterText.{IsRaster}
-use Rattle.pgm_raster.specs.Laws.{RastersAreRead, ReadBytesAreRasters}
+use Rattle.pgm_raster.specs.Laws.{RastersAreRead, OnlyWantedSamplesAreRead}
 use Rattle.pgm_raster.specs.Progress as samples
 use Rattle.pgm_grid.specs.declared.fault.PgmFault.{PgmFault}
 use Rattle.pgm_grid.specs.declared.fault.PgmFault.TheVariants.{BadMagic, BadHeader, HeaderTooLong, BadMaxval, NotSquare, BadSide, Truncated, BadSample, AboveMaxval, Trailing, NoMemory}
 use Rattle.pgm_grid.specs.PgmText.{points_of, form_of, most_bytes}
 use Rattle.pgm_grid.specs.Progress.{Progress, InHeader, InRaster, HasRefused, header_fault, raster_fault, grid_with, grid_answer, samples_at, file_answer, resume, grid_of, taken, IsSettled, ReadsRasters, EndsHeader}
-use Rattle.pgm_grid.specs.Stage.{IsOpenHeader, HasRead, BeginsRaster, Takes, Stops}
+use Rattle.pgm_grid.specs.Stage.{IsOpenHeader, IsBehind, HasRead, BeginsRaster, Takes, Stops}
 
 -- Faults.
 
@@ -29,12 +29,6 @@ no_header-memory header.HeaderTooLong e = cc
 no_header-memory header.BadMaxval e = cc
 no_header-memory header.NotSquare e = cc
 no_header-memory header.BadSide e = cc
-
-no_raster-memory : (fault : RasterFault) → raster_fault fault ≡ NoMemory → ⊥
-no_raster-memory (raster.BadSample at) e = cc
-no_raster-memory (raster.AboveMaxval index) e = cc
-no_raster-memory (raster.Trailing at) e = cc
-no_raster-memory raster.Truncated e = cc
 
 header-truncated : (fault : HeaderFault) → header_fault fault ≡ Truncated → ⊥
 header-truncated header.BadMagic e = cc
@@ -120,30 +114,43 @@ module _ (header : Header) (old new : samples.Progress) (piece : List ℕ) where
   }
 
   -- a piece of a raster was read, behind what was read before
-  pub raster-read : HasRead header old → All (λ b. b < 256) piece
+  pub raster-read : IsBehind header old
       → ((more : List ℕ) → samples.resume old (piece ++ more) ≡ samples.resume new more)
       → ((fault : RasterFault) → samples.IsSettled new fault → ⊥) → samples.next_place new ≤ 2 ^ 28
       → HasRead header new
-  raster-read read bytes means free limit = record {
-    valid = read.valid;
-    at = read.at;
-    bytes = read.bytes ++ piece;
-    are_bytes = All-append (λ b. b < 256) read.bytes piece read.are_bytes bytes;
-    means = λ more. sym (means more) ∙ read.means (piece ++ more) ∙ ap (samples_at header read.at) (sym (append_assoc read.bytes piece more));
+  raster-read before means free limit = record {
+    behind = record {
+      valid = before.valid;
+      wanted = λ more. subst (λ (answer : samples.Answer). IfOk answer (λ heights. (length heights ≡ points_of header.n) × All (λ h. h ≤ header.maxval) heights))
+          (means more) (before.wanted (piece ++ more));
+      small = limit;
+    };
     unsettled = free;
-    small = limit;
   }
 
 -- a piece of a raster was refused
-pub raster-stops : (header : Header) (old : samples.Progress) (piece : List ℕ) (fault : RasterFault)
-    → ((f : RasterFault) → samples.IsSettled old f → ⊥)
+pub raster-refusal : (header : Header) (old : samples.Progress) (piece : List ℕ) (fault : RasterFault)
     → ((more : List ℕ) → samples.resume old (piece ++ more) ≡ Err fault)
-    → Stops (InRaster header old) piece (raster_fault fault)
+    → (more : List ℕ) → resume (InRaster header old) (piece ++ more) ≡ Err (raster_fault fault)
 unfolding resume
-raster-stops header old piece fault free refusal = record {
-  refusal = λ other more. ap (grid_answer header) (refusal more);
-  no_memory = λ e. absurd (no_raster-memory fault e);
-  sticks = λ before settled. absurd (unsettled-raster header old before free settled);
+raster-refusal header old piece fault refusal more = ap (grid_answer header) (refusal more)
+
+-- no refusal of a raster is want of memory
+pub no_raster-memory : (fault : RasterFault) → raster_fault fault ≡ NoMemory → ⊥
+no_raster-memory (raster.BadSample at) e = cc
+no_raster-memory (raster.AboveMaxval index) e = cc
+no_raster-memory (raster.Trailing at) e = cc
+no_raster-memory raster.Truncated e = cc
+
+-- a piece of a raster that had refused nothing was refused
+pub raster-stops : (header : Header) (old : samples.Progress) (piece : List ℕ) (fault : PgmFault)
+    → HasRead header old → (fault ≡ NoMemory → ⊥)
+    → ((more : List ℕ) → resume (InRaster header old) (piece ++ more) ≡ Err fault)
+    → Stops (InRaster header old) piece fault
+raster-stops header old piece fault read other refusal = record {
+  refusal = λ _ more. refusal more;
+  no_memory = λ e. absurd (other e);
+  sticks = λ before settled. absurd (unsettled-raster header old before read.unsettled settled);
 }
 
 -- Headers.
@@ -283,7 +290,8 @@ pub new-resume : (reader : reading.Progress) → ((more : List ℕ) → reading.
     → (more : List ℕ) → resume (InHeader reader) more ≡ grid_of more
 unfolding resume grid_of
 new-resume reader means none more =
-    ap (λ n. file_answer (n + length more) (reading.resume reader more)) none ∙ ap (file_answer (length more)) (means more)
+    let total : reading.taken reader + length more ≡ length more = omega (arith, none) in
+    ap (λ n. file_answer n (reading.resume reader more)) total ∙ ap (file_answer (length more)) (means more)
 
 pub new-taken : (reader : reading.Progress) → reading.taken reader ≡ 0 → taken (InHeader reader) ≡ 0
 unfolding taken
@@ -306,23 +314,20 @@ begins-raster header at reader rest new means place takes = record {
 -- they are refused
 pub begins-refused : (header : Header) (at : ℕ) (reader : samples.Progress) (rest : List ℕ) (fault : PgmFault)
     → ((more : List ℕ) → samples.resume reader more ≡ samples_at header at more)
-    → Stops (InRaster header reader) rest fault → fault ≢ NoMemory
+    → ((more : List ℕ) → resume (InRaster header reader) (rest ++ more) ≡ Err fault)
     → (more : List ℕ) → grid_answer header (samples_at header at (rest ++ more)) ≡ Err fault
 unfolding resume
-begins-refused header at reader rest fault means stops other more =
-    ap (grid_answer header) (sym (means (rest ++ more))) ∙ stops.refusal other more
+begins-refused header at reader rest fault means refusal more =
+    ap (grid_answer header) (sym (means (rest ++ more))) ∙ refusal more
 
 -- a raster of which no byte has come
-pub raster-begun : (header : Header) (at : ℕ) (reader : samples.Progress) → IsHeader header
+pub raster-begun : OnlyWantedSamplesAreRead → (header : Header) (at : ℕ) (reader : samples.Progress) → IsHeader header
     → ((more : List ℕ) → samples.resume reader more ≡ samples_at header at more)
-    → ((fault : RasterFault) → samples.IsSettled reader fault → ⊥) → samples.next_place reader ≤ 2 ^ 28 → HasRead header reader
-raster-begun header at reader valid means free small = record {
+    → samples.next_place reader ≤ 2 ^ 28 → IsBehind header reader
+raster-begun laws header at reader valid means small = record {
   valid = valid;
-  at = at;
-  bytes = [];
-  are_bytes = All-nil (λ b. b < 256);
-  means = means;
-  unsettled = free;
+  wanted = λ more. subst (λ (answer : samples.Answer). IfOk answer (λ heights. (length heights ≡ points_of header.n) × All (λ h. h ≤ header.maxval) heights))
+      (sym (means more)) (laws (form_of header.plain header.maxval) (points_of header.n) header.maxval at more);
   small = small;
 }
 
@@ -342,16 +347,15 @@ unfolding resume
 end-raster header reader answer e = ap (grid_answer header) e
 
 -- the samples of a whole raster are heights of a grid
-pub whole-field : ReadBytesAreRasters → (header : Header) (reader : samples.Progress) (heights : List ℕ) → HasRead header reader
+pub whole-field : (header : Header) (reader : samples.Progress) (heights : List ℕ) → IsBehind header reader
     → samples.resume reader [] ≡ Ok heights → IsHeightField (grid_with header heights)
-whole-field laws header reader heights read e =
-    let found = laws (form_of header.plain header.maxval) (points_of header.n) header.maxval read.at heights (read.bytes ++ [])
-        (All-append (λ b. b < 256) read.bytes [] read.are_bytes (All-nil (λ b. b < 256))) (sym (read.means []) ∙ e) in
+whole-field header reader heights before e =
+    let found = IfOk-at_ok (λ (hs : List ℕ). (length hs ≡ points_of header.n) × All (λ h. h ≤ header.maxval) hs) e (before.wanted []) in
     record {
-      n_low = read.valid.level.low;
-      n_high = read.valid.level.high;
-      maxval_low = read.valid.maxval.low;
-      maxval_high = read.valid.maxval.high;
-      count = found.1;
-      bounded = found.2;
+      n_low = before.valid.level.low;
+      n_high = before.valid.level.high;
+      maxval_low = before.valid.maxval.low;
+      maxval_high = before.valid.maxval.high;
+      count = found.0;
+      bounded = found.1;
     }

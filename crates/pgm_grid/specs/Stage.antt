@@ -1,6 +1,6 @@
 -- The fields of a reader: what they have come to, and what holds of them.
--- Words: progress_of, IsOpenHeader, HasRead, IsStage, BeginsRaster, Takes, Stops.
-use Rattle.std.specs.Prelude.{◌≡◌, ◌≢◌, ℕ, ◌+◌, ◌<◌, ◌≤◌, ◌^◌, List, [], ◌++◌, length, All, Option, None, Result, Ok, Err, ⊤, ◌⊎◌}
+-- Words: progress_of, IsOpenHeader, IsBehind, HasRead, IsStage, BeginsRaster, Takes, Stops.
+use Rattle.std.specs.Prelude.{◌≡◌, ◌≢◌, ℕ, ◌+◌, ◌<◌, ◌≤◌, ◌^◌, List, [], ◌++◌, length, All, Result, Ok, Err, IfOk, ⊤, ◌⊎◌}
 use Rattle.pgm_header.specs.declared.accepted.Header.{Header}
 use Rattle.pgm_header.specs.declared.fault.HeaderFault.{HeaderFault}
 use Rattle.pgm_header.specs.Accepted.{IsHeader, Part, Bad}
@@ -11,6 +11,7 @@ use Rattle.pgm_grid.specs.declared.fault.PgmFault.{PgmFault}
 use Rattle.pgm_grid.specs.declared.fault.PgmFault.TheVariants.{NoMemory}
 use Rattle.pgm_grid.specs.declared.stage.Stage.{Stage}
 use Rattle.pgm_grid.specs.declared.stage.Stage.TheVariants as stage
+use Rattle.pgm_grid.specs.PgmText.{points_of}
 use Rattle.pgm_grid.specs.Progress.{Progress, InHeader, InRaster, HasRefused, samples_at, grid_answer, resume, taken, IsSettled, EndsHeader}
 
 -- what a stage has come to
@@ -25,15 +26,16 @@ pub record IsOpenHeader (reader : reading.Progress) : Type 0 where
   pub small : reading.taken reader ≤ 65535
   pub refusable : (more : List ℕ) × (fault : HeaderFault) × (reading.resume reader more ≡ Bad fault)
 
--- bytes of the raster behind this header have come, of which none is refused
-pub record HasRead (header : Header) (reader : samples.Progress) : Type 0 where
+-- the reader reads the heights that this header wants
+pub record IsBehind (header : Header) (reader : samples.Progress) : Type 0 where
   pub valid : IsHeader header
-  pub at : ℕ
-  pub bytes : List ℕ
-  pub are_bytes : All (λ b. b < 256) bytes
-  pub means : (more : List ℕ) → samples.resume reader more ≡ samples_at header at (bytes ++ more)
-  pub unsettled : (fault : RasterFault) → samples.IsSettled reader fault → ⊥
+  pub wanted : (more : List ℕ) → IfOk (samples.resume reader more) (λ heights. (length heights ≡ points_of header.n) × All (λ h. h ≤ header.maxval) heights)
   pub small : samples.next_place reader ≤ 2 ^ 28
+
+-- and it has refused no byte
+pub record HasRead (header : Header) (reader : samples.Progress) : Type 0 where
+  pub behind : IsBehind header reader
+  pub unsettled : (fault : RasterFault) → samples.IsSettled reader fault → ⊥
 
 -- the fields of a stage agree
 abbrev pub IsStage : Stage → Type 0

@@ -4,7 +4,7 @@ ghost use Rattle.std.specs.Prelude.{◌≡◌, ◌≢◌, ◌≤◌, ◌++◌, �
 ghost use Rattle.pgm_header.specs.Accepted.{IsHeader};
 ghost use Rattle.pgm_grid.specs.PgmText.{form_of};
 ghost use Rattle.pgm_grid.specs.Progress.{InHeader, InRaster, header_fault, raster_fault, resume, grid_answer, samples_at};
-ghost use Rattle.pgm_grid.specs.Stage.{progress_of, IsOpenHeader, HasRead, IsStage, Takes, Stops, BeginsRaster};
+ghost use Rattle.pgm_grid.specs.Stage.{progress_of, IsOpenHeader, IsBehind, IsStage, Takes, Stops, BeginsRaster};
 
 use crate::fault::PgmFault;
 use crate::grid::{Grid, points_for};
@@ -77,6 +77,7 @@ fn raster_begun(
     ensures stops { IfErr result (λ fault. fault ≢ PgmFault.NoMemory →
         (more : List ℕ) → grid_answer header (samples_at header at (rest.now ++ more)) ≡ Err fault) }
 {
+    raster_laws();
     let form = form_for(&header);
     let count = points_for(header.n);
     match RasterReader::new(alloc, form, count, header.maxval, at) {
@@ -91,10 +92,11 @@ fn raster_after(
     mut reader: RasterReader,
     piece: &[u8],
 ) -> Result<Stage, PgmFault>
-    requires { HasRead header reader }
+    requires { IsBehind header reader }
     ensures valid { IfOk result IsStage }
     ensures takes { IfOk result (λ next. Takes (InRaster header reader) (progress_of next) piece.now) }
-    ensures stops { IfErr result (λ fault. Stops (InRaster header reader) piece.now fault) }
+    ensures refusal { IfErr result (λ fault. (more : List ℕ) → resume (InRaster header reader) (piece.now ++ more) ≡ Err fault) }
+    ensures room { result ≢ Err PgmFault.NoMemory }
 {
     match reader.feed(piece) {
         Ok(()) => Ok(Stage::InRaster(header, reader)),
@@ -155,10 +157,9 @@ pub(crate) fn last_answer(stage: Stage) -> Result<Grid, PgmFault>
 
 /// The grid of a header and its raster, if the raster is whole.
 fn grid_from(header: Header, reader: RasterReader) -> Result<Grid, PgmFault>
-    requires { HasRead header reader }
+    requires { IsBehind header reader }
     ensures { result ≡ resume (InRaster header reader) [] }
 {
-    raster_laws();
     match reader.finish() {
         Ok(heights) => Ok(Grid {
             n: header.n,

@@ -1,34 +1,23 @@
-use Rattle.std.proofs.Common.{rules, ◌≡◌, ◌≢◌, ◌≤◌, ◌++◌, ℕ, List, [], IfOk, IfErr, Err, ◌+◌, ◌-◌, ◌*◌, ◌<◌, length, ◌/◌, ◌%◌, Bool, true, false, nat_eq, nat_lt, ◌∷◌, slice_index_or, slice_set, bit_and, bit_or, Fits, w8, w32, w64, Bor, MutBor}
-use Rattle.pgm_header.specs.Accepted.{IsHeader}
-use Rattle.pgm_grid.specs.PgmText.{form_of}
-use Rattle.pgm_grid.specs.Progress.{InHeader, InRaster, header_fault, raster_fault, resume, grid_answer, samples_at}
-use Rattle.pgm_grid.specs.Stage.{progress_of, IsOpenHeader, HasRead, IsStage, Takes, Stops, BeginsRaster}
+use Rattle.std.proofs.Common.{◌≡◌, ◌+◌, ◌<◌, length, drop, get_or, arith, sym, ◌∙◌, ap, subst}
+use Rattle.std.proofs.Math.Seq.{take-length}
+use Rattle.std.proofs.lemmas.List.{length-take-le}
+use Rattle.pgm_grid.proofs.ReaderLemmas.{HasTaken, cut-at, header-takes, header-stops, header-ends, header-full}
 use Rattle.pgm_grid.proofs.stage.header_after.Goals as goal
 
--- src/stage.rt:51:5
-pub loop-i-init : goal.loop-i-init
-loop-i-init c = ?
-
--- src/stage.rt:56:17
 pub returns-in-Ok-Some-clause-takes : goal.returns-in-Ok-Some-clause-takes
 returns-in-Ok-Some-clause-takes c = ?
 
--- src/stage.rt:56:17
 pub returns-in-Ok-Some-clause-stops : goal.returns-in-Ok-Some-clause-stops
 returns-in-Ok-Some-clause-stops c = ?
 
--- src/stage.rt:58:27
 pub returns-in-Err-clause-stops : goal.returns-in-Err-clause-stops
-returns-in-Err-clause-stops c = ?
+returns-in-Err-clause-stops c =
+    let below : c.loop-i.i < length c.args.piece.now = omega arith in
+    rw c.fault_of_header.ensures (header-stops c.args.reader c.loop-i.reader c.args.piece.now c.requires c.loop-i.i (get_or c.args.piece.now c.loop-i.i 0)
+    (drop (c.loop-i.i + 1) c.args.piece.now) c.loop-i.invariant (cut-at c.args.piece.now c.loop-i.i below) c.in-Err.fault c.in-Err.ensures.refusal)
 
--- src/stage.rt:51:5
-pub loop-i-preserved : goal.loop-i-preserved
-loop-i-preserved c = ?
-
--- src/stage.rt:41:1
-pub returns-clause-valid : goal.returns-clause-valid
-returns-clause-valid c = ?
-
--- src/stage.rt:41:1
 pub returns-clause-takes : goal.returns-clause-takes
-returns-clause-takes c = ?
+returns-clause-takes c =
+    let all : c.loop-i.i ≡ length c.args.piece.now = omega arith in
+    header-takes c.args.reader c.loop-i.reader c.args.piece.now c.requires
+    (subst (λ k. HasTaken c.args.reader c.loop-i.reader c.args.piece.now k) all c.loop-i.invariant) (take-length c.args.piece.now)
