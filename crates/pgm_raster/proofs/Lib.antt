@@ -1,5 +1,7 @@
 pub mod RasterLemmas
 pub mod PlainLemmas
+pub mod UnlimitedLemmas
+pub mod LongLemmas
 pub mod ReaderLemmas
 pub mod LawLemmas
 pub mod OpenLemmas
