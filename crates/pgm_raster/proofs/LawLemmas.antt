@@ -146,7 +146,6 @@ told-more f l index at vs p rest (Err (BadSample k)) ended fits room w = (
     wanted = omega (arith, length-append vs w.3.samples, w.3.wanted);
   },
 )
-
 told-more f l index at vs p rest (Err TooLong) ended fits room w = w
 
 -- ---- one sample, or the end

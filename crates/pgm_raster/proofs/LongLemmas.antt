@@ -1,11 +1,10 @@
 -- Plain rasters whose bytes go beyond the most that a file has.
-use Rattle.std.proofs.Common.{◌≡◌, ℕ, suc, ◌+◌, ◌-◌, ◌*◌, ◌^◌, ◌<◌, ◌≤◌, ◌⊎◌, inl, inr, true, ◌&&◌, nat_lt, List, [], ◌∷◌, ◌++◌, length, take, drop, Some, None, Ok, Err, refl, sym, ap, ap₂, ◌∙◌, subst, arith, take-append-drop, length-take-le, length-drop}
+use Rattle.std.proofs.Common.{◌≡◌, ℕ, suc, ◌+◌, ◌-◌, ◌*◌, ◌^◌, ◌<◌, ◌≤◌, ◌⊎◌, inl, inr, true, ◌&&◌, nat_lt, List, [], ◌∷◌, ◌++◌, length, take, drop, None, Ok, Err, refl, sym, ap, ◌∙◌, subst, arith, take-append-drop, length-take-le, length-drop}
 use Rattle.std.specs.Char.{is_ascii_digit}
 use Rattle.std.specs.Prelude.{⊤}
 use Rattle.std.proofs.lemmas.Bool.{cases_lt, cases_eq, lt-ltb, le-ltb, eq-eqb, ne_eqb, cond-true, cond-false}
 use Rattle.pgm_raster.specs.declared.fault.RasterFault.{RasterFault}
-use Rattle.pgm_raster.specs.declared.fault.RasterFault.TheVariants.{BadSample, AboveMaxval, Trailing, Truncated, TooLong}
-use Rattle.pgm_raster.specs.declared.form.RasterForm.{RasterForm}
+use Rattle.pgm_raster.specs.declared.fault.RasterFault.TheVariants.{BadSample, AboveMaxval, Trailing, TooLong}
 use Rattle.pgm_raster.specs.declared.form.RasterForm.TheVariants.{Bytes, Words, Plain}
 use Rattle.pgm_raster.specs.declared.part.Limits.{Limits}
 use Rattle.pgm_raster.specs.declared.part.Digits.{Digits}
@@ -93,8 +92,13 @@ front-step : (l : Limits) (index i : ℕ) (digits next : Digits) (at byte : ℕ)
 front-step l index i digits next at byte samples front step (inl w) = inl (w.0, w.1, λ more. step (front ++ more) ∙ ap (after samples) (w.2 more))
 front-step l index i digits next at byte samples front step (inr w) =
     let e : at + 1 + length front ≡ at + suc (length front) = omega arith in
-    inr (samples ++ w.0, w.1, w.2, λ more. step (front ++ more) ∙ ap (after samples) (w.3 more) ∙ sym (after-append samples w.0 (plain_from l w.1 w.2 (at + 1 + length front) more))
-    ∙ ap (λ (p : ℕ). after (samples ++ w.0) (plain_from l w.1 w.2 p more)) e)
+    inr (
+      samples ++ w.0,
+      w.1,
+      w.2,
+      λ more. step (front ++ more) ∙ ap (after samples) (w.3 more) ∙ sym (after-append samples w.0 (plain_from l w.1 w.2 (at + 1 + length front) more))
+          ∙ ap (λ (p : ℕ). after (samples ++ w.0) (plain_from l w.1 w.2 p more)) e,
+    )
 
 front-none : (l : Limits) (index i : ℕ) (digits next : Digits) (at byte : ℕ) (front : List ℕ) → ((more : List ℕ) → plain_from l index digits at (byte ∷ more) ≡ plain_from l i next (at + 1) more)
     → Front l i next (at + 1) front → Front l index digits at (byte ∷ front)
@@ -112,9 +116,9 @@ front-cases l (byte ∷ front) index digits at room =
     (λ yes. elim (cases_eq digits.count 0) as (λ _. Front l index digits at (byte ∷ front)) [
       | inl none ↦ front-none l index index digits no_digits at byte front (λ more. plain-space l index digits at byte more within yes ∙ cond-true _ _ _ (eq-eqb digits.count 0 none)) (front-cases l front index no_digits (at + 1) next_room)
       | inr some ↦ elim (cases_lt l.maxval digits.value) as (λ _. Front l index digits at (byte ∷ front)) [
-          | inl above ↦ inl (AboveMaxval index, λ e. absurd (cc), λ more. sample within yes some (front ++ more) ∙ sample-refused l index digits.value _ above)
-          | inr fits ↦ front-step l index (index + 1) digits no_digits at byte (digits.value ∷ []) front (λ more. sample within yes some more ∙ sample-passed l index digits.value _ fits) (front-cases l front (index + 1) no_digits (at + 1) next_room)
-        ]
+        | inl above ↦ inl (AboveMaxval index, λ e. absurd (cc), λ more. sample within yes some (front ++ more) ∙ sample-refused l index digits.value _ above)
+        | inr fits ↦ front-step l index (index + 1) digits no_digits at byte (digits.value ∷ []) front (λ more. sample within yes some more ∙ sample-passed l index digits.value _ fits) (front-cases l front (index + 1) no_digits (at + 1) next_room)
+      ]
     ])
     (λ no. elim (cases_lt index l.count) as (λ _. Front l index digits at (byte ∷ front)) [
       | inl less ↦ by_test (is_ascii_digit byte && nat_lt digits.count 9)
@@ -159,9 +163,9 @@ short count maxval at samples bytes e place =
     let l : Limits = record { count = count; maxval = maxval } in
     elim (cases_lt (2 ^ 28) (at + length bytes)) as (λ _. at + length bytes ≤ 2 ^ 28) [
       | inl long ↦ absurd (elim (beyond l at bytes place long) as (λ _. ⊥) [
-          | inl w ↦ let bad : ◌≡◌ {A = Answer} (Ok samples) (Err w.0) = sym e ∙ w.3 in absurd (cc)
-          | inr w ↦ let bad : ◌≡◌ {A = Answer} (Ok samples) (Err TooLong) = sym e ∙ w.0 in absurd (cc)
-        ])
+        | inl w ↦ let bad : ◌≡◌ {A = Answer} (Ok samples) (Err w.0) = sym e ∙ w.3 in absurd (cc)
+        | inr w ↦ let bad : ◌≡◌ {A = Answer} (Ok samples) (Err TooLong) = sym e ∙ w.0 in absurd (cc)
+      ])
       | inr fits ↦ fits
     ]
 
@@ -171,9 +175,9 @@ plain_long count maxval at bytes place e =
     let l : Limits = record { count = count; maxval = maxval } in
     elim (cases_lt (2 ^ 28) (at + length bytes)) as (λ _. (2 ^ 28 < at + length bytes) × ((fault : RasterFault) → ((more : List ℕ) → plain_from l 0 no_digits at (take (2 ^ 28 - at) bytes ++ more) ≡ Err fault) → ⊥)) [
       | inl long ↦ elim (beyond l at bytes place long) as (λ _. (2 ^ 28 < at + length bytes) × ((fault : RasterFault) → ((more : List ℕ) → plain_from l 0 no_digits at (take (2 ^ 28 - at) bytes ++ more) ≡ Err fault) → ⊥)) [
-          | inl w ↦ absurd (w.1 (let same : ◌≡◌ {A = Answer} (Err w.0) (Err TooLong) = sym w.3 ∙ e in cc))
-          | inr w ↦ (long, w.1)
-        ]
+        | inl w ↦ absurd (w.1 (let same : ◌≡◌ {A = Answer} (Err w.0) (Err TooLong) = sym w.3 ∙ e in cc))
+        | inr w ↦ (long, w.1)
+      ]
       | inr fits ↦ absurd (subst IsShort (sym (plain-within l bytes 0 no_digits at (omega arith)) ∙ e) (unlimited-short l bytes 0 no_digits at))
     ]
 

@@ -104,9 +104,9 @@ x-ends : (l : Limits) (index : ℕ) (digits : Digits) (at : ℕ) (f : RasterFaul
 x-ends l index digits at f place e ends =
     elim (cases_lt at most_bytes) as (λ _. ⊥) [
       | inl within ↦ elim (cases_lt index l.count) as (λ _. ⊥) [
-          | inl less ↦ subst IsEndFault (same_fault (plain_from l index digits at (120 ∷ [])) f (BadSample at) e (plain-bad l index digits at 120 [] within refl less refl)) ends
-          | inr full ↦ subst IsEndFault (same_fault (plain_from l index digits at (120 ∷ [])) f (Trailing at) e (plain-full l index digits at 120 [] within refl full)) ends
-        ]
+        | inl less ↦ subst IsEndFault (same_fault (plain_from l index digits at (120 ∷ [])) f (BadSample at) e (plain-bad l index digits at 120 [] within refl less refl)) ends
+        | inr full ↦ subst IsEndFault (same_fault (plain_from l index digits at (120 ∷ [])) f (Trailing at) e (plain-full l index digits at 120 [] within refl full)) ends
+      ]
       | inr beyond ↦ subst IsEndFault (same_fault (plain_from l index digits at (120 ∷ [])) f TooLong e (plain-long l index digits at (120 ∷ []) (omega arith) (omega arith))) ends
     ]
 

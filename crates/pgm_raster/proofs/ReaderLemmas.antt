@@ -1,5 +1,5 @@
 -- What readers come to.
-use Rattle.std.proofs.Common.{◌≡◌, ℕ, ◌+◌, ◌^◌, ◌<◌, ◌≤◌, append-nil, Option, Some, None, IfSome, IfOk, IfErr, OnOk, Vec, Global, subst, List, [], length, Result, Ok, Err, refl, sym, ap, ◌∙◌, arith}
+use Rattle.std.proofs.Common.{◌≡◌, ℕ, ◌^◌, ◌<◌, ◌≤◌, append-nil, Option, Some, None, IfSome, IfOk, IfErr, OnOk, Vec, Global, subst, List, [], length, Result, Ok, Err, refl, sym, ap, ◌∙◌, arith}
 use Rattle.std.proofs.lemmas.Bool.{lt-ltb, le-ltb, cond-true, cond-false}
 use Rattle.pgm_raster.specs.declared.fault.RasterFault.{RasterFault}
 use Rattle.pgm_raster.specs.declared.fault.RasterFault.TheVariants.{Truncated}

@@ -1,10 +1,8 @@
 -- Rasters of files of any length, and how they agree with those of at most 2 ^ 28 bytes.
-use Rattle.std.proofs.Common.{◌≡◌, ℕ, ◌+◌, ◌^◌, ◌<◌, ◌≤◌, ◌⊎◌, inl, inr, Bool, true, false, ◌&&◌, nat_eq, nat_lt, cond, List, [], ◌∷◌, length, Some, None, Result, Ok, Err, refl, sym, ap, ap₂, ◌∙◌, subst, arith}
+use Rattle.std.proofs.Common.{◌≡◌, ℕ, ◌+◌, ◌^◌, ◌<◌, ◌≤◌, ◌⊎◌, inl, inr, Bool, true, false, ◌&&◌, nat_eq, nat_lt, cond, List, [], ◌∷◌, length, Err, refl, sym, ap, ap₂, ◌∙◌, subst, arith}
 use Rattle.std.specs.Char.{is_ascii_digit}
-use Rattle.std.specs.Prelude.{⊤}
 use Rattle.std.proofs.lemmas.Bool.{cases_lt, cases_eq, lt-ltb, le-ltb, eq-eqb, ne_eqb, cond-true, cond-false, and_from}
-use Rattle.pgm_raster.specs.declared.fault.RasterFault.{RasterFault}
-use Rattle.pgm_raster.specs.declared.fault.RasterFault.TheVariants.{BadSample, AboveMaxval, Trailing, Truncated, TooLong}
+use Rattle.pgm_raster.specs.declared.fault.RasterFault.TheVariants.{BadSample, Trailing, TooLong}
 use Rattle.pgm_raster.specs.declared.form.RasterForm.{RasterForm}
 use Rattle.pgm_raster.specs.declared.form.RasterForm.TheVariants.{Bytes, Words, Plain}
 use Rattle.pgm_raster.specs.declared.part.Limits.{Limits}
@@ -13,7 +11,6 @@ use Rattle.pgm_raster.specs.declared.part.Part.{Part}
 use Rattle.pgm_raster.specs.declared.part.Part.TheVariants as part
 use Rattle.pgm_raster.specs.Progress.{most_bytes, Answer, after, sample_then, end_at, bytes_from, words_from, is_space, no_digits, with_digit, ended_then, plain_from, rest_of, nothing_of}
 use Rattle.pgm_raster.proofs.RasterLemmas.{sample-passed, sample-refused}
-use Rattle.pgm_raster.proofs.PlainLemmas.{by_test, plain-space, plain-full, plain-digit, plain-bad}
 
 -- the bytes of a plain raster, with no limit on their number
 abbrev pub plain_unlimited : Limits → ℕ → Digits → ℕ → List ℕ → Answer
