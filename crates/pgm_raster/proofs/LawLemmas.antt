@@ -22,7 +22,7 @@ use Rattle.pgm_raster.proofs.UnlimitedLemmas.{plain_unlimited, rest_unlimited, u
 
 -- ---- texts that are joined
 
-ended_texts-append : (a b p q : List ℕ) → AreEndedTexts a p → AreEndedTexts b q → AreEndedTexts (a ++ b) (p ++ q)
+pub ended_texts-append : (a b p q : List ℕ) → AreEndedTexts a p → AreEndedTexts b q → AreEndedTexts (a ++ b) (p ++ q)
 ended_texts-append [] [] p q x y = All-append IsSpace p q x y
 ended_texts-append [] (s ∷ b) p q x y =
     (p ++ y.0, y.1, y.2, y.3, ap (λ (t : List ℕ). p ++ t) y.4 ∙ sym (append_assoc p y.0 (y.1 ++ y.2 ∷ y.3)), All-append IsSpace p y.0 x y.5, y.6, y.7, y.8)
@@ -251,10 +251,10 @@ value-push (digit ∷ text) byte =
     omega (arith, first, value-push text byte)
 
 -- the digits of this text
-abbrev digits_of : List ℕ → Digits
+abbrev pub digits_of : List ℕ → Digits
 digits_of text = record { count = length text; value = value_of text }
 
-digits-push : (text : List ℕ) (byte : ℕ) → with_digit (digits_of text) byte ≡ digits_of (text ++ byte ∷ [])
+pub digits-push : (text : List ℕ) (byte : ℕ) → with_digit (digits_of text) byte ≡ digits_of (text ++ byte ∷ [])
 digits-push text byte = ap₂ (λ (c : ℕ) (v : ℕ). let d : Digits = record { count = c; value = v } in d) (sym (length_push text byte)) (sym (value-push text byte))
 
 -- some digits are ended
@@ -400,7 +400,7 @@ spaces-read l (byte ∷ gap) index at more all =
     unlimited-space l index no_digits at byte (gap ++ more) (space-is byte (All-head IsSpace byte gap all)) ∙ spaces-read l gap index (at + 1) more (All-tail IsSpace byte gap all)
     ∙ ap (λ (p : ℕ). plain_unlimited l index no_digits p more) e
 
-digits-read : (l : Limits) (text before : List ℕ) (index at : ℕ) (more : List ℕ) → index < l.count → All IsDigit text → length before + length text ≤ 9
+pub digits-read : (l : Limits) (text before : List ℕ) (index at : ℕ) (more : List ℕ) → index < l.count → All IsDigit text → length before + length text ≤ 9
     → plain_unlimited l index (digits_of before) at (text ++ more) ≡ plain_unlimited l index (digits_of (before ++ text)) (at + length text) more
 digits-read l [] before index at more wanted all short =
     let e : at ≡ at + 0 = omega arith in
@@ -424,7 +424,7 @@ text-last : (l : Limits) (text : List ℕ) (sample index at : ℕ) → IsSampleT
 text-last l text sample index at is =
     pending l index text (λ i. end_at l i) (omega (arith, is.some)) ∙ ap (λ (v : ℕ). sample_then l index v (end_at l (index + 1))) is.value
 
-plain-read : (l : Limits) (samples front : List ℕ) (index at : ℕ) (more : List ℕ) → AreEndedTexts samples front → index + length samples ≤ l.count → All (λ h. h ≤ l.maxval) samples
+pub plain-read : (l : Limits) (samples front : List ℕ) (index at : ℕ) (more : List ℕ) → AreEndedTexts samples front → index + length samples ≤ l.count → All (λ h. h ≤ l.maxval) samples
     → plain_unlimited l index no_digits at (front ++ more) ≡ after samples (plain_unlimited l (index + length samples) no_digits (at + length front) more)
 plain-read l [] front index at more ended room all =
     let e : index ≡ index + 0 = omega arith in

@@ -19,11 +19,11 @@ use Rattle.pgm_raster.proofs.PlainLemmas.{plain-full, plain-bad, plain-long}
 use Rattle.pgm_raster.proofs.LawLemmas.{Told, bytes-told, words-told, length-flat}
 
 -- a refusal behind samples is one of the rest
-after-err : (samples : List ℕ) (r : Answer) (f : RasterFault) → after samples r ≡ Err f → r ≡ Err f
+pub after-err : (samples : List ℕ) (r : Answer) (f : RasterFault) → after samples r ≡ Err f → r ≡ Err f
 after-err samples (Ok rest) f e = absurd (cc)
 after-err samples (Err g) f e = e
 
-same_fault : (r : Answer) (f g : RasterFault) → r ≡ Err f → r ≡ Err g → f ≡ g
+pub same_fault : (r : Answer) (f g : RasterFault) → r ≡ Err f → r ≡ Err g → f ≡ g
 same_fault r f g a b = let e : ◌≡◌ {A = Answer} (Err f) (Err g) = sym a ∙ b in cc
 
 -- where the end of the file is refused, it is truncated
@@ -77,7 +77,7 @@ half-enough l index at high wanted e =
     ]
 
 -- what the end of the file is refused for
-abbrev IsEndFault : RasterFault → Type 0
+abbrev pub IsEndFault : RasterFault → Type 0
 IsEndFault Truncated = ⊤
 IsEndFault (AboveMaxval _) = ⊤
 IsEndFault _ = ⊥
@@ -92,7 +92,7 @@ sample-ends l index sample f e =
       | inr fits ↦ end-ends l (index + 1) f (after-err (sample ∷ []) (end_at l (index + 1)) f (sym (sample-passed l index sample (end_at l (index + 1)) fits) ∙ e))
     ]
 
-digits-end : (l : Limits) (index : ℕ) (digits : Digits) (f : RasterFault) → ended_then l index digits (λ i. end_at l i) ≡ Err f → IsEndFault f
+pub digits-end : (l : Limits) (index : ℕ) (digits : Digits) (f : RasterFault) → ended_then l index digits (λ i. end_at l i) ≡ Err f → IsEndFault f
 digits-end l index digits f e =
     elim (cases_eq digits.count 0) as (λ _. IsEndFault f) [
       | inl none ↦ end-ends l index f (sym (cond-true _ _ _ (eq-eqb digits.count 0 none)) ∙ e)

@@ -5,7 +5,7 @@ use Rattle.pgm_raster.specs.declared.fault.RasterFault.{RasterFault}
 use Rattle.pgm_raster.specs.declared.fault.RasterFault.TheVariants.{BadSample, AboveMaxval, Trailing, Truncated, TooLong}
 use Rattle.pgm_raster.specs.declared.form.RasterForm.{RasterForm}
 use Rattle.pgm_raster.specs.declared.form.RasterForm.TheVariants.{Plain}
-use Rattle.pgm_raster.specs.RasterText.{IsRaster, IsCutShort, IsTrailingAt, IsAboveAt, IsBadSampleAt}
+use Rattle.pgm_raster.specs.RasterText.{IsRaster, IsCutShort, IsTrailingAt, IsAboveAt, IsBadSampleAt, IsOpen}
 use Rattle.pgm_raster.specs.Progress.{raster_of}
 
 -- a raster of so many samples, none above maxval, is read as its samples
@@ -49,6 +49,10 @@ ReadRastersAreShort = (count maxval at : ℕ) (samples bytes : List ℕ) → ras
 -- none of these bytes of a plain raster is refused: what follows them decides
 abbrev pub NoneIsRefused : (count maxval at : ℕ) → List ℕ → Type 0
 NoneIsRefused count maxval at front = (fault : RasterFault) → ((more : List ℕ) → raster_of Plain count maxval at (front ++ more) ≡ Err fault) → ⊥
+
+-- none is refused exactly where the bytes are samples, each of them ended, and digits of one that is still wanted
+abbrev pub OpenRastersAreUnrefused : Type 0
+OpenRastersAreUnrefused = (count maxval at : ℕ) (front : List ℕ) → at + length front ≤ 2 ^ 28 → NoneIsRefused count maxval at front ↔ IsOpen count maxval front
 
 -- a raster is too long exactly where a byte stands behind the most that a file has, in plain rasters alone, and none before it is refused
 abbrev pub LongRastersAreRefused : Type 0
