@@ -15,7 +15,7 @@ use Rattle.pgm_raster.specs.declared.part.Digits.{Digits}
 use Rattle.pgm_raster.specs.declared.part.Part.{Part}
 use Rattle.pgm_raster.specs.declared.part.Part.TheVariants as part
 
--- a file has at most 2 ^ 28 bytes
+-- a file has at most 2 ^ 28 bytes: a limit of this project's own
 abbrev pub most_bytes : ℕ
 most_bytes = 268435456
 

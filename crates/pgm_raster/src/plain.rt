@@ -12,7 +12,7 @@ use crate::part::{Digits, Limits};
 /// The most digits of a sample: each such number fits 32 bits.
 const LONGEST: u32 = 9;
 
-/// The most bytes of a file.
+/// The most bytes of a file: a limit of this project's own, since whitespace may go on without end.
 const MOST_BYTES: u64 = 1 << 28;
 
 impl Digits {
