@@ -8,20 +8,21 @@ use Rattle.std.proofs.lemmas.List.Elements.{All-nil, All-cons, All-head, All-tai
 use Rattle.std.proofs.lemmas.Bool.{cases_lt, lt-ltb, le-ltb, cond-true, cond-false, ne_eqb, and_left, and_right}
 use Rattle.std.proofs.Math.Nat.{pow-succ'}
 use Rattle.roam_lanes.specs.Words.{words_of}
-use Rattle.pgm_raster.specs.declared.fault.RasterFault.TheVariants.{BadSample, AboveMaxval, Trailing, Truncated}
+use Rattle.pgm_raster.specs.declared.fault.RasterFault.TheVariants.{BadSample, AboveMaxval, Trailing, Truncated, TooLong}
 use Rattle.pgm_raster.specs.declared.form.RasterForm.{RasterForm}
 use Rattle.pgm_raster.specs.declared.form.RasterForm.TheVariants.{Bytes, Words, Plain}
 use Rattle.pgm_raster.specs.declared.part.Limits.{Limits}
 use Rattle.pgm_raster.specs.declared.part.Digits.{Digits}
 use Rattle.pgm_raster.specs.RasterText.{two_bytes, IsSpace, IsDigit, value_of, IsSampleText, IsSample, AreEndedTexts, AreEnded, IsRaster, IsCut, IsCutShort, IsStray, IsTrailingAt, EndsThere, IsAboveAt, IsBadSampleAt}
-use Rattle.pgm_raster.specs.Progress.{Answer, after, sample_then, end_at, bytes_from, words_from, is_space, no_digits, with_digit, ended_then, plain_from, rest_of, nothing_of, raster_of}
+use Rattle.pgm_raster.specs.Progress.{Answer, after, sample_then, end_at, bytes_from, words_from, is_space, no_digits, with_digit, ended_then, rest_of, nothing_of, raster_of}
 use Rattle.pgm_raster.specs.Laws.{RastersAreRead, ReadBytesAreRasters, CutRastersAreRefused, TrailingBytesAreRefused, GreatSamplesAreRefused, BadSamplesAreRefused}
 use Rattle.pgm_raster.proofs.RasterLemmas.{after-append, after-nil, sample-passed, sample-refused, samples-passed, bytes-samples, words-samples}
-use Rattle.pgm_raster.proofs.PlainLemmas.{by_test, space-yes, space-no, space-is, space-isnt, digit-yes, digit-no, digit-is, digit-isnt, digit-no_space, plain-space, plain-full, plain-digit}
+use Rattle.pgm_raster.proofs.PlainLemmas.{by_test, space-yes, space-no, space-is, space-isnt, digit-yes, digit-no, digit-is, digit-isnt, digit-no_space}
+use Rattle.pgm_raster.proofs.UnlimitedLemmas.{plain_unlimited, rest_unlimited, unlimited-space, unlimited-full, unlimited-digit, rest-within, agreed}
 
 -- ---- texts that are joined
 
-ended_texts-append : (a b p q : List ℕ) → AreEndedTexts a p → AreEndedTexts b q → AreEndedTexts (a ++ b) (p ++ q)
+pub ended_texts-append : (a b p q : List ℕ) → AreEndedTexts a p → AreEndedTexts b q → AreEndedTexts (a ++ b) (p ++ q)
 ended_texts-append [] [] p q x y = All-append IsSpace p q x y
 ended_texts-append [] (s ∷ b) p q x y =
     (p ++ y.0, y.1, y.2, y.3, ap (λ (t : List ℕ). p ++ t) y.4 ∙ sym (append_assoc p y.0 (y.1 ++ y.2 ∷ y.3)), All-append IsSpace p y.0 x y.5, y.6, y.7, y.8)
@@ -72,6 +73,7 @@ Told f l index at bytes (Err Truncated) = IsCutShort f (l.count - index) l.maxva
 Told f l index at bytes (Err (Trailing p)) = (place : ℕ) × (p ≡ at + place) × IsTrailingAt f (l.count - index) l.maxval bytes place
 Told f l index at bytes (Err (AboveMaxval k)) = (j : ℕ) × (k ≡ index + j) × IsAboveAt f (l.count - index) l.maxval bytes j
 Told f l index at bytes (Err (BadSample p)) = (f ≡ Plain) × (place : ℕ) × (p ≡ at + place) × IsBadSampleAt (l.count - index) l.maxval bytes place
+Told f l index at bytes (Err TooLong) = ⊥
 
 -- the same behind some more samples
 told-more : (f : RasterForm) (l : Limits) (index at : ℕ) (vs p rest : List ℕ) (r : Answer) → AreEnded f vs p → All (λ h. h ≤ l.maxval) vs → index + length vs ≤ l.count
@@ -144,6 +146,7 @@ told-more f l index at vs p rest (Err (BadSample k)) ended fits room w = (
     wanted = omega (arith, length-append vs w.3.samples, w.3.wanted);
   },
 )
+told-more f l index at vs p rest (Err TooLong) ended fits room w = w
 
 -- ---- one sample, or the end
 
@@ -248,10 +251,10 @@ value-push (digit ∷ text) byte =
     omega (arith, first, value-push text byte)
 
 -- the digits of this text
-abbrev digits_of : List ℕ → Digits
+abbrev pub digits_of : List ℕ → Digits
 digits_of text = record { count = length text; value = value_of text }
 
-digits-push : (text : List ℕ) (byte : ℕ) → with_digit (digits_of text) byte ≡ digits_of (text ++ byte ∷ [])
+pub digits-push : (text : List ℕ) (byte : ℕ) → with_digit (digits_of text) byte ≡ digits_of (text ++ byte ∷ [])
 digits-push text byte = ap₂ (λ (c : ℕ) (v : ℕ). let d : Digits = record { count = c; value = v } in d) (sym (length_push text byte)) (sym (value-push text byte))
 
 -- some digits are ended
@@ -259,7 +262,7 @@ pending : (l : Limits) (index : ℕ) (text : List ℕ) (rest : ℕ → Answer) �
 pending l index text rest some = cond-false _ _ _ (ne_eqb (length text) 0 (λ e. omega arith))
 
 abbrev PlainTold : Limits → List ℕ → Type 0
-PlainTold l bytes = (index at : ℕ) (text : List ℕ) → index ≤ l.count → All IsDigit text → length text ≤ 9 → (0 < length text → index < l.count) → Told Plain l index at (text ++ bytes) (plain_from l index (digits_of text) (at + length text) bytes)
+PlainTold l bytes = (index at : ℕ) (text : List ℕ) → index ≤ l.count → All IsDigit text → length text ≤ 9 → (0 < length text → index < l.count) → Told Plain l index at (text ++ bytes) (plain_unlimited l index (digits_of text) (at + length text) bytes)
 
 plain-end : (l : Limits) → PlainTold l []
 plain-end l index at [] room are short wanted = told-end Plain l index at room
@@ -308,46 +311,46 @@ plain-end l index at (digit ∷ text) room are short wanted =
 
 -- whitespace comes
 plain-ended : (l : Limits) (byte : ℕ) (more : List ℕ) → PlainTold l more → IsSpace byte → (index at : ℕ) (text : List ℕ) → index ≤ l.count → All IsDigit text → length text ≤ 9 → (0 < length text → index < l.count)
-    → Told Plain l index at (text ++ byte ∷ more) (ended_then l index (digits_of text) (λ i. plain_from l i no_digits (at + length text + 1) more))
+    → Told Plain l index at (text ++ byte ∷ more) (ended_then l index (digits_of text) (λ i. plain_unlimited l i no_digits (at + length text + 1) more))
 plain-ended l byte more again space index at [] room are short wanted =
     let e : at + 1 + 0 ≡ at + 0 + 1 = omega arith in
     let i : index ≡ index + 0 = omega arith in
     let before : All IsSpace (byte ∷ []) = All-cons IsSpace byte [] space (All-nil IsSpace) in
-    let rest : Told Plain l index (at + 1) more (plain_from l index no_digits (at + 0 + 1) more) =
-    subst (λ (p : ℕ). Told Plain l index (at + 1) more (plain_from l index no_digits p more)) e (again index (at + 1) [] room (All-nil IsDigit) (omega arith) (λ some. absurd (omega arith))) in
-    subst (Told Plain l index at (byte ∷ more)) (after-nil (plain_from l index no_digits (at + 0 + 1) more))
-    (told-more Plain l index at [] (byte ∷ []) more (plain_from l index no_digits (at + 0 + 1) more) before (All-nil (λ h. h ≤ l.maxval)) (omega arith)
-    (subst (λ (k : ℕ). Told Plain l k (at + 1) more (plain_from l index no_digits (at + 0 + 1) more)) i rest))
+    let rest : Told Plain l index (at + 1) more (plain_unlimited l index no_digits (at + 0 + 1) more) =
+    subst (λ (p : ℕ). Told Plain l index (at + 1) more (plain_unlimited l index no_digits p more)) e (again index (at + 1) [] room (All-nil IsDigit) (omega arith) (λ some. absurd (omega arith))) in
+    subst (Told Plain l index at (byte ∷ more)) (after-nil (plain_unlimited l index no_digits (at + 0 + 1) more))
+    (told-more Plain l index at [] (byte ∷ []) more (plain_unlimited l index no_digits (at + 0 + 1) more) before (All-nil (λ h. h ≤ l.maxval)) (omega arith)
+    (subst (λ (k : ℕ). Told Plain l k (at + 1) more (plain_unlimited l index no_digits (at + 0 + 1) more)) i rest))
 plain-ended l byte more again space index at (digit ∷ text) room are short wanted =
-    subst (Told Plain l index at ((digit ∷ text) ++ byte ∷ more)) (sym (pending l index (digit ∷ text) (λ i. plain_from l i no_digits (at + length (digit ∷ text) + 1) more) (omega arith)))
+    subst (Told Plain l index at ((digit ∷ text) ++ byte ∷ more)) (sym (pending l index (digit ∷ text) (λ i. plain_unlimited l i no_digits (at + length (digit ∷ text) + 1) more) (omega arith)))
     (ending (digit ∷ text) (record { some = omega arith; short = short; digits = are; value = refl }) (wanted (omega arith)))
   where
-    ending : (t : List ℕ) → IsSampleText t (value_of t) → index < l.count → Told Plain l index at (t ++ byte ∷ more) (sample_then l index (value_of t) (plain_from l (index + 1) no_digits (at + length t + 1) more))
+    ending : (t : List ℕ) → IsSampleText t (value_of t) → index < l.count → Told Plain l index at (t ++ byte ∷ more) (sample_then l index (value_of t) (plain_unlimited l (index + 1) no_digits (at + length t + 1) more))
     ending t is less =
         let e : at + length (t ++ byte ∷ []) + 0 ≡ at + length t + 1 = omega (arith, length_push t byte) in
         let one : AreEndedTexts (value_of t ∷ []) (t ++ byte ∷ []) = ([], t, byte, [], refl, All-nil IsSpace, is, space, All-nil IsSpace) in
-        let rest : Told Plain l (index + 1) (at + length (t ++ byte ∷ [])) more (plain_from l (index + 1) no_digits (at + length t + 1) more) =
-        subst (λ (p : ℕ). Told Plain l (index + 1) (at + length (t ++ byte ∷ [])) more (plain_from l (index + 1) no_digits p more)) e
+        let rest : Told Plain l (index + 1) (at + length (t ++ byte ∷ [])) more (plain_unlimited l (index + 1) no_digits (at + length t + 1) more) =
+        subst (λ (p : ℕ). Told Plain l (index + 1) (at + length (t ++ byte ∷ [])) more (plain_unlimited l (index + 1) no_digits p more)) e
         (again (index + 1) (at + length (t ++ byte ∷ [])) [] (omega arith) (All-nil IsDigit) (omega arith) (λ some. absurd (omega arith))) in
-        subst (λ (s : List ℕ). Told Plain l index at s (sample_then l index (value_of t) (plain_from l (index + 1) no_digits (at + length t + 1) more))) (append_assoc t (byte ∷ []) more)
-        (told-sample Plain l index at (value_of t) t (t ++ byte ∷ []) more (plain_from l (index + 1) no_digits (at + length t + 1) more) less is one (byte ∷ more) (append_assoc t (byte ∷ []) more) space rest)
+        subst (λ (s : List ℕ). Told Plain l index at s (sample_then l index (value_of t) (plain_unlimited l (index + 1) no_digits (at + length t + 1) more))) (append_assoc t (byte ∷ []) more)
+        (told-sample Plain l index at (value_of t) t (t ++ byte ∷ []) more (plain_unlimited l (index + 1) no_digits (at + length t + 1) more) less is one (byte ∷ more) (append_assoc t (byte ∷ []) more) space rest)
 
 -- another byte comes
 plain-other : (l : Limits) (byte : ℕ) (more : List ℕ) → PlainTold l more → is_space byte ≡ false → (index at : ℕ) (text : List ℕ) → index < l.count → All IsDigit text → length text ≤ 9
-    → Told Plain l index at (text ++ byte ∷ more) (plain_from l index (digits_of text) (at + length text) (byte ∷ more))
+    → Told Plain l index at (text ++ byte ∷ more) (plain_unlimited l index (digits_of text) (at + length text) (byte ∷ more))
 plain-other l byte more again space index at text wanted are short =
-    by_test (is_ascii_digit byte) (λ digit. elim (cases_lt (length text) 9) as (λ _. Told Plain l index at (text ++ byte ∷ more) (plain_from l index (digits_of text) (at + length text) (byte ∷ more))) [
+    by_test (is_ascii_digit byte) (λ digit. elim (cases_lt (length text) 9) as (λ _. Told Plain l index at (text ++ byte ∷ more) (plain_unlimited l index (digits_of text) (at + length text) (byte ∷ more))) [
       | inl fewer ↦
           let e : at + length (text ++ byte ∷ []) ≡ at + length text + 1 = omega (arith, length_push text byte) in
-          subst (Told Plain l index at (text ++ byte ∷ more)) (sym (plain-digit l index (digits_of text) (at + length text) byte more space wanted digit fewer
-          ∙ ap₂ (λ (d : Digits) (p : ℕ). plain_from l index d p more) (digits-push text byte) (sym e)))
-          (subst (λ (s : List ℕ). Told Plain l index at s (plain_from l index (digits_of (text ++ byte ∷ [])) (at + length (text ++ byte ∷ [])) more)) (append_assoc text (byte ∷ []) more)
+          subst (Told Plain l index at (text ++ byte ∷ more)) (sym (unlimited-digit l index (digits_of text) (at + length text) byte more space wanted digit fewer
+          ∙ ap₂ (λ (d : Digits) (p : ℕ). plain_unlimited l index d p more) (digits-push text byte) (sym e)))
+          (subst (λ (s : List ℕ). Told Plain l index at s (plain_unlimited l index (digits_of (text ++ byte ∷ [])) (at + length (text ++ byte ∷ [])) more)) (append_assoc text (byte ∷ []) more)
           (again index at (text ++ byte ∷ []) (omega arith) (All-push IsDigit text byte are (digit-yes byte digit)) (omega (arith, length_push text byte)) (λ _. wanted)))
       | inr nine ↦ refusing (inr (omega arith)) (and_right (is_ascii_digit byte) _ (le-ltb (length text) 9 nine))
     ])
     (λ other. refusing (inl (digit-no byte other)) (and_left _ _ other))
   where
-    refusing : (IsDigit byte → ⊥) ⊎ (length text ≡ 9) → (is_ascii_digit byte && nat_lt (length text) 9) ≡ false → Told Plain l index at (text ++ byte ∷ more) (plain_from l index (digits_of text) (at + length text) (byte ∷ more))
+    refusing : (IsDigit byte → ⊥) ⊎ (length text ≡ 9) → (is_ascii_digit byte && nat_lt (length text) 9) ≡ false → Told Plain l index at (text ++ byte ∷ more) (plain_unlimited l index (digits_of text) (at + length text) (byte ∷ more))
     refusing why test =
         subst (Told Plain l index at (text ++ byte ∷ more)) (sym (cond-false _ _ _ space ∙ cond-true _ _ _ (lt-ltb index l.count wanted) ∙ cond-false _ _ _ test)) (
           refl,
@@ -372,12 +375,12 @@ plain-other l byte more again space index at text wanted are short =
         )
 
 plain-behind : (l : Limits) (byte : ℕ) (more : List ℕ) → PlainTold l more → is_space byte ≡ false → (index at : ℕ) (text : List ℕ) → index ≤ l.count → All IsDigit text → length text ≤ 9 → (0 < length text → index < l.count)
-    → Told Plain l index at (text ++ byte ∷ more) (plain_from l index (digits_of text) (at + length text) (byte ∷ more))
+    → Told Plain l index at (text ++ byte ∷ more) (plain_unlimited l index (digits_of text) (at + length text) (byte ∷ more))
 plain-behind l byte more again space index at [] room are short wanted =
     let e : at + 0 ≡ at = omega arith in
-    elim (cases_lt index l.count) as (λ _. Told Plain l index at (byte ∷ more) (plain_from l index (digits_of []) (at + 0) (byte ∷ more))) [
+    elim (cases_lt index l.count) as (λ _. Told Plain l index at (byte ∷ more) (plain_unlimited l index (digits_of []) (at + 0) (byte ∷ more))) [
       | inl less ↦ plain-other l byte more again space index at [] less are short
-      | inr full ↦ subst (Told Plain l index at (byte ∷ more)) (ap (λ (p : ℕ). let r : Answer = Err (Trailing p) in r) (sym e) ∙ sym (plain-full l index (digits_of []) (at + 0) byte more space full)) (told-trailing Plain l index at byte more (omega arith) (space-no byte space))
+      | inr full ↦ subst (Told Plain l index at (byte ∷ more)) (ap (λ (p : ℕ). let r : Answer = Err (Trailing p) in r) (sym e) ∙ sym (unlimited-full l index (digits_of []) (at + 0) byte more space full)) (told-trailing Plain l index at byte more (omega arith) (space-no byte space))
     ]
 plain-behind l byte more again space index at (digit ∷ text) room are short wanted = plain-other l byte more again space index at (digit ∷ text) (wanted (omega arith)) are short
 
@@ -385,61 +388,61 @@ plain-told : (l : Limits) (bytes : List ℕ) → PlainTold l bytes
 plain-told l [] index at text room are short wanted = plain-end l index at text room are short wanted
 plain-told l (byte ∷ more) index at text room are short wanted =
     by_test (is_space byte)
-    (λ yes. subst (Told Plain l index at (text ++ byte ∷ more)) (sym (plain-space l index (digits_of text) (at + length text) byte more yes)) (plain-ended l byte more (plain-told l more) (space-yes byte yes) index at text room are short wanted))
+    (λ yes. subst (Told Plain l index at (text ++ byte ∷ more)) (sym (unlimited-space l index (digits_of text) (at + length text) byte more yes)) (plain-ended l byte more (plain-told l more) (space-yes byte yes) index at text room are short wanted))
     (λ no. plain-behind l byte more (plain-told l more) no index at text room are short wanted)
 
 -- ---- how texts are read
 
-spaces-read : (l : Limits) (gap : List ℕ) (index at : ℕ) (more : List ℕ) → All IsSpace gap → plain_from l index no_digits at (gap ++ more) ≡ plain_from l index no_digits (at + length gap) more
-spaces-read l [] index at more all = let e : at ≡ at + 0 = omega arith in ap (λ (p : ℕ). plain_from l index no_digits p more) e
+spaces-read : (l : Limits) (gap : List ℕ) (index at : ℕ) (more : List ℕ) → All IsSpace gap → plain_unlimited l index no_digits at (gap ++ more) ≡ plain_unlimited l index no_digits (at + length gap) more
+spaces-read l [] index at more all = let e : at ≡ at + 0 = omega arith in ap (λ (p : ℕ). plain_unlimited l index no_digits p more) e
 spaces-read l (byte ∷ gap) index at more all =
     let e : at + 1 + length gap ≡ at + suc (length gap) = omega arith in
-    plain-space l index no_digits at byte (gap ++ more) (space-is byte (All-head IsSpace byte gap all)) ∙ spaces-read l gap index (at + 1) more (All-tail IsSpace byte gap all)
-    ∙ ap (λ (p : ℕ). plain_from l index no_digits p more) e
+    unlimited-space l index no_digits at byte (gap ++ more) (space-is byte (All-head IsSpace byte gap all)) ∙ spaces-read l gap index (at + 1) more (All-tail IsSpace byte gap all)
+    ∙ ap (λ (p : ℕ). plain_unlimited l index no_digits p more) e
 
-digits-read : (l : Limits) (text before : List ℕ) (index at : ℕ) (more : List ℕ) → index < l.count → All IsDigit text → length before + length text ≤ 9
-    → plain_from l index (digits_of before) at (text ++ more) ≡ plain_from l index (digits_of (before ++ text)) (at + length text) more
+pub digits-read : (l : Limits) (text before : List ℕ) (index at : ℕ) (more : List ℕ) → index < l.count → All IsDigit text → length before + length text ≤ 9
+    → plain_unlimited l index (digits_of before) at (text ++ more) ≡ plain_unlimited l index (digits_of (before ++ text)) (at + length text) more
 digits-read l [] before index at more wanted all short =
     let e : at ≡ at + 0 = omega arith in
-    ap₂ (λ (t : List ℕ) (p : ℕ). plain_from l index (digits_of t) p more) (sym (append-nil before)) e
+    ap₂ (λ (t : List ℕ) (p : ℕ). plain_unlimited l index (digits_of t) p more) (sym (append-nil before)) e
 digits-read l (byte ∷ text) before index at more wanted all short =
     let e : at + 1 + length text ≡ at + suc (length text) = omega arith in
     let digit : IsDigit byte = All-head IsDigit byte text all in
-    plain-digit l index (digits_of before) at byte (text ++ more) (digit-no_space byte digit) wanted (digit-is byte digit) (omega arith)
-    ∙ ap (λ (d : Digits). plain_from l index d (at + 1) (text ++ more)) (digits-push before byte)
+    unlimited-digit l index (digits_of before) at byte (text ++ more) (digit-no_space byte digit) wanted (digit-is byte digit) (omega arith)
+    ∙ ap (λ (d : Digits). plain_unlimited l index d (at + 1) (text ++ more)) (digits-push before byte)
     ∙ digits-read l text (before ++ byte ∷ []) index (at + 1) more wanted (All-tail IsDigit byte text all) (omega (arith, length_push before byte))
-    ∙ ap₂ (λ (t : List ℕ) (p : ℕ). plain_from l index (digits_of t) p more) (append_assoc before (byte ∷ []) text) e
+    ∙ ap₂ (λ (t : List ℕ) (p : ℕ). plain_unlimited l index (digits_of t) p more) (append_assoc before (byte ∷ []) text) e
 
 -- a text that whitespace or the end of the file ends
 text-ended : (l : Limits) (text : List ℕ) (sample index at : ℕ) (space : ℕ) (more : List ℕ) → IsSampleText text sample → IsSpace space
-    → plain_from l index (digits_of text) at (space ∷ more) ≡ sample_then l index sample (plain_from l (index + 1) no_digits (at + 1) more)
+    → plain_unlimited l index (digits_of text) at (space ∷ more) ≡ sample_then l index sample (plain_unlimited l (index + 1) no_digits (at + 1) more)
 text-ended l text sample index at space more is space_is =
-    plain-space l index (digits_of text) at space more (space-is space space_is) ∙ pending l index text (λ i. plain_from l i no_digits (at + 1) more) (omega (arith, is.some))
-    ∙ ap (λ (v : ℕ). sample_then l index v (plain_from l (index + 1) no_digits (at + 1) more)) is.value
+    unlimited-space l index (digits_of text) at space more (space-is space space_is) ∙ pending l index text (λ i. plain_unlimited l i no_digits (at + 1) more) (omega (arith, is.some))
+    ∙ ap (λ (v : ℕ). sample_then l index v (plain_unlimited l (index + 1) no_digits (at + 1) more)) is.value
 
-text-last : (l : Limits) (text : List ℕ) (sample index at : ℕ) → IsSampleText text sample → plain_from l index (digits_of text) at [] ≡ sample_then l index sample (end_at l (index + 1))
+text-last : (l : Limits) (text : List ℕ) (sample index at : ℕ) → IsSampleText text sample → plain_unlimited l index (digits_of text) at [] ≡ sample_then l index sample (end_at l (index + 1))
 text-last l text sample index at is =
     pending l index text (λ i. end_at l i) (omega (arith, is.some)) ∙ ap (λ (v : ℕ). sample_then l index v (end_at l (index + 1))) is.value
 
-plain-read : (l : Limits) (samples front : List ℕ) (index at : ℕ) (more : List ℕ) → AreEndedTexts samples front → index + length samples ≤ l.count → All (λ h. h ≤ l.maxval) samples
-    → plain_from l index no_digits at (front ++ more) ≡ after samples (plain_from l (index + length samples) no_digits (at + length front) more)
+pub plain-read : (l : Limits) (samples front : List ℕ) (index at : ℕ) (more : List ℕ) → AreEndedTexts samples front → index + length samples ≤ l.count → All (λ h. h ≤ l.maxval) samples
+    → plain_unlimited l index no_digits at (front ++ more) ≡ after samples (plain_unlimited l (index + length samples) no_digits (at + length front) more)
 plain-read l [] front index at more ended room all =
     let e : index ≡ index + 0 = omega arith in
-    spaces-read l front index at more ended ∙ ap (λ (i : ℕ). plain_from l i no_digits (at + length front) more) e ∙ sym (after-nil (plain_from l (index + 0) no_digits (at + length front) more))
+    spaces-read l front index at more ended ∙ ap (λ (i : ℕ). plain_unlimited l i no_digits (at + length front) more) e ∙ sym (after-nil (plain_unlimited l (index + 0) no_digits (at + length front) more))
 plain-read l (s ∷ samples) front index at more x room all =
     let tail : List ℕ = x.2 ∷ (x.3 ++ more) in
     let cut : front ++ more ≡ x.0 ++ (x.1 ++ tail) = ap (λ (t : List ℕ). t ++ more) x.4 ∙ append_assoc x.0 (x.1 ++ x.2 ∷ x.3) more ∙ ap (λ (t : List ℕ). x.0 ++ t) (append_assoc x.1 (x.2 ∷ x.3) more) in
     let size : length front ≡ length x.0 + (length x.1 + suc (length x.3)) = ap length x.4 ∙ length-append x.0 (x.1 ++ x.2 ∷ x.3) ∙ ap (λ (n : ℕ). length x.0 + n) (length-append x.1 (x.2 ∷ x.3)) in
     let i : index + 1 + length samples ≡ index + suc (length samples) = omega arith in
     let p : at + length x.0 + length x.1 + 1 + length x.3 ≡ at + length front = omega arith in
-    ap (plain_from l index no_digits at) cut
+    ap (plain_unlimited l index no_digits at) cut
     ∙ spaces-read l x.0 index at (x.1 ++ tail) x.5
     ∙ digits-read l x.1 [] index (at + length x.0) tail (omega arith) x.6.digits (omega (arith, x.6.short))
     ∙ text-ended l x.1 s index (at + length x.0 + length x.1) x.2 (x.3 ++ more) x.6 x.7
-    ∙ sample-passed l index s (plain_from l (index + 1) no_digits (at + length x.0 + length x.1 + 1) (x.3 ++ more)) (All-head (λ h. h ≤ l.maxval) s samples all)
+    ∙ sample-passed l index s (plain_unlimited l (index + 1) no_digits (at + length x.0 + length x.1 + 1) (x.3 ++ more)) (All-head (λ h. h ≤ l.maxval) s samples all)
     ∙ ap (after (s ∷ [])) (plain-read l samples x.3 (index + 1) (at + length x.0 + length x.1 + 1) more x.8 (omega arith) (All-tail (λ h. h ≤ l.maxval) s samples all))
-    ∙ sym (after-append (s ∷ []) samples (plain_from l (index + 1 + length samples) no_digits (at + length x.0 + length x.1 + 1 + length x.3) more))
-    ∙ ap₂ (λ (k : ℕ) (q : ℕ). after (s ∷ samples) (plain_from l k no_digits q more)) i p
+    ∙ sym (after-append (s ∷ []) samples (plain_unlimited l (index + 1 + length samples) no_digits (at + length x.0 + length x.1 + 1 + length x.3) more))
+    ∙ ap₂ (λ (k : ℕ) (q : ℕ). after (s ∷ samples) (plain_unlimited l k no_digits q more)) i p
 
 pub length-flat : (samples : List ℕ) → length (flat_map two_bytes samples) ≡ 2 * length samples
 length-flat [] = refl
@@ -451,7 +454,7 @@ words-flat (s ∷ samples) = let e : 256 * (s / 256) + s % 256 ≡ s = omega ari
 
 -- samples that are ended, and then more
 front-read : (f : RasterForm) (l : Limits) (samples front : List ℕ) (index at : ℕ) (more : List ℕ) → AreEnded f samples front → index + length samples ≤ l.count → All (λ h. h ≤ l.maxval) samples
-    → rest_of l index (nothing_of f) at (front ++ more) ≡ after samples (rest_of l (index + length samples) (nothing_of f) (at + length front) more)
+    → rest_unlimited l index (nothing_of f) at (front ++ more) ≡ after samples (rest_unlimited l (index + length samples) (nothing_of f) (at + length front) more)
 front-read Bytes l samples front index at more e room all =
     ap (λ (s : List ℕ). bytes_from l index at (s ++ more)) e ∙ bytes-samples l index at samples more room
     ∙ samples-passed l index samples (bytes_from l (index + length samples) (at + length samples) more) all
@@ -471,18 +474,18 @@ All-back : (P : ℕ → Type 0) (xs ys : List ℕ) → All P (xs ++ ys) → All 
 All-back P xs ys all = subst (All P) (drop_at xs ys (length xs) refl) (All-drop P (length xs) (xs ++ ys) all)
 
 -- the end of the file
-end-read : (f : RasterForm) (l : Limits) (index at : ℕ) → rest_of l index (nothing_of f) at [] ≡ end_at l index
+end-read : (f : RasterForm) (l : Limits) (index at : ℕ) → rest_unlimited l index (nothing_of f) at [] ≡ end_at l index
 end-read Bytes l index at = refl
 end-read Words l index at = refl
 end-read Plain l index at = refl
 
 ended-read : (f : RasterForm) (l : Limits) (samples bytes : List ℕ) (index at : ℕ) → AreEnded f samples bytes → index + length samples ≤ l.count → All (λ h. h ≤ l.maxval) samples
-    → rest_of l index (nothing_of f) at bytes ≡ after samples (end_at l (index + length samples))
+    → rest_unlimited l index (nothing_of f) at bytes ≡ after samples (end_at l (index + length samples))
 ended-read f l samples bytes index at ended room all =
-    ap (rest_of l index (nothing_of f) at) (sym (append-nil bytes)) ∙ front-read f l samples bytes index at [] ended room all ∙ ap (after samples) (end-read f l (index + length samples) (at + length bytes))
+    ap (rest_unlimited l index (nothing_of f) at) (sym (append-nil bytes)) ∙ front-read f l samples bytes index at [] ended room all ∙ ap (after samples) (end-read f l (index + length samples) (at + length bytes))
 
 raster-read : (f : RasterForm) (l : Limits) (samples bytes : List ℕ) (index at : ℕ) → IsRaster f samples bytes → index + length samples ≤ l.count → All (λ h. h ≤ l.maxval) samples
-    → rest_of l index (nothing_of f) at bytes ≡ after samples (end_at l (index + length samples))
+    → rest_unlimited l index (nothing_of f) at bytes ≡ after samples (end_at l (index + length samples))
 raster-read Bytes l samples bytes index at raster room all = ended-read Bytes l samples bytes index at raster room all
 raster-read Words l samples bytes index at raster room all = ended-read Words l samples bytes index at raster room all
 raster-read Plain l samples bytes index at (inl raster) room all = ended-read Plain l samples bytes index at raster room all
@@ -490,7 +493,7 @@ raster-read Plain l samples bytes index at (inr x) room all =
     let size : length samples ≡ length x.0 + 1 = ap length x.4 ∙ length_push x.0 x.1 in
     let bound : All (λ h. h ≤ l.maxval) (x.0 ++ x.1 ∷ []) = subst (All (λ h. h ≤ l.maxval)) x.4 all in
     let i : index + length x.0 + 1 ≡ index + length samples = omega arith in
-    ap (plain_from l index no_digits at) (x.5 ∙ ap (λ (t : List ℕ). x.2 ++ t) (sym (append-nil x.3)))
+    ap (plain_unlimited l index no_digits at) (x.5 ∙ ap (λ (t : List ℕ). x.2 ++ t) (sym (append-nil x.3)))
     ∙ plain-read l x.0 x.2 index at (x.3 ++ []) x.6 (omega arith) (All-front (λ h. h ≤ l.maxval) x.0 (x.1 ∷ []) bound)
     ∙ ap (after x.0) (
     digits-read l x.3 [] (index + length x.0) (at + length x.2) [] (omega arith) x.7.digits (omega (arith, x.7.short))
@@ -507,7 +510,7 @@ end-whole : (l : Limits) (samples : List ℕ) (index : ℕ) → l.count ≤ inde
 end-whole l samples index full =
     ap (after samples) (cond-false _ _ _ (le-ltb index l.count full)) ∙ ap (λ (s : List ℕ). let r : Answer = Ok s in r) (append-nil samples)
 
-cut-read : (f : RasterForm) (l : Limits) (bytes : List ℕ) (at : ℕ) → IsCutShort f l.count l.maxval bytes → rest_of l 0 (nothing_of f) at bytes ≡ Err Truncated
+cut-read : (f : RasterForm) (l : Limits) (bytes : List ℕ) (at : ℕ) → IsCutShort f l.count l.maxval bytes → rest_unlimited l 0 (nothing_of f) at bytes ≡ Err Truncated
 cut-read Bytes l bytes at w =
     ap (bytes_from l 0 at) (w.whole ∙ ap (λ (t : List ℕ). w.text ++ t) w.part ∙ append-nil w.text)
     ∙ raster-read Bytes l w.samples w.text 0 at w.raster (omega (arith, w.fewer)) w.bound ∙ end-short l w.samples (0 + length w.samples) (omega (arith, w.fewer))
@@ -520,18 +523,18 @@ cut-read Words l bytes at w =
     rest (byte ∷ []) short = ap (after w.samples) (cond-true _ _ _ (lt-ltb (0 + length w.samples) l.count (omega (arith, w.fewer)))) ∙ end-short l w.samples (0 + length w.samples) (omega (arith, w.fewer))
     rest (byte ∷ other ∷ cut) short = absurd (omega arith)
 cut-read Plain l bytes at w =
-    ap (plain_from l 0 no_digits at) (w.whole ∙ ap (λ (t : List ℕ). w.text ++ t) w.part ∙ append-nil w.text)
+    ap (plain_unlimited l 0 no_digits at) (w.whole ∙ ap (λ (t : List ℕ). w.text ++ t) w.part ∙ append-nil w.text)
     ∙ raster-read Plain l w.samples w.text 0 at w.raster (omega (arith, w.fewer)) w.bound ∙ end-short l w.samples (0 + length w.samples) (omega (arith, w.fewer))
 
-stray-read : (f : RasterForm) (l : Limits) (index at byte : ℕ) (more : List ℕ) → l.count ≤ index → IsStray f byte → rest_of l index (nothing_of f) at (byte ∷ more) ≡ Err (Trailing at)
+stray-read : (f : RasterForm) (l : Limits) (index at byte : ℕ) (more : List ℕ) → l.count ≤ index → IsStray f byte → rest_unlimited l index (nothing_of f) at (byte ∷ more) ≡ Err (Trailing at)
 stray-read Bytes l index at byte more full stray = cond-false _ _ _ (le-ltb index l.count full)
 stray-read Words l index at byte more full stray = cond-false _ _ _ (le-ltb index l.count full)
-stray-read Plain l index at byte more full stray = plain-full l index no_digits at byte more (space-isnt byte stray) full
+stray-read Plain l index at byte more full stray = unlimited-full l index no_digits at byte more (space-isnt byte stray) full
 
-trailing-read : (f : RasterForm) (l : Limits) (bytes : List ℕ) (at place p : ℕ) → p ≡ at + place → IsTrailingAt f l.count l.maxval bytes place → rest_of l 0 (nothing_of f) at bytes ≡ Err (Trailing p)
+trailing-read : (f : RasterForm) (l : Limits) (bytes : List ℕ) (at place p : ℕ) → p ≡ at + place → IsTrailingAt f l.count l.maxval bytes place → rest_unlimited l 0 (nothing_of f) at bytes ≡ Err (Trailing p)
 trailing-read f l bytes at place p e w =
     let here : at + length w.front ≡ p = omega (arith, w.at) in
-    ap (rest_of l 0 (nothing_of f) at) w.whole ∙ front-read f l w.samples w.front 0 at (w.byte ∷ w.more) w.ended (omega (arith, w.all)) w.bound
+    ap (rest_unlimited l 0 (nothing_of f) at) w.whole ∙ front-read f l w.samples w.front 0 at (w.byte ∷ w.more) w.ended (omega (arith, w.all)) w.bound
     ∙ ap (after w.samples) (stray-read f l (0 + length w.samples) (at + length w.front) w.byte w.more (omega (arith, w.all)) w.stray)
     ∙ ap (λ (k : ℕ). err_at k) here
   where
@@ -539,7 +542,7 @@ trailing-read f l bytes at place p e w =
     err_at k = Err (Trailing k)
 
 above-text : (f : RasterForm) (l : Limits) (index at sample : ℕ) (text more : List ℕ) → IsSample f text sample → EndsThere f more → index < l.count → l.maxval < sample
-    → rest_of l index (nothing_of f) at (text ++ more) ≡ Err (AboveMaxval index)
+    → rest_unlimited l index (nothing_of f) at (text ++ more) ≡ Err (AboveMaxval index)
 above-text Bytes l index at sample text more is ends wanted above =
     ap (λ (t : List ℕ). bytes_from l index at (t ++ more)) is ∙ cond-true _ _ _ (lt-ltb index l.count wanted) ∙ sample-refused l index sample (bytes_from l (index + 1) (at + 1) more) above
 above-text Words l index at sample text more is ends wanted above =
@@ -550,22 +553,22 @@ above-text Plain l index at sample text [] is ends wanted above =
     digits-read l text [] index at [] wanted is.digits (omega (arith, is.short)) ∙ text-last l text sample index (at + length text) is ∙ sample-refused l index sample (end_at l (index + 1)) above
 above-text Plain l index at sample text (byte ∷ more) is ends wanted above =
     digits-read l text [] index at (byte ∷ more) wanted is.digits (omega (arith, is.short)) ∙ text-ended l text sample index (at + length text) byte more is ends
-    ∙ sample-refused l index sample (plain_from l (index + 1) no_digits (at + length text + 1) more) above
+    ∙ sample-refused l index sample (plain_unlimited l (index + 1) no_digits (at + length text + 1) more) above
 
-above-read : (f : RasterForm) (l : Limits) (bytes : List ℕ) (at index : ℕ) → IsAboveAt f l.count l.maxval bytes index → rest_of l 0 (nothing_of f) at bytes ≡ Err (AboveMaxval index)
+above-read : (f : RasterForm) (l : Limits) (bytes : List ℕ) (at index : ℕ) → IsAboveAt f l.count l.maxval bytes index → rest_unlimited l 0 (nothing_of f) at bytes ≡ Err (AboveMaxval index)
 above-read f l bytes at index w =
     let here : 0 + length w.samples ≡ index = omega (arith, w.at) in
-    ap (rest_of l 0 (nothing_of f) at) w.whole ∙ front-read f l w.samples w.front 0 at (w.text ++ w.more) w.ended (omega (arith, w.wanted)) w.bound
+    ap (rest_unlimited l 0 (nothing_of f) at) w.whole ∙ front-read f l w.samples w.front 0 at (w.text ++ w.more) w.ended (omega (arith, w.wanted)) w.bound
     ∙ ap (after w.samples) (above-text f l (0 + length w.samples) (at + length w.front) w.sample w.text w.more w.next w.ends (omega (arith, w.wanted)) w.above)
     ∙ ap (λ (k : ℕ). err_at k) here
   where
     err_at : ℕ → Answer
     err_at k = Err (AboveMaxval k)
 
-bad-read : (l : Limits) (bytes : List ℕ) (at place p : ℕ) → p ≡ at + place → IsBadSampleAt l.count l.maxval bytes place → plain_from l 0 no_digits at bytes ≡ Err (BadSample p)
+bad-read : (l : Limits) (bytes : List ℕ) (at place p : ℕ) → p ≡ at + place → IsBadSampleAt l.count l.maxval bytes place → plain_unlimited l 0 no_digits at bytes ≡ Err (BadSample p)
 bad-read l bytes at place p e w =
     let here : at + length w.front + length w.digits ≡ p = omega (arith, w.at) in
-    ap (plain_from l 0 no_digits at) w.whole ∙ plain-read l w.samples w.front 0 at (w.digits ++ w.byte ∷ w.more) w.ended (omega (arith, w.wanted)) w.bound
+    ap (plain_unlimited l 0 no_digits at) w.whole ∙ plain-read l w.samples w.front 0 at (w.digits ++ w.byte ∷ w.more) w.ended (omega (arith, w.wanted)) w.bound
     ∙ ap (after w.samples) (
     digits-read l w.digits [] (0 + length w.samples) (at + length w.front) (w.byte ∷ w.more) (omega (arith, w.wanted)) w.are (omega (arith, w.short))
     ∙ cond-false _ _ _ (space-isnt w.byte w.no_space) ∙ cond-true _ _ _ (lt-ltb (0 + length w.samples) l.count (omega (arith, w.wanted))) ∙ cond-false _ _ _ (test w.bad)
@@ -581,24 +584,29 @@ bad-read l bytes at place p e w =
 
 -- ---- the laws
 
-all-told : (f : RasterForm) (l : Limits) (at : ℕ) (bytes : List ℕ) → All (λ b. b < 256) bytes → Told f l 0 at bytes (rest_of l 0 (nothing_of f) at bytes)
+all-told : (f : RasterForm) (l : Limits) (at : ℕ) (bytes : List ℕ) → All (λ b. b < 256) bytes → Told f l 0 at bytes (rest_unlimited l 0 (nothing_of f) at bytes)
 all-told Bytes l at bytes all = bytes-told l bytes 0 at (omega arith)
 all-told Words l at bytes all = words-told l bytes 0 at (omega arith) all
 all-told Plain l at bytes all =
     let e : at + 0 ≡ at = omega arith in
-    subst (λ (p : ℕ). Told Plain l 0 at bytes (plain_from l 0 no_digits p bytes)) e (plain-told l bytes 0 at [] (omega arith) (All-nil IsDigit) (omega arith) (λ some. absurd (omega arith)))
+    subst (λ (p : ℕ). Told Plain l 0 at bytes (plain_unlimited l 0 no_digits p bytes)) e (plain-told l bytes 0 at [] (omega arith) (All-nil IsDigit) (omega arith) (λ some. absurd (omega arith)))
+
+-- what an answer tells, whatever the number of bytes is
+told-by : (f : RasterForm) (l : Limits) (at : ℕ) (bytes : List ℕ) (r : Answer) → All (λ b. b < 256) bytes → rest_of l 0 (nothing_of f) at bytes ≡ r → (r ≡ Err TooLong → ⊥) → Told f l 0 at bytes r
+told-by f l at bytes r all e short =
+    agreed f l at bytes (λ s. s ≡ r → Told f l 0 at bytes r) (λ long. absurd (short (sym long))) (λ same. subst (Told f l 0 at bytes) same (all-told f l at bytes all)) e
 
 pub rasters : RastersAreRead
 unfolding raster_of
-rasters f count maxval at samples bytes raster size all =
+rasters f count maxval at samples bytes within raster size all =
     let l : Limits = record { count = count; maxval = maxval } in
-    raster-read f l samples bytes 0 at raster (omega arith) all ∙ end-whole l samples (0 + length samples) (omega arith)
+    rest-within f l at bytes within ∙ raster-read f l samples bytes 0 at raster (omega arith) all ∙ end-whole l samples (0 + length samples) (omega arith)
 
 pub samples_back : ReadBytesAreRasters
 unfolding raster_of
 samples_back f count maxval at samples bytes all e =
     let l : Limits = record { count = count; maxval = maxval } in
-    let told : Told f l 0 at bytes (Ok samples) = subst (Told f l 0 at bytes) e (all-told f l at bytes all) in
+    let told : Told f l 0 at bytes (Ok samples) = told-by f l at bytes (Ok samples) all e (λ long. absurd (cc)) in
     (told.0, omega (arith, told.1), told.2)
 
 no_fewer : (count : ℕ) → count - 0 ≡ count
@@ -606,35 +614,39 @@ no_fewer count = omega arith
 
 pub truncated : CutRastersAreRefused
 unfolding raster_of
-truncated f count maxval at bytes all =
+truncated f count maxval at bytes within all =
     let l : Limits = record { count = count; maxval = maxval } in (
-      (λ e. let told : Told f l 0 at bytes (Err Truncated) = subst (Told f l 0 at bytes) e (all-told f l at bytes all) in subst (λ (n : ℕ). IsCutShort f n maxval bytes) (no_fewer count) told),
-      (λ w. cut-read f l bytes at w),
+      (λ e. let told : Told f l 0 at bytes (Err Truncated) = told-by f l at bytes (Err Truncated) all e (λ long. absurd (cc)) in subst (λ (n : ℕ). IsCutShort f n maxval bytes) (no_fewer count) told),
+      (λ w. rest-within f l at bytes within ∙ cut-read f l bytes at w),
     )
 
 pub trailing : TrailingBytesAreRefused
 unfolding raster_of
-trailing f count maxval at bytes p all =
+trailing f count maxval at bytes p within all =
     let l : Limits = record { count = count; maxval = maxval } in (
-      (λ e. let told : Told f l 0 at bytes (Err (Trailing p)) = subst (Told f l 0 at bytes) e (all-told f l at bytes all) in (told.0, told.1, subst (λ (n : ℕ). IsTrailingAt f n maxval bytes told.0) (no_fewer count) told.2)),
-      (λ w. trailing-read f l bytes at w.0 p w.1 w.2),
+      (λ e.
+          let told : Told f l 0 at bytes (Err (Trailing p)) = told-by f l at bytes (Err (Trailing p)) all e (λ long. absurd (cc)) in
+          (told.0, told.1, subst (λ (n : ℕ). IsTrailingAt f n maxval bytes told.0) (no_fewer count) told.2)),
+      (λ w. rest-within f l at bytes within ∙ trailing-read f l bytes at w.0 p w.1 w.2),
     )
 
 pub above : GreatSamplesAreRefused
 unfolding raster_of
-above f count maxval at bytes index all =
+above f count maxval at bytes index within all =
     let l : Limits = record { count = count; maxval = maxval } in (
       (λ e.
-          let told : Told f l 0 at bytes (Err (AboveMaxval index)) = subst (Told f l 0 at bytes) e (all-told f l at bytes all) in
+          let told : Told f l 0 at bytes (Err (AboveMaxval index)) = told-by f l at bytes (Err (AboveMaxval index)) all e (λ long. absurd (cc)) in
           let same : told.0 ≡ index = omega (arith, told.1) in
           subst (λ (k : ℕ). IsAboveAt f count maxval bytes k) same (subst (λ (n : ℕ). IsAboveAt f n maxval bytes told.0) (no_fewer count) told.2)),
-      (λ w. above-read f l bytes at index w),
+      (λ w. rest-within f l at bytes within ∙ above-read f l bytes at index w),
     )
 
 pub bad_sample : BadSamplesAreRefused
 unfolding raster_of
-bad_sample f count maxval at bytes p all =
+bad_sample f count maxval at bytes p within all =
     let l : Limits = record { count = count; maxval = maxval } in (
-      (λ e. let told : Told f l 0 at bytes (Err (BadSample p)) = subst (Told f l 0 at bytes) e (all-told f l at bytes all) in (told.0, told.1, told.2, subst (λ (n : ℕ). IsBadSampleAt n maxval bytes told.1) (no_fewer count) told.3)),
-      (λ w. subst (λ (k : RasterForm). rest_of l 0 (nothing_of k) at bytes ≡ Err (BadSample p)) (sym w.0) (bad-read l bytes at w.1 p w.2 w.3)),
+      (λ e.
+          let told : Told f l 0 at bytes (Err (BadSample p)) = told-by f l at bytes (Err (BadSample p)) all e (λ long. absurd (cc)) in
+          (told.0, told.1, told.2, subst (λ (n : ℕ). IsBadSampleAt n maxval bytes told.1) (no_fewer count) told.3)),
+      (λ w. rest-within f l at bytes within ∙ subst (λ (k : RasterForm). rest_unlimited l 0 (nothing_of k) at bytes ≡ Err (BadSample p)) (sym w.0) (bad-read l bytes at w.1 p w.2 w.3)),
     )

@@ -1,5 +1,8 @@
 pub mod RasterLemmas
 pub mod PlainLemmas
+pub mod UnlimitedLemmas
+pub mod LongLemmas
+pub mod OpenTextLemmas
 pub mod ReaderLemmas
 pub mod LawLemmas
 pub mod OpenLemmas

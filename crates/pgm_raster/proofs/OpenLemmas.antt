@@ -1,28 +1,29 @@
 -- A reader that has refused no byte: what it will answer is still open.
-use Rattle.std.proofs.Common.{◌≡◌, ℕ, ◌+◌, ◌-◌, ◌*◌, ◌<◌, ◌≤◌, inl, inr, List, [], ◌∷◌, length, replicate, Some, None, Ok, Err, sym, ap, ◌∙◌, subst, arith, length-append}
+use Rattle.std.proofs.Common.{◌≡◌, ℕ, ◌+◌, ◌-◌, ◌*◌, ◌<◌, ◌≤◌, inl, inr, List, [], ◌∷◌, length, replicate, Some, None, Ok, Err, refl, sym, ap, ◌∙◌, subst, arith, length-append}
 use Rattle.std.proofs.lemmas.List.{length-replicate}
 use Rattle.std.proofs.lemmas.Bool.{cases_lt, cases_eq, lt-ltb, le-ltb, eq-eqb, ne_eqb, cond-true, cond-false}
 use Rattle.std.proofs.lemmas.List.Elements.{All-replicate}
 use Rattle.std.specs.Prelude.{⊤}
 use Rattle.pgm_raster.specs.declared.fault.RasterFault.{RasterFault}
-use Rattle.pgm_raster.specs.declared.fault.RasterFault.TheVariants.{BadSample, AboveMaxval, Trailing, Truncated}
+use Rattle.pgm_raster.specs.declared.fault.RasterFault.TheVariants.{BadSample, AboveMaxval, Trailing, Truncated, TooLong}
 use Rattle.pgm_raster.specs.declared.form.RasterForm.TheVariants.{Bytes, Words}
 use Rattle.pgm_raster.specs.declared.part.Limits.{Limits}
 use Rattle.pgm_raster.specs.declared.part.Digits.{Digits}
 use Rattle.pgm_raster.specs.declared.part.Part.{Part}
 use Rattle.pgm_raster.specs.declared.part.Part.TheVariants as part
 use Rattle.pgm_raster.specs.RasterText.{IsCutShort}
-use Rattle.pgm_raster.specs.Progress.{Answer, after, sample_then, end_at, bytes_from, words_from, ended_then, plain_from, reads}
-use Rattle.pgm_raster.specs.Stage.{IsPart}
+use Rattle.pgm_raster.specs.Progress.{most_bytes, Answer, after, sample_then, end_at, bytes_from, words_from, ended_then, plain_from, reads}
+use Rattle.pgm_raster.specs.Stage.{IsPart, IsPlace}
 use Rattle.pgm_raster.proofs.RasterLemmas.{sample-passed, sample-refused}
+use Rattle.pgm_raster.proofs.PlainLemmas.{plain-full, plain-bad, plain-long}
 use Rattle.pgm_raster.proofs.LawLemmas.{Told, bytes-told, words-told, length-flat}
 
 -- a refusal behind samples is one of the rest
-after-err : (samples : List ℕ) (r : Answer) (f : RasterFault) → after samples r ≡ Err f → r ≡ Err f
+pub after-err : (samples : List ℕ) (r : Answer) (f : RasterFault) → after samples r ≡ Err f → r ≡ Err f
 after-err samples (Ok rest) f e = absurd (cc)
 after-err samples (Err g) f e = e
 
-same_fault : (r : Answer) (f g : RasterFault) → r ≡ Err f → r ≡ Err g → f ≡ g
+pub same_fault : (r : Answer) (f g : RasterFault) → r ≡ Err f → r ≡ Err g → f ≡ g
 same_fault r f g a b = let e : ◌≡◌ {A = Answer} (Err f) (Err g) = sym a ∙ b in cc
 
 -- where the end of the file is refused, it is truncated
@@ -76,7 +77,7 @@ half-enough l index at high wanted e =
     ]
 
 -- what the end of the file is refused for
-abbrev IsEndFault : RasterFault → Type 0
+abbrev pub IsEndFault : RasterFault → Type 0
 IsEndFault Truncated = ⊤
 IsEndFault (AboveMaxval _) = ⊤
 IsEndFault _ = ⊥
@@ -91,7 +92,7 @@ sample-ends l index sample f e =
       | inr fits ↦ end-ends l (index + 1) f (after-err (sample ∷ []) (end_at l (index + 1)) f (sym (sample-passed l index sample (end_at l (index + 1)) fits) ∙ e))
     ]
 
-digits-end : (l : Limits) (index : ℕ) (digits : Digits) (f : RasterFault) → ended_then l index digits (λ i. end_at l i) ≡ Err f → IsEndFault f
+pub digits-end : (l : Limits) (index : ℕ) (digits : Digits) (f : RasterFault) → ended_then l index digits (λ i. end_at l i) ≡ Err f → IsEndFault f
 digits-end l index digits f e =
     elim (cases_eq digits.count 0) as (λ _. IsEndFault f) [
       | inl none ↦ end-ends l index f (sym (cond-true _ _ _ (eq-eqb digits.count 0 none)) ∙ e)
@@ -99,23 +100,29 @@ digits-end l index digits f e =
     ]
 
 -- an `x` (120) is refused for another reason
-x-ends : (l : Limits) (index : ℕ) (digits : Digits) (at : ℕ) (f : RasterFault) → plain_from l index digits at (120 ∷ []) ≡ Err f → IsEndFault f → ⊥
-x-ends l index digits at f e ends =
-    elim (cases_lt index l.count) as (λ _. ⊥) [
-      | inl less ↦ subst IsEndFault (same_fault (plain_from l index digits at (120 ∷ [])) f (BadSample at) e (cond-true _ _ _ (lt-ltb index l.count less))) ends
-      | inr full ↦ subst IsEndFault (same_fault (plain_from l index digits at (120 ∷ [])) f (Trailing at) e (cond-false _ _ _ (le-ltb index l.count full))) ends
+x-ends : (l : Limits) (index : ℕ) (digits : Digits) (at : ℕ) (f : RasterFault) → at ≤ most_bytes → plain_from l index digits at (120 ∷ []) ≡ Err f → IsEndFault f → ⊥
+x-ends l index digits at f place e ends =
+    elim (cases_lt at most_bytes) as (λ _. ⊥) [
+      | inl within ↦ elim (cases_lt index l.count) as (λ _. ⊥) [
+        | inl less ↦ subst IsEndFault (same_fault (plain_from l index digits at (120 ∷ [])) f (BadSample at) e (plain-bad l index digits at 120 [] within refl less refl)) ends
+        | inr full ↦ subst IsEndFault (same_fault (plain_from l index digits at (120 ∷ [])) f (Trailing at) e (plain-full l index digits at 120 [] within refl full)) ends
+      ]
+      | inr beyond ↦ subst IsEndFault (same_fault (plain_from l index digits at (120 ∷ [])) f TooLong e (plain-long l index digits at (120 ∷ []) (omega arith) (omega arith))) ends
     ]
 
+pub plain-open : (l : Limits) (samples : List ℕ) (index : ℕ) (digits : Digits) (at : ℕ) (f : RasterFault) → at ≤ most_bytes → ((more : List ℕ) → after samples (plain_from l index digits at more) ≡ Err f) → ⊥
+plain-open l samples index digits at f place all =
+    x-ends l index digits at f place (after-err samples _ f (all (120 ∷ []))) (digits-end l index digits f (after-err samples _ f (all [])))
+
 -- no refusal comes whatever still comes
-pub still-open : (l : Limits) (samples : List ℕ) (p : Part) (at : ℕ) (f : RasterFault) → length samples ≤ l.count → IsPart l (length samples) p → ((more : List ℕ) → reads l samples p at more ≡ Err f) → ⊥
-still-open l samples part.Bytes at f room valid all =
+pub still-open : (l : Limits) (samples : List ℕ) (p : Part) (at : ℕ) (f : RasterFault) → length samples ≤ l.count → IsPart l (length samples) p → IsPlace l (length samples) p at → ((more : List ℕ) → reads l samples p at more ≡ Err f) → ⊥
+still-open l samples part.Bytes at f room valid place all =
     let now = end-fault l (length samples) f (after-err samples (end_at l (length samples)) f (all [])) in
     bytes-enough l (length samples) at room (after-err samples _ f (all (replicate l.count 0)) ∙ ap (λ (g : RasterFault). let r : Answer = Err g in r) now.0)
-still-open l samples (part.Words None) at f room valid all =
+still-open l samples (part.Words None) at f room valid place all =
     let now = end-fault l (length samples) f (after-err samples (end_at l (length samples)) f (all [])) in
     words-enough l (length samples) at room (after-err samples _ f (all (replicate (2 * l.count) 0)) ∙ ap (λ (g : RasterFault). let r : Answer = Err g in r) now.0)
-still-open l samples (part.Words (Some high)) at f room valid all =
+still-open l samples (part.Words (Some high)) at f room valid place all =
     let now = end-fault l (length samples) f (after-err samples (end_at l (length samples)) f (all [])) in
     half-enough l (length samples) at high valid (after-err samples _ f (all (0 ∷ replicate (2 * l.count) 0)) ∙ ap (λ (g : RasterFault). let r : Answer = Err g in r) now.0)
-still-open l samples (part.Plain digits) at f room valid all =
-    x-ends l (length samples) digits at f (after-err samples _ f (all (120 ∷ []))) (digits-end l (length samples) digits f (after-err samples _ f (all [])))
+still-open l samples (part.Plain digits) at f room valid place all = plain-open l samples (length samples) digits at f (omega arith) all

@@ -1,15 +1,16 @@
 -- Facts about the digits of samples.
-use Rattle.std.proofs.Common.{◌≡◌, ℕ, ◌+◌, ◌^◌, ◌<◌, ◌≤◌, Bool, true, false, List, ◌∷◌, ◌++◌, length, drop, get_or, inl, inr, Err, refl, ap, ◌∙◌, arith, lit<}
+use Rattle.std.proofs.Common.{◌≡◌, ℕ, ◌+◌, ◌-◌, ◌^◌, ◌<◌, ◌≤◌, Bool, true, false, ◌&&◌, nat_lt, List, [], ◌∷◌, ◌++◌, length, take, drop, get_or, inl, inr, Err, refl, sym, ap, ◌∙◌, arith, lit<, append_assoc, take-append-drop, length-take-le, length-drop, length-append}
 use Rattle.std.specs.Char.{is_ascii_digit}
 use Rattle.std.proofs.Math.Nat.{pow-le-pow_right}
 use Rattle.std.proofs.lemmas.Bool.Decides.{nat_tests}
 use Rattle.pgm_raster.specs.RasterText.{IsSpace, IsDigit}
 use Rattle.std.proofs.lemmas.List.{drop_more}
-use Rattle.std.proofs.lemmas.Bool.{lt-ltb, le-ltb, cond-true, cond-false, and_from}
-use Rattle.pgm_raster.specs.declared.fault.RasterFault.TheVariants.{Trailing}
+use Rattle.std.proofs.lemmas.Bool.{lt-ltb, le-ltb, eq-eqb, ne_eqb, cond-true, cond-false}
+use Rattle.pgm_raster.specs.declared.fault.RasterFault.{RasterFault}
+use Rattle.pgm_raster.specs.declared.fault.RasterFault.TheVariants.{BadSample, Trailing, TooLong}
 use Rattle.pgm_raster.specs.declared.part.Limits.{Limits}
 use Rattle.pgm_raster.specs.declared.part.Digits.{Digits}
-use Rattle.pgm_raster.specs.Progress.{ended_then, is_space, no_digits, with_digit, plain_from}
+use Rattle.pgm_raster.specs.Progress.{most_bytes, after, ended_then, is_space, no_digits, with_digit, plain_from}
 
 -- ---- bytes and their tests
 
@@ -53,15 +54,26 @@ digit-no_space byte h = space-isnt byte (λ s. no s)
     no (inr (inr (inl e))) = omega arith
     no (inr (inr (inr e))) = omega arith
 
-pub plain-space : (l : Limits) (index : ℕ) (digits : Digits) (at byte : ℕ) (more : List ℕ) → is_space byte ≡ true → plain_from l index digits at (byte ∷ more) ≡ ended_then l index digits (λ i. plain_from l i no_digits (at + 1) more)
-plain-space l index digits at byte more space = cond-true _ _ _ space
+-- ---- one more byte, before the most that a file has
 
-pub plain-full : (l : Limits) (index : ℕ) (digits : Digits) (at byte : ℕ) (more : List ℕ) → is_space byte ≡ false → l.count ≤ index → plain_from l index digits at (byte ∷ more) ≡ Err (Trailing at)
-plain-full l index digits at byte more space full = cond-false _ _ _ space ∙ cond-false _ _ _ (le-ltb index l.count full)
+pub plain-space : (l : Limits) (index : ℕ) (digits : Digits) (at byte : ℕ) (more : List ℕ) → at < most_bytes → is_space byte ≡ true → plain_from l index digits at (byte ∷ more) ≡ ended_then l index digits (λ i. plain_from l i no_digits (at + 1) more)
+plain-space l index digits at byte more within space = cond-false _ _ _ (ne_eqb at most_bytes (λ e. omega arith)) ∙ cond-true _ _ _ space
 
-pub plain-digit : (l : Limits) (index : ℕ) (digits : Digits) (at byte : ℕ) (more : List ℕ) → is_space byte ≡ false → index < l.count → is_ascii_digit byte ≡ true → digits.count < 9 → plain_from l index digits at (byte ∷ more) ≡ plain_from l index (with_digit digits byte) (at + 1) more
-plain-digit l index digits at byte more space wanted digit short =
-    cond-false _ _ _ space ∙ cond-true _ _ _ (lt-ltb index l.count wanted) ∙ cond-true _ _ _ (and_from _ _ digit (lt-ltb digits.count 9 short))
+pub plain-full : (l : Limits) (index : ℕ) (digits : Digits) (at byte : ℕ) (more : List ℕ) → at < most_bytes → is_space byte ≡ false → l.count ≤ index → plain_from l index digits at (byte ∷ more) ≡ Err (Trailing at)
+plain-full l index digits at byte more within space full = cond-false _ _ _ (ne_eqb at most_bytes (λ e. omega arith)) ∙ cond-false _ _ _ space ∙ cond-false _ _ _ (le-ltb index l.count full)
+
+pub plain-digit : (l : Limits) (index : ℕ) (digits : Digits) (at byte : ℕ) (more : List ℕ) → at < most_bytes → is_space byte ≡ false → index < l.count → (is_ascii_digit byte && nat_lt digits.count 9) ≡ true → plain_from l index digits at (byte ∷ more) ≡ plain_from l index (with_digit digits byte) (at + 1) more
+plain-digit l index digits at byte more within space wanted digit =
+    cond-false _ _ _ (ne_eqb at most_bytes (λ e. omega arith)) ∙ cond-false _ _ _ space ∙ cond-true _ _ _ (lt-ltb index l.count wanted) ∙ cond-true _ _ _ digit
+
+pub plain-bad : (l : Limits) (index : ℕ) (digits : Digits) (at byte : ℕ) (more : List ℕ) → at < most_bytes → is_space byte ≡ false → index < l.count → (is_ascii_digit byte && nat_lt digits.count 9) ≡ false → plain_from l index digits at (byte ∷ more) ≡ Err (BadSample at)
+plain-bad l index digits at byte more within space wanted bad =
+    cond-false _ _ _ (ne_eqb at most_bytes (λ e. omega arith)) ∙ cond-false _ _ _ space ∙ cond-true _ _ _ (lt-ltb index l.count wanted) ∙ cond-false _ _ _ bad
+
+-- and behind it
+pub plain-long : (l : Limits) (index : ℕ) (digits : Digits) (at : ℕ) (bytes : List ℕ) → at ≡ most_bytes → 0 < length bytes → plain_from l index digits at bytes ≡ Err TooLong
+plain-long l index digits at [] here some = absurd (omega arith)
+plain-long l index digits at (byte ∷ bytes) here some = cond-true _ _ _ (eq-eqb at most_bytes here)
 
 -- at most eight digits leave room for one more
 pub eight_digits : (count value : ℕ) → count < 9 → value < 10 ^ count → value < 10 ^ 8
@@ -73,3 +85,26 @@ eight_digits count value short small =
 -- one more byte of a list
 pub drop-step : (bytes : List ℕ) (i : ℕ) (more : List ℕ) → i < length bytes → drop i bytes ++ more ≡ get_or bytes i 0 ∷ (drop (i + 1) bytes ++ more)
 drop-step bytes i more below = ap (λ (s : List ℕ). s ++ more) (drop_more bytes i 0 below)
+
+-- ---- a piece that goes beyond the most bytes that a file has
+
+-- its front is refused
+pub front-refused : (l : Limits) (old : List ℕ) (index : ℕ) (digits : Digits) (at n : ℕ) (piece : List ℕ) (fault : RasterFault) → ((more : List ℕ) → after old (plain_from l index digits at (take n piece ++ more)) ≡ Err fault)
+    → (more : List ℕ) → after old (plain_from l index digits at (piece ++ more)) ≡ Err fault
+front-refused l old index digits at n piece fault front more =
+    ap (λ (s : List ℕ). after old (plain_from l index digits at (s ++ more))) (sym (take-append-drop n piece))
+    ∙ ap (λ (s : List ℕ). after old (plain_from l index digits at s)) (append_assoc (take n piece) (drop n piece) more)
+    ∙ front (drop n piece ++ more)
+
+-- its front is accepted
+pub front-long : (l : Limits) (old new : List ℕ) (index i : ℕ) (digits next : Digits) (at n : ℕ) (piece : List ℕ) → n < length piece → at + n ≡ most_bytes
+    → ((more : List ℕ) → after old (plain_from l index digits at (take n piece ++ more)) ≡ after new (plain_from l i next (at + length (take n piece)) more))
+    → (more : List ℕ) → after old (plain_from l index digits at (piece ++ more)) ≡ Err TooLong
+front-long l old new index i digits next at n piece short here front more =
+    let size : length (take n piece) ≡ n = length-take-le n piece (omega arith) in
+    let left : length (drop n piece) ≡ length piece - n = length-drop n piece in
+    let rest : length (drop n piece ++ more) ≡ length (drop n piece) + length more = length-append (drop n piece) more in
+    ap (λ (s : List ℕ). after old (plain_from l index digits at (s ++ more))) (sym (take-append-drop n piece))
+    ∙ ap (λ (s : List ℕ). after old (plain_from l index digits at s)) (append_assoc (take n piece) (drop n piece) more)
+    ∙ front (drop n piece ++ more)
+    ∙ ap (after new) (plain-long l i next (at + length (take n piece)) (drop n piece ++ more) (omega arith) (omega arith))

@@ -1,5 +1,5 @@
 -- What readers come to.
-use Rattle.std.proofs.Common.{◌≡◌, ℕ, ◌<◌, ◌≤◌, append-nil, Option, Some, None, IfSome, IfOk, IfErr, OnOk, Vec, Global, subst, List, [], length, Result, Ok, Err, refl, sym, ap, ◌∙◌}
+use Rattle.std.proofs.Common.{◌≡◌, ℕ, ◌^◌, ◌<◌, ◌≤◌, append-nil, Option, Some, None, IfSome, IfOk, IfErr, OnOk, Vec, Global, subst, List, [], length, Result, Ok, Err, refl, sym, ap, ◌∙◌, arith}
 use Rattle.std.proofs.lemmas.Bool.{lt-ltb, le-ltb, cond-true, cond-false}
 use Rattle.pgm_raster.specs.declared.fault.RasterFault.{RasterFault}
 use Rattle.pgm_raster.specs.declared.fault.RasterFault.TheVariants.{Truncated}
@@ -9,7 +9,7 @@ use Rattle.pgm_raster.specs.declared.part.Digits.{Digits}
 use Rattle.pgm_raster.specs.declared.part.Part.{Part}
 use Rattle.pgm_raster.specs.declared.part.Part.TheVariants as part
 use Rattle.pgm_raster.specs.Progress.{Answer, Progress, Reading, HasRefused, after, rest_of, reads, nothing_of, raster_of, resume, next_place, refusal_of, ended_then, end_at, IsSettled}
-use Rattle.pgm_raster.specs.Stage.{progress_of, IsReader}
+use Rattle.pgm_raster.specs.Stage.{progress_of, IsPart, IsPlace, IsReader}
 use Rattle.pgm_raster.specs.declared.reader.RasterReader.TheInside.{Inside}
 use Rattle.pgm_raster.proofs.RasterLemmas.{after-nil}
 
@@ -60,8 +60,8 @@ pub closed : (r : Inside) (self : Progress) (fault : RasterFault) → progress_o
 closed r self fault v e = sym v ∙ ap (λ (o : Option RasterFault). progress_of o (Reading r.limits r.heights.items r.part r.at)) e
 
 -- what holds of the fields of a reader that has refused no byte
-pub opened-fields : (r : Inside) → IsReader r.refused r.limits r.heights r.part → r.refused ≡ None → IsReader None r.limits r.heights r.part
-opened-fields r valid e = subst (λ (o : Option RasterFault). IsReader o r.limits r.heights r.part) e valid
+pub opened-fields : (r : Inside) → IsReader r.refused r.limits r.heights r.part r.at → r.refused ≡ None → IsReader None r.limits r.heights r.part r.at
+opened-fields r valid e = subst (λ (o : Option RasterFault). IsReader o r.limits r.heights r.part r.at) e valid
 
 pub opened-refusal : (r : Inside) (self : Progress) → progress_of r.refused (Reading r.limits r.heights.items r.part r.at) ≡ self → r.refused ≡ None → refusal_of self ≡ None
 opened-refusal r self v e = ap refusal_of (opened r self v e) ∙ refusal-reading r.limits r.heights.items r.part r.at
@@ -124,3 +124,12 @@ closed-place r self fault v e = ap next_place (closed r self fault v e) ∙ plac
 pub settled-reading : (l : Limits) (samples : List ℕ) (p : Part) (at : ℕ) (fault : RasterFault) → IsSettled (Reading l samples p at) fault → (more : List ℕ) → reads l samples p at more ≡ Err fault
 unfolding IsSettled
 settled-reading l samples p at fault settled more = sym (resume-reading l samples p at more) ∙ settled more
+
+-- ---- the place of the next byte
+
+-- no place is behind the most bytes that a file has
+pub place-within : (l : Limits) (index : ℕ) (p : Part) (at : ℕ) → IsPart l index p → IsPlace l index p at → at ≤ 2 ^ 28
+place-within l index part.Bytes at part place = omega arith
+place-within l index (part.Words None) at part place = omega arith
+place-within l index (part.Words (Some high)) at part place = omega arith
+place-within l index (part.Plain digits) at part place = place

@@ -6,10 +6,11 @@ use Rattle.std.proofs.lemmas.List.Elements.{All-nil, All-cons}
 use Rattle.pgm_raster.specs.declared.form.RasterForm.TheVariants.{Bytes, Words, Plain}
 use Rattle.pgm_raster.specs.declared.part.Limits.{Limits}
 use Rattle.pgm_raster.specs.declared.part.Digits.{Digits}
-use Rattle.pgm_raster.specs.Progress.{Answer, after, sample_then, end_at, bytes_from, words_from, is_space, no_digits, with_digit, ended_then, plain_from, raster_of}
+use Rattle.pgm_raster.specs.Progress.{Answer, after, sample_then, end_at, bytes_from, words_from, is_space, no_digits, with_digit, ended_then, nothing_of, raster_of}
 use Rattle.pgm_raster.specs.Laws.{OnlyWantedSamplesAreRead}
 use Rattle.pgm_raster.proofs.RasterLemmas.{sample-passed, sample-refused}
 use Rattle.pgm_raster.proofs.PlainLemmas.{by_test}
+use Rattle.pgm_raster.proofs.UnlimitedLemmas.{plain_unlimited, rest_unlimited, agreed}
 
 -- the samples that are wanted behind so many
 abbrev AreWanted : Limits → ℕ → List ℕ → Type 0
@@ -67,12 +68,12 @@ wanted-ended l index digits rest room wanted again =
           subst (Wanted l index) (sym (cond-false _ _ _ (ne_eqb digits.count 0 some))) (wanted-sample l index digits.value (rest (index + 1)) (again (index + 1) (omega arith)))
     ]
 
-plain-wanted : (l : Limits) (bytes : List ℕ) (index : ℕ) (digits : Digits) (at : ℕ) → index ≤ l.count → (0 < digits.count → index < l.count) → Wanted l index (plain_from l index digits at bytes)
+plain-wanted : (l : Limits) (bytes : List ℕ) (index : ℕ) (digits : Digits) (at : ℕ) → index ≤ l.count → (0 < digits.count → index < l.count) → Wanted l index (plain_unlimited l index digits at bytes)
 plain-wanted l [] index digits at room wanted = wanted-ended l index digits (λ i. end_at l i) room wanted (wanted-end l)
 plain-wanted l (byte ∷ more) index digits at room wanted =
     by_test (is_space byte)
-    (λ space. subst (Wanted l index) (sym (cond-true _ _ _ space)) (wanted-ended l index digits (λ i. plain_from l i no_digits (at + 1) more) room wanted (λ i within. plain-wanted l more i no_digits (at + 1) within (λ some. absurd (omega arith)))))
-    (λ other. elim (cases_lt index l.count) as (λ _. Wanted l index (plain_from l index digits at (byte ∷ more))) [
+    (λ space. subst (Wanted l index) (sym (cond-true _ _ _ space)) (wanted-ended l index digits (λ i. plain_unlimited l i no_digits (at + 1) more) room wanted (λ i within. plain-wanted l more i no_digits (at + 1) within (λ some. absurd (omega arith)))))
+    (λ other. elim (cases_lt index l.count) as (λ _. Wanted l index (plain_unlimited l index digits at (byte ∷ more))) [
       | inl less ↦ by_test (is_ascii_digit byte && nat_lt digits.count 9)
           (λ digit. subst (Wanted l index) (sym (cond-false _ _ _ other ∙ cond-true _ _ _ (lt-ltb index l.count less) ∙ cond-true _ _ _ digit)) (plain-wanted l more index (with_digit digits byte) (at + 1) room (λ _. less)))
           (λ bad. subst (Wanted l index) (sym (cond-false _ _ _ other ∙ cond-true _ _ _ (lt-ltb index l.count less) ∙ cond-false _ _ _ bad)) tt)
@@ -85,6 +86,11 @@ strip count maxval (Err fault) w = tt
 
 pub only_wanted : OnlyWantedSamplesAreRead
 unfolding raster_of
-only_wanted Bytes count maxval at bytes = strip count maxval _ (bytes-wanted (record { count = count; maxval = maxval }) bytes 0 at (omega arith))
-only_wanted Words count maxval at bytes = strip count maxval _ (words-wanted (record { count = count; maxval = maxval }) bytes 0 at (omega arith))
-only_wanted Plain count maxval at bytes = strip count maxval _ (plain-wanted (record { count = count; maxval = maxval }) bytes 0 no_digits at (omega arith) (λ some. absurd (omega arith)))
+only_wanted f count maxval at bytes =
+    let l : Limits = record { count = count; maxval = maxval } in
+    agreed f l at bytes (λ r. IfOk r (λ samples. (length samples ≡ count) × All (λ h. h ≤ maxval) samples)) tt (any f l at bytes)
+  where
+    any : (f : RasterForm) (l : Limits) (at : ℕ) (bytes : List ℕ) → IfOk (rest_unlimited l 0 (nothing_of f) at bytes) (λ samples. (length samples ≡ l.count) × All (λ h. h ≤ l.maxval) samples)
+    any Bytes l at bytes = strip l.count l.maxval _ (bytes-wanted l bytes 0 at (omega arith))
+    any Words l at bytes = strip l.count l.maxval _ (words-wanted l bytes 0 at (omega arith))
+    any Plain l at bytes = strip l.count l.maxval _ (plain-wanted l bytes 0 no_digits at (omega arith) (λ some. absurd (omega arith)))

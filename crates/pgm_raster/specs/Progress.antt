@@ -1,19 +1,23 @@
 -- What further bytes of a raster mean, read byte by byte: the samples, or the first refusal. The laws of
 -- `Laws` say in the format's own words what these answers are.
 --
--- Words: Answer, after, sample_then, end_at, is_space, bytes_from, words_from, plain_from,
--- rest_of, reads, raster_of, Progress, resume, next_place, refusal_of,
--- IsSettled.
+-- Words: most_bytes, Answer, after, sample_then, samples_then, end_at, bytes_from, words_from, is_space,
+-- no_digits, with_digit, ended_then, plain_from, rest_of, reads, nothing_of, raster_of, Progress, resume,
+-- next_place, refusal_of, IsSettled.
 use Rattle.std.specs.Prelude.{◌≡◌, ℕ, ◌+◌, ◌-◌, ◌*◌, Bool, ◌&&◌, ◌||◌, cond, List, [], ◌∷◌, ◌++◌, length, Option, Some, None, Result, Ok, Err, nat_eq, nat_lt}
 use Rattle.std.specs.Char.{is_ascii_digit}
 use Rattle.pgm_raster.specs.declared.fault.RasterFault.{RasterFault}
-use Rattle.pgm_raster.specs.declared.fault.RasterFault.TheVariants.{BadSample, AboveMaxval, Trailing, Truncated}
+use Rattle.pgm_raster.specs.declared.fault.RasterFault.TheVariants.{BadSample, AboveMaxval, Trailing, Truncated, TooLong}
 use Rattle.pgm_raster.specs.declared.form.RasterForm.{RasterForm}
 use Rattle.pgm_raster.specs.declared.form.RasterForm.TheVariants as form
 use Rattle.pgm_raster.specs.declared.part.Limits.{Limits}
 use Rattle.pgm_raster.specs.declared.part.Digits.{Digits}
 use Rattle.pgm_raster.specs.declared.part.Part.{Part}
 use Rattle.pgm_raster.specs.declared.part.Part.TheVariants as part
+
+-- a file has at most 2 ^ 28 bytes: a limit of this project's own
+abbrev pub most_bytes : ℕ
+most_bytes = 268435456
 
 -- the samples that bytes are, or why they are refused
 abbrev pub Answer : Type 0
@@ -64,14 +68,16 @@ with_digit digits byte = record { count = digits.count + 1; value = 10 * digits.
 abbrev pub ended_then : Limits → ℕ → Digits → (ℕ → Answer) → Answer
 ended_then l index digits rest = cond (nat_eq digits.count 0) (rest index) (sample_then l index digits.value (rest (index + 1)))
 
--- Plain: the same, where `digits` are those of a sample that is not ended.
+-- Plain: the same, where `digits` are those of a sample that is not ended. The bytes of a raw raster end
+-- long before the most that a file has, those of a plain one need not.
 abbrev pub plain_from : Limits → ℕ → Digits → ℕ → List ℕ → Answer
 plain_from l index digits at [] = ended_then l index digits (λ i. end_at l i)
 plain_from l index digits at (byte ∷ more) =
-    cond (is_space byte) (ended_then l index digits (λ i. plain_from l i no_digits (at + 1) more))
+    cond (nat_eq at most_bytes) (Err TooLong)
+    (cond (is_space byte) (ended_then l index digits (λ i. plain_from l i no_digits (at + 1) more))
     (cond (nat_lt index l.count)
     (cond (is_ascii_digit byte && nat_lt digits.count 9) (plain_from l index (with_digit digits byte) (at + 1) more) (Err (BadSample at)))
-    (Err (Trailing at)))
+    (Err (Trailing at))))
 
 -- the bytes from place `at` on, behind so many samples and a part of the next
 abbrev pub rest_of : Limits → ℕ → Part → ℕ → List ℕ → Answer

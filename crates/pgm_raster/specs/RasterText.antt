@@ -2,7 +2,8 @@
 -- "pgm": raw (`P5`) with one or two bytes a sample, and plain (`P2`) with decimal texts.
 --
 -- Words: two_bytes, IsSpace, IsDigit, value_of, IsSampleText, IsSample, AreEndedTexts, AreEnded, HasOpenEnd,
--- IsRaster; IsCut, IsCutShort, IsStray, IsTrailingAt, EndsThere, IsAboveAt, IsBadSampleAt.
+-- IsRaster; IsCut, IsCutShort, IsStray, IsTrailingAt, EndsThere, IsAboveAt, IsBadSampleAt,
+-- IsOpen.
 use Rattle.std.specs.Prelude.{◌≡◌, ℕ, ◌+◌, ◌-◌, ◌*◌, ◌/◌, ◌%◌, ◌^◌, ◌<◌, ◌≤◌, ⊤, ◌⊎◌, List, [], ◌∷◌, ◌++◌, length, All}
 use Rattle.std.specs.List.{flat_map}
 use Rattle.pgm_raster.specs.declared.form.RasterForm.{RasterForm}
@@ -138,3 +139,18 @@ pub record IsBadSampleAt (count maxval : ℕ) (bytes : List ℕ) (place : ℕ) :
   pub bad : (IsDigit byte → ⊥) ⊎ (length digits ≡ 9)
   pub bound : All (λ h. h ≤ maxval) samples
   pub wanted : length samples < count
+
+-- ---- plain rasters none of whose bytes is refused
+
+-- the bytes are samples, each of them ended, and up to nine digits of one that is still wanted
+pub record IsOpen (count maxval : ℕ) (bytes : List ℕ) : Type 0 where
+  pub samples : List ℕ
+  pub front : List ℕ
+  pub digits : List ℕ
+  pub whole : bytes ≡ front ++ digits
+  pub ended : AreEndedTexts samples front
+  pub short : length digits ≤ 9
+  pub are : All IsDigit digits
+  pub bound : All (λ h. h ≤ maxval) samples
+  pub room : length samples ≤ count
+  pub wanted : 0 < length digits → length samples < count

@@ -1,5 +1,5 @@
 -- The fields of a reader: what they have come to, and what holds of them.
-use Rattle.std.specs.Prelude.{ℕ, ◌^◌, ◌<◌, ◌≤◌, ⊤, Option, Some, None, vec_len}
+use Rattle.std.specs.Prelude.{ℕ, ◌+◌, ◌-◌, ◌*◌, ◌^◌, ◌<◌, ◌≤◌, ⊤, Option, Some, None, vec_len}
 use Rattle.std.specs.Vec.{vec_capacity}
 use Rattle.std.specs.declared.vec.Vec.{Vec}
 use Rattle.std.specs.declared.alloc.Global.{Global}
@@ -28,10 +28,17 @@ IsPart l index (part.Words None) = ⊤
 IsPart l index (part.Words (Some high)) = index < l.count
 IsPart l index (part.Plain digits) = IsDigits l index digits
 
+-- the samples that are still wanted fit a file of 2 ^ 28 bytes; in the plain form so do the bytes so far
+abbrev pub IsPlace : Limits → ℕ → Part → ℕ → Type 0
+IsPlace l index part.Bytes at = at + (l.count - index) ≤ 2 ^ 28
+IsPlace l index (part.Words None) at = at + 2 * (l.count - index) ≤ 2 ^ 28
+IsPlace l index (part.Words (Some high)) at = at + 2 * (l.count - index) ≤ 2 ^ 28 + 1
+IsPlace l index (part.Plain digits) at = at ≤ 2 ^ 28
+
 -- the fields of a reader that has refused no byte agree
-abbrev pub IsReader : Option RasterFault → Limits → Vec ℕ Global → Part → Type 0
-IsReader None l heights part = HasRoom l heights × IsPart l (vec_len heights) part
-IsReader (Some fault) l heights part = ⊤
+abbrev pub IsReader : Option RasterFault → Limits → Vec ℕ Global → Part → ℕ → Type 0
+IsReader None l heights part at = HasRoom l heights × IsPart l (vec_len heights) part × IsPlace l (vec_len heights) part at
+IsReader (Some fault) l heights part at = ⊤
 
 -- what a reader has come to that has refused no byte, or this one
 abbrev pub progress_of : Option RasterFault → Progress → Progress

@@ -20,4 +20,6 @@ pub enum RasterFault {
     },
     /// The file ends before its last sample does.
     Truncated,
+    /// The byte at place 268,435,456: no file has more bytes.
+    TooLong,
 }

@@ -1,6 +1,6 @@
 //! What the bytes of a raster mean.
 
-ghost use Rattle.pgm_raster.specs.Laws.{RastersAreRead, ReadBytesAreRasters, OnlyWantedSamplesAreRead, CutRastersAreRefused, TrailingBytesAreRefused, GreatSamplesAreRefused, BadSamplesAreRefused};
+ghost use Rattle.pgm_raster.specs.Laws.{RastersAreRead, ReadBytesAreRasters, OnlyWantedSamplesAreRead, CutRastersAreRefused, TrailingBytesAreRefused, GreatSamplesAreRefused, BadSamplesAreRefused, ReadRastersAreShort, OpenRastersAreUnrefused, LongRastersAreRefused};
 
 /// States what `raster_of` answers for the bytes of a raster, in the words of the format. It does nothing.
 pub fn raster_laws()
@@ -11,4 +11,7 @@ pub fn raster_laws()
     ensures trailing { TrailingBytesAreRefused }
     ensures above { GreatSamplesAreRefused }
     ensures bad_sample { BadSamplesAreRefused }
+    ensures short { ReadRastersAreShort }
+    ensures unrefused { OpenRastersAreUnrefused }
+    ensures too_long { LongRastersAreRefused }
 {}

@@ -3,7 +3,7 @@
 //! For the reader of grids, which knows from the header the form, how many samples there are and how
 //! great they may be. The bytes come in pieces of any length, and are read into a list of heights for
 //! which room was taken once. Raw samples go through the kernels of `roam_lanes`, chunk by chunk.
-//! The header is not read here, and no limit is set to the length of a file.
+//! A file has at most 2^28 bytes. The header is not read here.
 
 #![tactic(auto)]
 

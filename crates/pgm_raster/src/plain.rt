@@ -12,6 +12,9 @@ use crate::part::{Digits, Limits};
 /// The most digits of a sample: each such number fits 32 bits.
 const LONGEST: u32 = 9;
 
+/// The most bytes of a file: a limit of this project's own, since whitespace may go on without end.
+const MOST_BYTES: u64 = 1 << 28;
+
 impl Digits {
     /// No digit.
     pub(crate) const NONE: Digits = Digits { count: 0, value: 0 };
@@ -64,6 +67,7 @@ fn plain_step(
 ) -> Result<Digits, RasterFault>
     requires room { HasRoom limits heights.old }
     requires part { IsPart limits (vec_len heights.old) (part.Plain digits) }
+    requires place { at < 2 ^ 28 }
     ensures ok { IfOk result (λ next. (more : List ℕ) →
         reads limits heights.old.items (part.Plain digits) at (byte ∷ more)
         ≡ reads limits heights.new.items (part.Plain next) (at + 1) more) }
@@ -99,7 +103,7 @@ pub(crate) fn plain_after(
 ) -> Result<Digits, RasterFault>
     requires room { HasRoom limits heights.old }
     requires part { IsPart limits (vec_len heights.old) (part.Plain digits) }
-    requires place { at + length piece.now < 2 ^ 64 }
+    requires place { at + length piece.now ≤ 2 ^ 28 }
     ensures ok { IfOk result (λ next. (more : List ℕ) →
         reads limits heights.old.items (part.Plain digits) at (piece.now ++ more)
         ≡ reads limits heights.new.items (part.Plain next) (at + length piece.now) more) }
@@ -113,4 +117,33 @@ pub(crate) fn plain_after(
         digits = plain_step(heights, limits, at + i as u64, digits, piece[i])?;
     }
     Ok(digits)
+}
+
+/// Takes bytes, none behind the most that a file has, and answers the digits of the sample that is not
+/// ended.
+pub(crate) fn plain_within(
+    heights: &mut Vec<u16>,
+    limits: Limits,
+    at: u64,
+    digits: Digits,
+    piece: &[u8],
+) -> Result<Digits, RasterFault>
+    requires room { HasRoom limits heights.old }
+    requires part { IsPart limits (vec_len heights.old) (part.Plain digits) }
+    requires place { at ≤ 2 ^ 28 }
+    ensures ok { IfOk result (λ next. (more : List ℕ) →
+        reads limits heights.old.items (part.Plain digits) at (piece.now ++ more)
+        ≡ reads limits heights.new.items (part.Plain next) (at + length piece.now) more) }
+    ensures err { IfErr result (λ fault. (more : List ℕ) →
+        reads limits heights.old.items (part.Plain digits) at (piece.now ++ more) ≡ Err fault) }
+    ensures valid { OnOk result (HasRoom limits heights.new) }
+    ensures part { IfOk result (λ next. IsPart limits (vec_len heights.new) (part.Plain next)) }
+    ensures place { OnOk result (at + length piece.now ≤ 2 ^ 28) }
+{
+    let left = (MOST_BYTES - at) as usize;
+    if piece.len() <= left {
+        return plain_after(heights, limits, at, digits, piece);
+    }
+    plain_after(heights, limits, at, digits, &piece[..left])?;
+    Err(RasterFault::TooLong)
 }

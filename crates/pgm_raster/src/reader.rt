@@ -2,12 +2,12 @@
 
 ghost use Rattle.std.specs.Prelude.{◌≡◌, ◌+◌, ◌^◌, ◌<◌, ◌≤◌, [], ◌++◌, List, ℕ, Ok, Err, Some, None, IfSome, length, vec_len, OnOk, IfOk, IfErr};
 ghost use Rattle.pgm_raster.specs.Progress.{resume, raster_of, next_place, refusal_of, IsSettled, after, end_at, nothing_of, reads};
-ghost use Rattle.pgm_raster.specs.Stage.{HasRoom, IsPart};
+ghost use Rattle.pgm_raster.specs.Stage.{HasRoom, IsPart, IsPlace};
 
 use crate::fault::RasterFault;
 use crate::form::RasterForm;
 use crate::part::{Digits, Limits, Part};
-use crate::plain::{end_digits, plain_after};
+use crate::plain::{end_digits, plain_within};
 use crate::raw::{bytes_after, words_after, words_after_half};
 use roam_edge::NoMemory;
 use std::alloc::Global;
@@ -41,7 +41,7 @@ impl Model for RasterReader {
 
     ghost view = { λ r. progress_of r.refused (Reading r.limits r.heights.items r.part r.at) };
 
-    ghost invariant = { λ r. IsReader r.refused r.limits r.heights r.part };
+    ghost invariant = { λ r. IsReader r.refused r.limits r.heights r.part r.at };
 }
 
 impl RasterReader {
@@ -56,6 +56,8 @@ impl RasterReader {
         maxval: u16,
         place: u64,
     ) -> Result<RasterReader, NoMemory>
+        requires place_small { place ≤ 65536 }
+        requires count_small { count ≤ 2 ^ 23 }
         ensures value { IfOk result (λ reader. (more : List ℕ) → resume reader more ≡ raster_of form count maxval place more) }
         ensures place { IfOk result (λ reader. next_place reader ≡ place) }
         ensures good { IfOk result (λ reader. refusal_of reader ≡ None) }
@@ -88,10 +90,10 @@ impl RasterReader {
     ///
     /// A refusal comes with the piece that brings the byte that is refused.
     pub fn feed(&mut self, piece: &[u8]) -> Result<(), RasterFault>
-        requires place { next_place self.old + length piece.now < 2 ^ 64 }
         // What the bytes mean together is not changed by where they are cut.
         ensures ok { OnOk result ((more : List ℕ) → resume self.old (piece.now ++ more) ≡ resume self.new more) }
         ensures place { OnOk result (next_place self.new ≡ next_place self.old + length piece.now) }
+        ensures limit { OnOk result (next_place self.new ≤ 2 ^ 28) }
         // No byte so far is refused: what still comes decides.
         ensures unsettled { OnOk result ((fault : RasterFault) → ¬ IsSettled self.new fault) }
         // The refusal is that of the file, whatever still comes.
@@ -139,7 +141,7 @@ fn part_after(
 ) -> Result<Part, RasterFault>
     requires room { HasRoom limits heights.old }
     requires part { IsPart limits (vec_len heights.old) part }
-    requires place { at + length piece.now < 2 ^ 64 }
+    requires place { IsPlace limits (vec_len heights.old) part at }
     ensures ok { IfOk result (λ next. (more : List ℕ) →
         reads limits heights.old.items part at (piece.now ++ more)
         ≡ reads limits heights.new.items next (at + length piece.now) more) }
@@ -147,6 +149,7 @@ fn part_after(
         reads limits heights.old.items part at (piece.now ++ more) ≡ Err fault) }
     ensures valid { OnOk result (HasRoom limits heights.new) }
     ensures part { IfOk result (λ next. IsPart limits (vec_len heights.new) next) }
+    ensures place { IfOk result (λ next. IsPlace limits (vec_len heights.new) next (at + length piece.now)) }
 {
     match part {
         Part::Bytes => {
@@ -157,7 +160,7 @@ fn part_after(
         Part::Words(Some(high)) => Ok(Part::Words(words_after_half(
             heights, limits, at, high, piece,
         )?)),
-        Part::Plain(digits) => Ok(Part::Plain(plain_after(heights, limits, at, digits, piece)?)),
+        Part::Plain(digits) => Ok(Part::Plain(plain_within(heights, limits, at, digits, piece)?)),
     }
 }
 

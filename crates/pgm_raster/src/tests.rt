@@ -1,5 +1,7 @@
 //! Rasters of the three forms: whole, in pieces, cut short and wrong. The rasters begin at place 15.
 
+ghost use Rattle.std.specs.Prelude.{◌^◌, ◌≤◌};
+
 use crate::{RasterFault, RasterForm, RasterReader};
 use roam_edge::NoMemory;
 use std::alloc::Global;
@@ -11,7 +13,9 @@ fn reader_of(
     form: RasterForm,
     count: usize,
     maxval: u16,
-) -> Result<RasterReader, NoMemory> {
+) -> Result<RasterReader, NoMemory>
+    requires count_small { count ≤ 2 ^ 23 }
+{
     RasterReader::new(alloc, form, count, maxval, 15)
 }
 
@@ -21,9 +25,7 @@ fn read(reader: RasterReader, bytes: &[u8], length: usize) -> Result<Vec<u16>, R
     let mut left = bytes;
     for _ in 0..bytes.len() {
         let (front, back) = left.split_at(left.len().min(length));
-        if reader.place() < 1 << 20 && front.len() < 1 << 20 {
-            reader.feed(front)?;
-        }
+        reader.feed(front)?;
         left = back;
     }
     reader.finish()
@@ -217,13 +219,9 @@ fn a_refusal_comes_with_its_byte_and_sticks(rt: HostRuntime) -> Result<(), Fail>
     assert_eq!(rt; reader.place(), 15);
     assert_eq!(rt; reader.feed(b"\0\x07\x02"), Ok(()));
     assert_eq!(rt; reader.place(), 18);
-    if reader.place() == 18 {
-        assert_eq!(rt; reader.feed(b"\0"), Err(fault));
-    }
+    assert_eq!(rt; reader.feed(b"\0"), Err(fault));
     assert_eq!(rt; reader.place(), 0);
-    if reader.place() == 0 {
-        assert_eq!(rt; reader.feed(b""), Err(fault), "once more");
-    }
+    assert_eq!(rt; reader.feed(b""), Err(fault), "once more");
     assert_eq!(rt; reader.finish().err(), Some(fault));
     Ok(())
 }
@@ -257,5 +255,33 @@ fn long_rows_are_read_past_the_lanes_and_the_chunk(rt: HostRuntime) -> Result<()
             );
         }
     }
+    Ok(())
+}
+
+#[test]
+fn a_file_ends_at_its_limit(rt: HostRuntime) -> Result<(), Fail> {
+    let blanks = [b' '; 65536];
+    let mut reader = RasterReader::new(rt.alloc(), RasterForm::Plain, 1, 9, 65536)?;
+    reader.feed(b"7")?;
+    reader.feed(&blanks[1..])?;
+    for _ in 2..4096 {
+        reader.feed(&blanks)?;
+    }
+    assert_eq!(rt; reader.place(), 268435456);
+    assert_eq!(rt; reader.feed(b""), Ok(()));
+    assert_eq!(rt; reader.finish()?.as_slice(), [7].as_slice());
+    Ok(())
+}
+
+#[test]
+fn a_byte_behind_the_limit_is_refused_before_it_is_read(rt: HostRuntime) -> Result<(), Fail> {
+    let blanks = [b' '; 65536];
+    let mut reader = RasterReader::new(rt.alloc(), RasterForm::Plain, 1, 9, 65535)?;
+    for _ in 1..4096 {
+        reader.feed(&blanks)?;
+    }
+    assert_eq!(rt; reader.place(), 268435455);
+    assert_eq!(rt; reader.feed(b" x"), Err(RasterFault::TooLong));
+    assert_eq!(rt; reader.finish().err(), Some(RasterFault::TooLong));
     Ok(())
 }

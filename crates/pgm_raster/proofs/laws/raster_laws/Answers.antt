@@ -1,4 +1,6 @@
 use Rattle.pgm_raster.proofs.LawLemmas.{rasters, samples_back, truncated, trailing, above, bad_sample}
+use Rattle.pgm_raster.proofs.LongLemmas.{short, too_long}
+use Rattle.pgm_raster.proofs.OpenTextLemmas.{unrefused}
 use Rattle.pgm_raster.proofs.WantedLemmas.{only_wanted}
 use Rattle.pgm_raster.proofs.laws.raster_laws.Goals as goal
 
@@ -22,3 +24,12 @@ returns-clause-bad_sample c = bad_sample
 
 pub returns-clause-wanted : goal.returns-clause-wanted
 returns-clause-wanted c = only_wanted
+
+pub returns-clause-short : goal.returns-clause-short
+returns-clause-short c = short
+
+pub returns-clause-too_long : goal.returns-clause-too_long
+returns-clause-too_long c = too_long
+
+pub returns-clause-unrefused : goal.returns-clause-unrefused
+returns-clause-unrefused c = unrefused

@@ -1,8 +1,8 @@
-use Rattle.std.proofs.Common.{◌≡◌, ◌∙◌, ◌+◌, ◌≤◌, subst, vec_len, ◌++◌, ℕ, length, sym, refl, ap, arith, Option}
+use Rattle.std.proofs.Common.{◌≡◌, ◌∙◌, ◌+◌, ◌^◌, ◌≤◌, subst, vec_len, ◌++◌, ℕ, length, sym, refl, ap, arith, Option}
 use Rattle.pgm_raster.specs.declared.fault.RasterFault.{RasterFault}
 use Rattle.pgm_raster.specs.Progress.{Progress, Reading, resume, next_place, refusal_of, IsSettled}
-use Rattle.pgm_raster.specs.Stage.{progress_of, IsPart}
-use Rattle.pgm_raster.proofs.ReaderLemmas.{opened-resume, opened-place, opened-refusal, closed, closed-resume, closed-refusal, resume-reading, place-reading, refusal-reading, refusal-refused, refused-settled, at-none, at-some, settled-by, settled-reading}
+use Rattle.pgm_raster.specs.Stage.{progress_of, IsPart, IsPlace}
+use Rattle.pgm_raster.proofs.ReaderLemmas.{opened-resume, opened-place, opened-refusal, closed, closed-resume, closed-refusal, resume-reading, place-reading, refusal-reading, refusal-refused, refused-settled, at-none, at-some, settled-by, settled-reading, place-within}
 use Rattle.pgm_raster.proofs.OpenLemmas.{still-open}
 use Rattle.pgm_raster.proofs.reader.RasterReader.feed.Goals as goal
 
@@ -18,16 +18,6 @@ returns-in-Some-clause-bad c = closed-refusal c.self.inside c.args.self.now c.in
 pub returns-in-Some-clause-sticks : goal.returns-in-Some-clause-sticks
 returns-in-Some-clause-sticks c = at-some (refusal_of c.args.self.now) c.in-Some.fault _ (closed-refusal c.self.inside c.args.self.now c.in-Some.fault c.self.view_is c.in-Some.is) refl
 
-pub part_after-requires-clause-place : goal.part_after-requires-clause-place
-part_after-requires-clause-place c =
-    let here : next_place c.args.self.now ≡ c.self.inside.at = opened-place c.self.inside c.args.self.now c.self.view_is c.in_default.is in
-    omega arith
-
-pub overflow_add-self : goal.overflow_add-self
-overflow_add-self c =
-    let here : next_place c.args.self.now ≡ c.self.inside.at = opened-place c.self.inside c.args.self.now c.self.view_is c.in_default.is in
-    omega arith
-
 pub returns-in-Ok-clause-ok : goal.returns-in-Ok-clause-ok
 returns-in-Ok-clause-ok c =
     let next : Progress = Reading c.self.inside.limits c.part_after.new.heights.items c.in-Ok.part (c.self.inside.at + length c.args.piece.now) in
@@ -41,6 +31,14 @@ returns-in-Ok-clause-place c =
     let view : progress_of c.self.inside.refused next ≡ next = ap (λ (o : Option RasterFault). progress_of o next) c.in_default.is in
     ap next_place view ∙ place-reading c.self.inside.limits c.part_after.new.heights.items c.in-Ok.part (c.self.inside.at + length c.args.piece.now)
     ∙ ap (λ (k : ℕ). k + length c.args.piece.now) (sym (opened-place c.self.inside c.args.self.now c.self.view_is c.in_default.is))
+
+pub returns-in-Ok-clause-limit : goal.returns-in-Ok-clause-limit
+returns-in-Ok-clause-limit c =
+    let next : Progress = Reading c.self.inside.limits c.part_after.new.heights.items c.in-Ok.part (c.self.inside.at + length c.args.piece.now) in
+    let view : progress_of c.self.inside.refused next ≡ next = ap (λ (o : Option RasterFault). progress_of o next) c.in_default.is in
+    let here : next_place (progress_of c.self.inside.refused next) ≡ c.self.inside.at + length c.args.piece.now = ap next_place view ∙ place-reading c.self.inside.limits c.part_after.new.heights.items c.in-Ok.part (c.self.inside.at + length c.args.piece.now) in
+    subst (λ (n : ℕ). n ≤ 2 ^ 28) (sym here)
+    (place-within c.self.inside.limits (vec_len c.part_after.new.heights) c.in-Ok.part (c.self.inside.at + length c.args.piece.now) c.in-Ok.ensures.part c.in-Ok.ensures.place)
 
 pub returns-in-Ok-clause-good : goal.returns-in-Ok-clause-good
 returns-in-Ok-clause-good c =
@@ -72,4 +70,5 @@ returns-in-Ok-clause-unsettled c =
     let size : vec_len c.part_after.new.heights ≡ length c.part_after.new.heights.items = omega arith in
     λ fault. λ settled. still-open c.self.inside.limits c.part_after.new.heights.items c.in-Ok.part (c.self.inside.at + length c.args.piece.now) fault within
     (subst (λ (n : ℕ). IsPart c.self.inside.limits n c.in-Ok.part) size c.in-Ok.ensures.part)
+    (subst (λ (n : ℕ). IsPlace c.self.inside.limits n c.in-Ok.part (c.self.inside.at + length c.args.piece.now)) size c.in-Ok.ensures.place)
     (settled-reading c.self.inside.limits c.part_after.new.heights.items c.in-Ok.part (c.self.inside.at + length c.args.piece.now) fault (subst (λ (p : Progress). IsSettled p fault) view settled))
