@@ -10,12 +10,13 @@ use Rattle.pgm_header.specs.declared.fault.HeaderFault.TheVariants as header
 use Rattle.pgm_header.specs.Accepted.{IsHeader, HeaderAnswer, Part, Whole, Bad}
 use Rattle.pgm_header.specs.Reading as reading
 use Rattle.pgm_raster.specs.declared.fault.RasterFault.{RasterFault}
+use Rattle.pgm_raster.specs.declared.form.RasterForm.{RasterForm}
 use Rattle.pgm_raster.specs.declared.fault.RasterFault.TheVariants as raster
 use Rattle.pgm_raster.specs.RasterText.{IsRaster}
 use Rattle.pgm_raster.specs.Laws.{RastersAreRead, OnlyWantedSamplesAreRead}
 use Rattle.pgm_raster.specs.Progress as samples
 use Rattle.pgm_grid.specs.declared.fault.PgmFault.{PgmFault}
-use Rattle.pgm_grid.specs.declared.fault.PgmFault.TheVariants.{BadMagic, BadHeader, HeaderTooLong, BadMaxval, NotSquare, BadSide, Truncated, BadSample, AboveMaxval, Trailing, NoMemory}
+use Rattle.pgm_grid.specs.declared.fault.PgmFault.TheVariants.{BadMagic, BadHeader, HeaderTooLong, BadMaxval, NotSquare, BadSide, Truncated, BadSample, AboveMaxval, Trailing, NoMemory, TooLong}
 use Rattle.pgm_grid.specs.PgmText.{points_of, form_of, most_bytes}
 use Rattle.pgm_grid.specs.Progress.{Progress, InHeader, InRaster, HasRefused, header_fault, raster_fault, grid_with, grid_answer, samples_at, file_answer, resume, grid_of, taken, IsSettled, ReadsRasters, EndsHeader}
 use Rattle.pgm_grid.specs.Stage.{IsOpenHeader, IsBehind, HasRead, BeginsRaster, Takes, Stops}
@@ -41,21 +42,30 @@ header-truncated header.BadSide e = cc
 -- no two refusals of a raster are the same of a file
 same_raster : (one other : RasterFault) → raster_fault one ≡ raster_fault other → one ≡ other
 same_raster (raster.BadSample at) (raster.BadSample place) e = cc
-same_raster (raster.BadSample at) (raster.AboveMaxval index) e = absurd cc
+same_raster (raster.BadSample at) (raster.AboveMaxval place) e = absurd cc
 same_raster (raster.BadSample at) (raster.Trailing place) e = absurd cc
 same_raster (raster.BadSample at) raster.Truncated e = absurd cc
-same_raster (raster.AboveMaxval index) (raster.BadSample place) e = absurd cc
-same_raster (raster.AboveMaxval index) (raster.AboveMaxval other) e = cc
-same_raster (raster.AboveMaxval index) (raster.Trailing place) e = absurd cc
-same_raster (raster.AboveMaxval index) raster.Truncated e = absurd cc
+same_raster (raster.BadSample at) raster.TooLong e = absurd cc
+same_raster (raster.AboveMaxval at) (raster.BadSample place) e = absurd cc
+same_raster (raster.AboveMaxval at) (raster.AboveMaxval place) e = cc
+same_raster (raster.AboveMaxval at) (raster.Trailing place) e = absurd cc
+same_raster (raster.AboveMaxval at) raster.Truncated e = absurd cc
+same_raster (raster.AboveMaxval at) raster.TooLong e = absurd cc
 same_raster (raster.Trailing at) (raster.BadSample place) e = absurd cc
-same_raster (raster.Trailing at) (raster.AboveMaxval index) e = absurd cc
+same_raster (raster.Trailing at) (raster.AboveMaxval place) e = absurd cc
 same_raster (raster.Trailing at) (raster.Trailing place) e = cc
 same_raster (raster.Trailing at) raster.Truncated e = absurd cc
+same_raster (raster.Trailing at) raster.TooLong e = absurd cc
 same_raster raster.Truncated (raster.BadSample place) e = absurd cc
-same_raster raster.Truncated (raster.AboveMaxval index) e = absurd cc
+same_raster raster.Truncated (raster.AboveMaxval place) e = absurd cc
 same_raster raster.Truncated (raster.Trailing place) e = absurd cc
-same_raster raster.Truncated raster.Truncated e = refl
+same_raster raster.Truncated raster.Truncated e = cc
+same_raster raster.Truncated raster.TooLong e = absurd cc
+same_raster raster.TooLong (raster.BadSample place) e = absurd cc
+same_raster raster.TooLong (raster.AboveMaxval place) e = absurd cc
+same_raster raster.TooLong (raster.Trailing place) e = absurd cc
+same_raster raster.TooLong raster.Truncated e = absurd cc
+same_raster raster.TooLong raster.TooLong e = cc
 
 err-same : {A E : Type 0} (one other : E) → ◌≡◌ {A = Result A E} (Err one) (Err other) → one ≡ other
 err-same one other e = cc
@@ -141,6 +151,7 @@ no_raster-memory (raster.BadSample at) e = cc
 no_raster-memory (raster.AboveMaxval index) e = cc
 no_raster-memory (raster.Trailing at) e = cc
 no_raster-memory raster.Truncated e = cc
+no_raster-memory raster.TooLong e = cc
 
 -- a piece of a raster that had refused nothing was refused
 pub raster-stops : (header : Header) (old : samples.Progress) (piece : List ℕ) (fault : PgmFault)
@@ -231,7 +242,7 @@ module _ (start reader : reading.Progress) (piece : List ℕ) (begun : IsOpenHea
           let here : reading.taken start + length (take (count + 1) piece ++ text) - length text ≡ at = omega (arith, sum, place, so_far.counted) in
           ap (file_answer (reading.taken start + length (take (count + 1) piece ++ text))) answer
           ∙ ap (λ k. grid_answer header (samples_at header k text)) here
-          ∙ ap (grid_answer header) (rasters (form_of header.plain header.maxval) (points_of header.n) header.maxval at heights text is many bounded)
+          ∙ ap (grid_answer header) (rasters (form_of header.plain header.maxval) (points_of header.n) header.maxval at heights text (omega (arith, short, place, so_far.counted)) is many bounded)
         where
           front-byte : take (count + 1) piece ≡ take count piece ++ byte ∷ []
           front-byte =
@@ -359,3 +370,36 @@ whole-field header reader heights before e =
       count = found.0;
       bounded = found.1;
     }
+
+-- Answers of calls.
+
+pub both-err : {A E : Type 0} (answer : Result A E) (P Q R : E → Type 0) → ((fault : E) → P fault → Q fault → R fault) → IfErr answer P → IfErr answer Q → IfErr answer R
+both-err (Ok value) P Q R proof p q = tt
+both-err (Err fault) P Q R proof p q = proof fault p q
+
+pub weaker-err : {A E : Type 0} (answer : Result A E) (P Q : E → Type 0) → ((fault : E) → P fault → Q fault) → IfErr answer P → IfErr answer Q
+weaker-err (Ok value) P Q proof p = tt
+weaker-err (Err fault) P Q proof p = proof fault p
+
+-- a reader of the raster that the header wants
+pub begun-means : (header : Header) (form : RasterForm) (count at : ℕ) (reader : samples.Progress)
+    → form ≡ form_of header.plain header.maxval → count ≡ points_of header.n
+    → ((more : List ℕ) → samples.resume reader more ≡ samples.raster_of form count header.maxval at more)
+    → (more : List ℕ) → samples.resume reader more ≡ samples_at header at more
+begun-means header form count at reader is many means more =
+    means more ∙ ap (λ f. samples.raster_of f count header.maxval at more) is
+    ∙ ap (λ k. samples.raster_of (form_of header.plain header.maxval) k header.maxval at more) many
+
+-- a reader that has refused refuses all
+pub stopped-stops : (fault : PgmFault) (piece : List ℕ) → Stops (HasRefused fault) piece fault
+unfolding IsSettled resume
+stopped-stops fault piece = record {
+  refusal = λ other more. refl;
+  no_memory = λ e. inl (λ more. ap Err e);
+  sticks = λ before settled. err-same before fault (sym (settled []));
+}
+
+-- what is settled stays so
+pub settled-takes : (old new : Progress) (piece : List ℕ) (fault : PgmFault) → Takes old new piece → IsSettled old fault → ⊥
+unfolding IsSettled
+settled-takes old new piece fault takes settled = takes.unsettled fault (λ more. sym (takes.means more) ∙ settled (piece ++ more))

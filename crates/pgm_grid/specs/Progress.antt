@@ -15,7 +15,7 @@ use Rattle.pgm_raster.specs.declared.fault.RasterFault.TheVariants as raster
 use Rattle.pgm_raster.specs.RasterText.{IsRaster}
 use Rattle.pgm_raster.specs.Progress as samples
 use Rattle.pgm_grid.specs.declared.fault.PgmFault.{PgmFault}
-use Rattle.pgm_grid.specs.declared.fault.PgmFault.TheVariants.{BadMagic, BadHeader, HeaderTooLong, BadMaxval, NotSquare, BadSide, Truncated, BadSample, AboveMaxval, Trailing}
+use Rattle.pgm_grid.specs.declared.fault.PgmFault.TheVariants.{BadMagic, BadHeader, HeaderTooLong, BadMaxval, NotSquare, BadSide, Truncated, BadSample, AboveMaxval, Trailing, TooLong}
 use Rattle.pgm_grid.specs.PgmText.{points_of, form_of, most_bytes}
 
 -- what a reader has come to: a part of a header; an accepted header and a part of its raster; or a refusal
@@ -39,6 +39,7 @@ raster_fault (raster.BadSample at) = BadSample at
 raster_fault (raster.AboveMaxval index) = AboveMaxval index
 raster_fault (raster.Trailing at) = Trailing at
 raster_fault raster.Truncated = Truncated
+raster_fault raster.TooLong = TooLong
 
 -- the grid of a header and its heights
 abbrev pub grid_with : Header → List ℕ → HeightField

@@ -1,6 +1,6 @@
 //! What the bytes so far have come to, and what further bytes make of it.
 
-ghost use Rattle.std.specs.Prelude.{◌≡◌, ◌≢◌, ◌≤◌, ◌++◌, ℕ, List, [], IfOk, IfErr, Err};
+ghost use Rattle.std.specs.Prelude.{◌≡◌, ◌≢◌, ◌<◌, ◌≤◌, ◌+◌, ◌++◌, ℕ, List, [], length, drop, IfOk, IfErr, Err};
 ghost use Rattle.pgm_header.specs.Accepted.{IsHeader};
 ghost use Rattle.pgm_grid.specs.PgmText.{form_of};
 ghost use Rattle.pgm_grid.specs.Progress.{InHeader, InRaster, header_fault, raster_fault, resume, grid_answer, samples_at};
@@ -54,12 +54,21 @@ fn header_after(
             Ok(None) => {}
             Ok(Some(header)) => {
                 let at = u64::from(reader.place()) + 1;
-                return raster_begun(alloc, header, at, &piece[i + 1..]);
+                let rest = bytes_behind(piece, i);
+                return raster_begun(alloc, header, at, rest);
             }
             Err(fault) => return Err(fault_of_header(fault)),
         }
     }
     Ok(Stage::InHeader(reader))
+}
+
+/// The bytes of a piece behind the one at this index.
+fn bytes_behind(piece: &[u8], index: usize) -> &[u8]
+    requires { index < length piece.now }
+    ensures { result.now ≡ drop (index + 1) piece.now }
+{
+    &piece[index + 1..]
 }
 
 /// What the bytes after a header make, if there is room for the heights. The first has this place.
@@ -96,7 +105,7 @@ fn raster_after(
     ensures valid { IfOk result IsStage }
     ensures takes { IfOk result (λ next. Takes (InRaster header reader) (progress_of next) piece.now) }
     ensures refusal { IfErr result (λ fault. (more : List ℕ) → resume (InRaster header reader) (piece.now ++ more) ≡ Err fault) }
-    ensures room { result ≢ Err PgmFault.NoMemory }
+    ensures room { IfErr result (λ fault. fault ≢ PgmFault.NoMemory) }
 {
     match reader.feed(piece) {
         Ok(()) => Ok(Stage::InRaster(header, reader)),
@@ -140,6 +149,7 @@ fn fault_of_raster(fault: RasterFault) -> PgmFault
         RasterFault::AboveMaxval { index } => PgmFault::AboveMaxval { index },
         RasterFault::Trailing { at } => PgmFault::Trailing { at },
         RasterFault::Truncated => PgmFault::Truncated,
+        RasterFault::TooLong => PgmFault::TooLong,
     }
 }
 
