@@ -1,2 +1,3 @@
 pub mod GridLemmas
 pub mod ReaderLemmas
+pub mod FileLemmas

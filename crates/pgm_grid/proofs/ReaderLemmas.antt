@@ -23,7 +23,7 @@ use Rattle.pgm_grid.specs.Stage.{IsOpenHeader, IsBehind, HasRead, BeginsRaster, 
 
 -- Faults.
 
-no_header-memory : (fault : HeaderFault) → header_fault fault ≡ NoMemory → ⊥
+pub no_header-memory : (fault : HeaderFault) → header_fault fault ≡ NoMemory → ⊥
 no_header-memory header.BadMagic e = cc
 no_header-memory (header.BadHeader at) e = cc
 no_header-memory header.HeaderTooLong e = cc
@@ -31,7 +31,7 @@ no_header-memory header.BadMaxval e = cc
 no_header-memory header.NotSquare e = cc
 no_header-memory header.BadSide e = cc
 
-header-truncated : (fault : HeaderFault) → header_fault fault ≡ Truncated → ⊥
+pub header-truncated : (fault : HeaderFault) → header_fault fault ≡ Truncated → ⊥
 header-truncated header.BadMagic e = cc
 header-truncated (header.BadHeader at) e = cc
 header-truncated header.HeaderTooLong e = cc
@@ -40,7 +40,7 @@ header-truncated header.NotSquare e = cc
 header-truncated header.BadSide e = cc
 
 -- no two refusals of a raster are the same of a file
-same_raster : (one other : RasterFault) → raster_fault one ≡ raster_fault other → one ≡ other
+pub same_raster : (one other : RasterFault) → raster_fault one ≡ raster_fault other → one ≡ other
 same_raster (raster.BadSample at) (raster.BadSample place) e = cc
 same_raster (raster.BadSample at) (raster.AboveMaxval place) e = absurd cc
 same_raster (raster.BadSample at) (raster.Trailing place) e = absurd cc
@@ -67,10 +67,10 @@ same_raster raster.TooLong (raster.Trailing place) e = absurd cc
 same_raster raster.TooLong raster.Truncated e = absurd cc
 same_raster raster.TooLong raster.TooLong e = cc
 
-err-same : {A E : Type 0} (one other : E) → ◌≡◌ {A = Result A E} (Err one) (Err other) → one ≡ other
+pub err-same : {A E : Type 0} (one other : E) → ◌≡◌ {A = Result A E} (Err one) (Err other) → one ≡ other
 err-same one other e = cc
 
-ok-err : {A E : Type 0} (value : A) (fault : E) → ◌≡◌ {A = Result A E} (Ok value) (Err fault) → ⊥
+pub ok-err : {A E : Type 0} (value : A) (fault : E) → ◌≡◌ {A = Result A E} (Ok value) (Err fault) → ⊥
 ok-err value fault e = cc
 
 -- Settled readers.
@@ -92,7 +92,7 @@ unsettled-header reader fault free settled =
     header-truncated free.refusable.1 (err-same _ _ (bad ∙ sym last))
 
 -- an answer of the raster that is a refusal
-raster-refused : (header : Header) (answer : samples.Answer) (fault : PgmFault) → grid_answer header answer ≡ Err fault
+pub raster-refused : (header : Header) (answer : samples.Answer) (fault : PgmFault) → grid_answer header answer ≡ Err fault
     → (found : RasterFault) × (answer ≡ Err found) × (raster_fault found ≡ fault)
 raster-refused header (Ok heights) fault e = absurd (ok-err (grid_with header heights) fault e)
 raster-refused header (Err found) fault e = (found, refl, err-same (raster_fault found) fault e)
@@ -104,8 +104,8 @@ unfolding IsSettled resume samples.IsSettled
 unsettled-raster header reader fault free settled =
     let first = raster-refused header (samples.resume reader []) fault (settled []) in
     free first.0 (λ more.
-        let other = raster-refused header (samples.resume reader more) fault (settled more) in
-        other.1 ∙ ap Err (same_raster other.0 first.0 (other.2 ∙ sym first.2)))
+    let other = raster-refused header (samples.resume reader more) fault (settled more) in
+    other.1 ∙ ap Err (same_raster other.0 first.0 (other.2 ∙ sym first.2)))
 
 -- Rasters.
 
@@ -213,7 +213,7 @@ module _ (start reader : reading.Progress) (piece : List ℕ) (begun : IsOpenHea
       whole-answer more =
           let total = length (piece ++ more) in
           let sum : length (piece ++ more) ≡ count + 1 + length (rest ++ more) =
-              ap (λ p. length (p ++ more)) cut ∙ omega (arith, size, length-append (take count piece ++ (byte ∷ rest)) more, length-append (take count piece) (byte ∷ rest), length-append rest more) in
+          ap (λ p. length (p ++ more)) cut ∙ omega (arith, size, length-append (take count piece ++ (byte ∷ rest)) more, length-append (take count piece) (byte ∷ rest), length-append rest more) in
           let here : reading.taken start + length (piece ++ more) - length (rest ++ more) ≡ at = omega (arith, sum, place, so_far.counted) in
           ap (file_answer (reading.taken start + length (piece ++ more))) (from-byte more ∙ ends (rest ++ more))
           ∙ ap (λ k. grid_answer header (samples_at header k (rest ++ more))) here
@@ -235,10 +235,10 @@ module _ (start reader : reading.Progress) (piece : List ℕ) (begun : IsOpenHea
       header-reads rasters heights text is many bounded short =
           let front : take (count + 1) piece ≡ take count piece ++ byte ∷ [] = front-byte in
           let answer : reading.resume start (take (count + 1) piece ++ text) ≡ Whole header text =
-              ap (λ p. reading.resume start (p ++ text)) front ∙ ap (reading.resume start) (append_assoc (take count piece) (byte ∷ []) text)
-              ∙ so_far.means (byte ∷ text) ∙ ends text in
+          ap (λ p. reading.resume start (p ++ text)) front ∙ ap (reading.resume start) (append_assoc (take count piece) (byte ∷ []) text)
+          ∙ so_far.means (byte ∷ text) ∙ ends text in
           let sum : length (take (count + 1) piece ++ text) ≡ count + 1 + length text =
-              ap (λ p. length (p ++ text)) front ∙ omega (arith, size, length-append (take count piece ++ byte ∷ []) text, length-append (take count piece) (byte ∷ [])) in
+          ap (λ p. length (p ++ text)) front ∙ omega (arith, size, length-append (take count piece ++ byte ∷ []) text, length-append (take count piece) (byte ∷ [])) in
           let here : reading.taken start + length (take (count + 1) piece ++ text) - length text ≡ at = omega (arith, sum, place, so_far.counted) in
           ap (file_answer (reading.taken start + length (take (count + 1) piece ++ text))) answer
           ∙ ap (λ k. grid_answer header (samples_at header k text)) here

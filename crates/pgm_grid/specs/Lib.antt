@@ -3,3 +3,4 @@ pub mod GridView
 pub mod PgmText
 pub mod Progress
 pub mod Stage
+pub mod Laws

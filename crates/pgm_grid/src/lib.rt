@@ -9,13 +9,13 @@
 
 mod fault;
 mod grid;
-
+mod laws;
 mod reader;
 mod stage;
 
 pub use fault::PgmFault;
 pub use grid::Grid;
-
+pub use laws::grids_and_texts;
 pub use reader::PgmReader;
 
 #[cfg(test)]

@@ -38,11 +38,7 @@ pub(crate) fn stage_after(alloc: Global, stage: Stage, piece: &[u8]) -> Result<S
 }
 
 /// What further bytes make of a part of a header.
-fn header_after(
-    alloc: Global,
-    mut reader: HeaderReader,
-    piece: &[u8],
-) -> Result<Stage, PgmFault>
+fn header_after(alloc: Global, mut reader: HeaderReader, piece: &[u8]) -> Result<Stage, PgmFault>
     requires { IsOpenHeader reader }
     ensures valid { IfOk result IsStage }
     ensures takes { IfOk result (λ next. Takes (InHeader reader) (progress_of next) piece.now) }
@@ -72,12 +68,7 @@ fn bytes_behind(piece: &[u8], index: usize) -> &[u8]
 }
 
 /// What the bytes after a header make, if there is room for the heights. The first has this place.
-fn raster_begun(
-    alloc: Global,
-    header: Header,
-    at: u64,
-    rest: &[u8],
-) -> Result<Stage, PgmFault>
+fn raster_begun(alloc: Global, header: Header, at: u64, rest: &[u8]) -> Result<Stage, PgmFault>
     requires valid { IsHeader header }
     requires place { at ≤ 65536 }
     ensures valid { IfOk result IsStage }
@@ -96,11 +87,7 @@ fn raster_begun(
 }
 
 /// What further bytes make of a part of a raster.
-fn raster_after(
-    header: Header,
-    mut reader: RasterReader,
-    piece: &[u8],
-) -> Result<Stage, PgmFault>
+fn raster_after(header: Header, mut reader: RasterReader, piece: &[u8]) -> Result<Stage, PgmFault>
     requires { IsBehind header reader }
     ensures valid { IfOk result IsStage }
     ensures takes { IfOk result (λ next. Takes (InRaster header reader) (progress_of next) piece.now) }

@@ -1,0 +1,102 @@
+-- What the whole bytes of a file mean, in the words of the format. Places are counted from 0. The laws of
+-- rasters speak of files of at most 2 ^ 28 bytes; a longer one is refused, by its header, its raster or its length.
+-- Words: HasHeader, and a law a word.
+use Rattle.std.specs.Prelude.{◌≡◌, ◌≢◌, ◌↔◌, ◌⊎◌, ℕ, ◌+◌, ◌-◌, ◌^◌, ◌<◌, ◌≤◌, true, List, ◌++◌, length, take, All, Ok, Err, IfErr}
+use Rattle.mesh_defs.specs.HeightField.{HeightField, IsHeightField, side_of}
+use Rattle.pgm_header.specs.declared.accepted.Header.{Header}
+use Rattle.pgm_header.specs.declared.machine.HeaderValues.{HeaderValues}
+use Rattle.pgm_header.specs.HeaderText.{IsHeaderText, IsProperFront, IsUnfitAt, BeginsWithHeader}
+use Rattle.pgm_header.specs.Accepted.{IsLevel, IsMaxval, Accepts}
+use Rattle.pgm_raster.specs.RasterText.{IsCutShort, IsTrailingAt, IsAboveAt, IsBadSampleAt}
+use Rattle.pgm_raster.specs.Laws.{NoneIsRefused}
+use Rattle.pgm_grid.specs.declared.fault.PgmFault.{PgmFault}
+use Rattle.pgm_grid.specs.declared.fault.PgmFault.TheVariants.{BadMagic, BadHeader, HeaderTooLong, BadMaxval, NotSquare, BadSide, Truncated, BadSample, AboveMaxval, Trailing, NoMemory, TooLong}
+use Rattle.pgm_grid.specs.PgmText.{points_of, form_of, most_bytes, IsFileText}
+use Rattle.pgm_grid.specs.Progress.{grid_of, IsWholeHeader}
+
+-- the bytes are those of a file
+abbrev pub AreBytes : List ℕ → Type 0
+AreBytes bytes = All (λ b. b < 256) bytes
+
+-- the bytes begin with the text of an accepted header, behind which, from place `at` on, this is left
+pub record HasHeader (bytes : List ℕ) (header : Header) (at : ℕ) (rest : List ℕ) : Type 0 where
+  pub text : List ℕ
+  pub values : HeaderValues
+  pub is_text : IsHeaderText text values
+  pub short : length text ≤ 65536
+  pub accepts : Accepts values header
+  pub cut : bytes ≡ text ++ rest
+  pub place : at ≡ length text
+
+-- a file text of a grid is read as that grid
+abbrev pub TextsAreRead : Type 0
+TextsAreRead = (g : HeightField) (bytes : List ℕ) → IsHeightField g → IsFileText g bytes → grid_of bytes ≡ Ok g
+
+-- bytes that are read as a grid are a file text of it
+abbrev pub GridsHaveTexts : Type 0
+GridsHaveTexts = (g : HeightField) (bytes : List ℕ) → AreBytes bytes → grid_of bytes ≡ Ok g → IsHeightField g × IsFileText g bytes
+
+-- bytes that are read as a grid begin with a whole accepted header
+abbrev pub GridsHaveHeaders : Type 0
+GridsHaveHeaders = (g : HeightField) (bytes : List ℕ) → grid_of bytes ≡ Ok g → (front rest : List ℕ) × (bytes ≡ front ++ rest) × IsWholeHeader front
+
+-- BadMagic exactly where the first or the second byte continues no header
+abbrev pub BadMagicsAreRefused : Type 0
+BadMagicsAreRefused = (bytes : List ℕ) → (grid_of bytes ≡ Err BadMagic) ↔ ((place : ℕ) × (place < 2) × IsUnfitAt bytes place)
+
+-- a bad header exactly at the place of the byte that continues none
+abbrev pub BadHeadersAreRefused : Type 0
+BadHeadersAreRefused = (bytes : List ℕ) (place : ℕ) → (grid_of bytes ≡ Err (BadHeader place)) ↔ ((2 ≤ place) × (place < 65536) × IsUnfitAt bytes place)
+
+-- a header is too long exactly where 65,536 bytes are a part of one
+abbrev pub LongHeadersAreRefused : Type 0
+LongHeadersAreRefused = (bytes : List ℕ) → (grid_of bytes ≡ Err HeaderTooLong) ↔ ((65536 ≤ length bytes) × IsProperFront (take 65536 bytes))
+
+-- a bad maxval exactly where a whole header has one
+abbrev pub BadMaxvalsAreRefused : Type 0
+BadMaxvalsAreRefused = (bytes : List ℕ) → (grid_of bytes ≡ Err BadMaxval) ↔ ((values : HeaderValues) × BeginsWithHeader bytes values × (IsMaxval values.maxval → ⊥))
+
+-- else not square exactly where its width and height differ
+abbrev pub OblongsAreRefused : Type 0
+OblongsAreRefused = (bytes : List ℕ) → (grid_of bytes ≡ Err NotSquare)
+    ↔ ((values : HeaderValues) × BeginsWithHeader bytes values × IsMaxval values.maxval × (values.width ≢ values.height))
+
+-- else a bad side exactly where the side is none of the eleven
+abbrev pub BadSidesAreRefused : Type 0
+BadSidesAreRefused = (bytes : List ℕ) → (grid_of bytes ≡ Err BadSide)
+    ↔ ((values : HeaderValues) × BeginsWithHeader bytes values × IsMaxval values.maxval × (values.width ≡ values.height)
+    × ((n : ℕ) → IsLevel n → values.width ≢ side_of n))
+
+-- truncated exactly where the bytes end before their header does, or before their samples do
+abbrev pub CutTextsAreRefused : Type 0
+CutTextsAreRefused = (bytes : List ℕ) → AreBytes bytes → length bytes ≤ most_bytes → (grid_of bytes ≡ Err Truncated)
+    ↔ ((IsProperFront bytes × (length bytes < 65536))
+    ⊎ ((header : Header) × (at : ℕ) × (rest : List ℕ) × HasHeader bytes header at rest × IsCutShort (form_of header.plain header.maxval) (points_of header.n) header.maxval rest))
+
+-- a trailing byte exactly at the place of the first that may not stand behind the last sample
+abbrev pub TrailingBytesAreRefused : Type 0
+TrailingBytesAreRefused = (bytes : List ℕ) (p : ℕ) → AreBytes bytes → length bytes ≤ most_bytes → (grid_of bytes ≡ Err (Trailing p))
+    ↔ ((header : Header) × (at : ℕ) × (rest : List ℕ) × HasHeader bytes header at rest
+    × ((place : ℕ) × (p ≡ at + place) × IsTrailingAt (form_of header.plain header.maxval) (points_of header.n) header.maxval rest place))
+
+-- above maxval exactly at the index of the first sample that is
+abbrev pub GreatSamplesAreRefused : Type 0
+GreatSamplesAreRefused = (bytes : List ℕ) (index : ℕ) → AreBytes bytes → length bytes ≤ most_bytes → (grid_of bytes ≡ Err (AboveMaxval index))
+    ↔ ((header : Header) × (at : ℕ) × (rest : List ℕ) × HasHeader bytes header at rest
+    × IsAboveAt (form_of header.plain header.maxval) (points_of header.n) header.maxval rest index)
+
+-- a bad sample exactly at the place of the byte that continues none, in plain rasters alone
+abbrev pub BadSamplesAreRefused : Type 0
+BadSamplesAreRefused = (bytes : List ℕ) (p : ℕ) → AreBytes bytes → length bytes ≤ most_bytes → (grid_of bytes ≡ Err (BadSample p))
+    ↔ ((header : Header) × (at : ℕ) × (rest : List ℕ) × HasHeader bytes header at rest
+    × ((header.plain ≡ true) × (place : ℕ) × (p ≡ at + place) × IsBadSampleAt (points_of header.n) header.maxval rest place))
+
+-- too long exactly where a plain file has more than 2 ^ 28 bytes, of whose first 2 ^ 28 none is refused
+abbrev pub LongFilesAreRefused : Type 0
+LongFilesAreRefused = (bytes : List ℕ) → (grid_of bytes ≡ Err TooLong)
+    ↔ ((header : Header) × (at : ℕ) × (rest : List ℕ) × HasHeader bytes header at rest
+    × ((header.plain ≡ true) × (most_bytes < length bytes) × NoneIsRefused (points_of header.n) header.maxval at (take (most_bytes - at) rest)))
+
+-- no bytes of a file are want of memory
+abbrev pub OthersAreAbsent : Type 0
+OthersAreAbsent = (bytes : List ℕ) → IfErr (grid_of bytes) (λ fault. fault ≢ NoMemory)

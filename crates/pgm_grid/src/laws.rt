@@ -1,0 +1,28 @@
+//! What the whole bytes of a file mean.
+
+ghost use Rattle.pgm_grid.specs.Laws.{TextsAreRead, GridsHaveTexts, GridsHaveHeaders, BadMagicsAreRefused, BadHeadersAreRefused, LongHeadersAreRefused, BadMaxvalsAreRefused, OblongsAreRefused, BadSidesAreRefused, CutTextsAreRefused, TrailingBytesAreRefused, GreatSamplesAreRefused, BadSamplesAreRefused, LongFilesAreRefused, OthersAreAbsent};
+
+use pgm_header::header_laws;
+use pgm_raster::raster_laws;
+
+/// States what `grid_of` answers for the whole bytes of a file, in the words of the format. It does nothing.
+pub fn grids_and_texts()
+    ensures texts { TextsAreRead }
+    ensures grids { GridsHaveTexts }
+    ensures headers { GridsHaveHeaders }
+    ensures bad_magic { BadMagicsAreRefused }
+    ensures bad_header { BadHeadersAreRefused }
+    ensures header_too_long { LongHeadersAreRefused }
+    ensures bad_maxval { BadMaxvalsAreRefused }
+    ensures not_square { OblongsAreRefused }
+    ensures bad_side { BadSidesAreRefused }
+    ensures truncated { CutTextsAreRefused }
+    ensures trailing { TrailingBytesAreRefused }
+    ensures above_maxval { GreatSamplesAreRefused }
+    ensures bad_sample { BadSamplesAreRefused }
+    ensures too_long { LongFilesAreRefused }
+    ensures others { OthersAreAbsent }
+{
+    header_laws();
+    raster_laws();
+}
