@@ -1,5 +1,5 @@
 -- Each address counts where its priority is positive, up to the last splittable one.
-use Rattle.std.proofs.Common.{◌≡◌, ℕ, ◌+◌, ◌*◌, ◌^◌, ◌<◌, ◌≤◌, subst, sym, ◌∙◌, arith}
+use Rattle.std.proofs.Common.{◌≡◌, ◌+◌, ◌*◌, ◌^◌, subst, ◌∙◌, arith}
 use Rattle.mesh_defs.specs.Priority.{priority_of}
 use Rattle.view_priority.specs.Camera.{view_from}
 use Rattle.plain_mesh.specs.Ranks.{positives_below}

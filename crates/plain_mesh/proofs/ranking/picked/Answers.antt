@@ -1,10 +1,10 @@
 -- Each address is taken where its priority is positive, up to the last splittable one.
-use Rattle.std.proofs.Common.{◌≡◌, ℕ, ◌+◌, ◌*◌, ◌^◌, ◌≤◌, List, ap, subst, sym, ◌∙◌, arith}
+use Rattle.std.proofs.Common.{◌≡◌, ◌+◌, ◌*◌, ◌^◌, List, ap, subst, sym, ◌∙◌, arith}
 use Rattle.mesh_defs.specs.Priority.{priority_of}
 use Rattle.bintree_addr.specs.declared.rank.Rank.{Rank}
 use Rattle.view_priority.specs.Camera.{view_from}
 use Rattle.plain_mesh.specs.Ranks.{IsPicked}
-use Rattle.plain_mesh.proofs.PickLemmas.{IsPicked-nothing, IsPicked-push, IsPicked-skip}
+use Rattle.plain_mesh.proofs.PickLemmas.{IsPicked-push, IsPicked-skip}
 use Rattle.plain_mesh.proofs.ranking.picked.Goals.{then-entry-gt0+in_ok-push, else-entry-gt0}
 use Rattle.plain_mesh.proofs.ranking.picked.Goals as goal
 
