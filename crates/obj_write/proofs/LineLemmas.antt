@@ -1,6 +1,6 @@
 -- The lines of vertices and of faces, one more at a time.
-use Rattle.std.proofs.Common.{◌≡◌, ℕ, suc, ◌+◌, ◌-◌, ◌*◌, ◌<◌, ◌≤◌, true, false, cond, ◌||◌, List, [], ◌∷◌, ◌++◌, length, map, filter, flat_map, get_or, take, drop, take-append-drop, Option, Some, None, refl, sym, ◌∙◌, ap, ap₂, arith, append_assoc, append-nil}
-use Rattle.std.specs.List.{range_with_len, list_any}
+use Rattle.std.proofs.Common.{◌≡◌, ℕ, suc, ◌+◌, ◌-◌, ◌*◌, ◌<◌, ◌≤◌, true, false, cond, List, [], ◌∷◌, ◌++◌, length, map, filter, flat_map, get_or, take, drop, take-append-drop, Option, Some, None, refl, sym, ◌∙◌, ap, ap₂, arith, append_assoc, append-nil}
+use Rattle.std.specs.List.{range_with_len}
 use Rattle.std.proofs.lemmas.Grind.{flat_map-append}
 use Rattle.std.proofs.Math.Seq.{drop-cons}
 use Rattle.std.proofs.lemmas.List.{take_more}

@@ -1,7 +1,7 @@
 -- The numbers that are counted from marks are those of the vertices.
-use Rattle.std.proofs.Common.{◌≡◌, ℕ, zero, suc, ◌+◌, ◌*◌, ◌^◌, ◌<◌, ◌≤◌, Bool, true, false, cond, ◌||◌, not, ltb, List, [], ◌∷◌, ◌++◌, length, map, filter, get_or, position, unwrap_or, Option, Some, None, refl, ◌⊎◌, inl, inr, sym, ◌∙◌, ap, ap₂, arith, append_assoc, drop}
+use Rattle.std.proofs.Common.{◌≡◌, ℕ, zero, suc, ◌+◌, ◌*◌, ◌^◌, ◌<◌, ◌≤◌, Bool, true, false, cond, ◌||◌, not, ltb, List, [], ◌∷◌, ◌++◌, length, map, filter, get_or, position, unwrap_or, Some, None, refl, inl, inr, sym, ◌∙◌, ap, ap₂, arith, append_assoc}
 use Rattle.std.specs.List.{range_with_len, list_any, position_or_len}
-use Rattle.std.proofs.lemmas.Bool.{false≢true, or_parts, ne_eqb, lt-ltb, cases_lt}
+use Rattle.std.proofs.lemmas.Bool.{or_parts, lt-ltb, cases_lt}
 use Rattle.std.proofs.lemmas.List.{get_or-map, length-map, length_push}
 use Rattle.std.proofs.lemmas.List.Folds.{list_any-append}
 use Rattle.std.proofs.lemmas.List.FromFn.{get_or-map-range_with_len, length-map-range_with_len}

@@ -1,5 +1,5 @@
 -- Text that goes through a page: one after another, cut short, and the whole mesh.
-use Rattle.std.proofs.Common.{◌≡◌, ℕ, true, false, List, [], ◌∷◌, ◌++◌, Option, Some, refl, sym, ◌∙◌, ap, inl, inr, append_assoc, append-nil}
+use Rattle.std.proofs.Common.{◌≡◌, ℕ, true, false, List, [], ◌∷◌, ◌++◌, Option, Some, refl, sym, ◌∙◌, ap, inr, append_assoc, append-nil}
 use Rattle.roam_edge.specs.MeshSink.{Mesh, begun, longer, closed}
 use Rattle.roam_edge.specs.Told.{IsFront}
 use Rattle.obj_write.specs.Page.{Passed, Broken}

@@ -1,6 +1,6 @@
 -- The text of a mesh view, and what a mesh view has to be. This project's own words.
 -- Words: view_text, IsView, IsShown, vertices_to, vertex_lines, last_mark, group_text.
-use Rattle.std.specs.Prelude.{◌≡◌, ℕ, ◌*◌, ◌≤◌, Bool, true, List, [], ◌∷◌, ◌++◌, Option, Some, None, map, filter, flat_map, All, codes}
+use Rattle.std.specs.Prelude.{◌≡◌, ℕ, ◌*◌, ◌≤◌, true, List, [], ◌∷◌, ◌++◌, Option, Some, map, filter, flat_map, All, codes}
 use Rattle.std.specs.List.{range_with_len}
 use Rattle.mesh_defs.specs.declared.point.Point.{Point}
 use Rattle.mesh_defs.specs.declared.mark.Mark.{Mark}

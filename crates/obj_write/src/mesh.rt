@@ -231,7 +231,7 @@ fn write_group<M: MeshSink>(
     if planes.len() == 0 || is_before(before, mark) {
         return Ok(());
     }
-    write_text(page, out, group_line(mark))
+    write_text(page, out, group_text(mark))
 }
 
 /// Whether the mark is the one before.
@@ -245,7 +245,7 @@ fn is_before(before: Option<Mark>, mark: Mark) -> bool
 }
 
 /// The group line of a mark.
-fn group_line(mark: Mark) -> &'static [u8]
+fn group_text(mark: Mark) -> &'static [u8]
     ensures value { result.now ≡ group_text mark }
     ensures short { length result.now ≤ 65 }
 {

@@ -1,6 +1,6 @@
 //! Texts of small meshes, worked by hand, and one of many lines that comes in pieces.
 
-ghost use Rattle.std.specs.Prelude.{◌≤◌, ◌*◌, IfOk, All};
+ghost use Rattle.std.specs.Prelude.{◌≡◌, ◌≤◌, ◌*◌, IfOk, All, false};
 ghost use Rattle.mesh_defs.specs.Triangle.{level_of};
 
 use crate::tests::pieces::Pieces;

@@ -1,22 +1,24 @@
 -- Frames: each is determined, is the best mesh, and is certified by what blocks.
-use Rattle.std.proofs.Common.{◌≡◌, ℕ, zero, suc, ◌+◌, ◌<◌, ◌≤◌, ◌↔◌, ◌⊎◌, inl, inr, Bool, List, [], ◌∷◌, length, slice_get, get_or, All, AllPairs, Contains, Option, None, Some, IsNone, IfSome, refl, sym, ◌∙◌, ap, ap₂, subst, arith, ⊎_elim}
-use Rattle.std.proofs.lemmas.Bool.{false≢true}
+use Rattle.std.proofs.Common.{◌≡◌, ℕ, zero, suc, ◌<◌, ◌≤◌, ◌↔◌, ◌⊎◌, inl, inr, Bool, List, [], ◌∷◌, length, slice_get, get_or, All, AllPairs, Contains, Option, None, Some, IsNone, IfSome, refl, sym, ◌∙◌, ap, ap₂, subst, arith, ⊎_elim}
+use Rattle.std.proofs.lemmas.Bool.{cases_lt, false≢true}
 use Rattle.std.proofs.lemmas.List.{length-map}
 use Rattle.std.proofs.lemmas.List.Elements.{All-contains}
-use Rattle.std.proofs.lemmas.Option.{slice_get_within, get_or_from_slice_get}
+use Rattle.std.proofs.lemmas.Option.{slice_get_within, get_or_from_slice_get, same_Some, none-some}
 use Rattle.mesh_defs.specs.Triangle.{IsSplittable}
-use Rattle.mesh_defs.specs.ClosedSet.{leaves_of, among}
+use Rattle.mesh_defs.specs.ClosedSet.{IsLeastClosed, leaves_of, among}
 use Rattle.mesh_defs.specs.Priority.{worst_of}
 use Rattle.mesh_defs.specs.Ranking.{RanksBefore, IsRanking, IsRankClosure, IsBlockedBy}
+use Rattle.mesh_defs.specs.Greedy.{IsFirstLeaf, with_triangle, IsGreedyEnd}
 use Rattle.mesh_defs.specs.BestMesh.{IsBestMesh}
+use Rattle.mesh_defs.proofs.RankingLemmas.{ranking_of, IsRanking-of}
 use Rattle.bintree_addr.specs.declared.blocked.Blocked.{Blocked}
 use Rattle.bintree_addr.specs.declared.rank.Rank.{Rank}
 use Rattle.tiling_laws.proofs.ListLemmas.{IsIn, IsIn-contains, Contains-in}
 use Rattle.diamond_rel.specs.Falling.{IsFalling}
 use Rattle.diamond_rel.proofs.ClosureLemmas.{leaves_of-same}
-use Rattle.diamond_rel.proofs.RankLemmas.{IsRankClosure-unique, IsBlockedBy-unique, IsGreedyEnd-closure, IsBestMesh-end}
+use Rattle.diamond_rel.proofs.RankLemmas.{IsRankClosure-unique, IsBlockedBy-unique, IsGreedyEnd-closure, IsBestMesh-end, IsRankClosure-greedy, IsBlockedBy-greedy, first_leaf-blocked}
 use Rattle.plain_mesh.specs.Frame.{IsFrame}
-use Rattle.plain_mesh.specs.Ranks.{triangles_of, HavePriorities, IsRanked}
+use Rattle.plain_mesh.specs.Ranks.{triangles_of, IsRanked}
 use Rattle.plain_mesh.specs.Stop.{IsStop}
 use Rattle.plain_mesh.proofs.ChoiceLemmas.{worst-zeros, leaves-zero, blocking-over, blocking-first, blocking-worst}
 
@@ -185,3 +187,51 @@ All-splittable n priority ranks r k d h = ((r.ranked.members (get_or ranks k d).
     is_in [] i e b = absurd (omega arith)
     is_in (x ∷ xs) zero e b = inl refl
     is_in (x ∷ xs) (suc i) e b = inr (is_in xs i e (omega arith))
+
+-- the end of greedy refinement is the frame
+
+-- where no leaf is worth a split
+pub IsFrame-done : (n budget : ℕ) (priority : ℕ → ℕ) (has : ℕ → Bool) → IsFalling n priority → 2 ≤ budget → IsGreedyEnd n budget priority has →
+    All (λ a. priority a ≡ 0) (leaves_of n has) → IsFrame n budget priority (leaves_of n has) 0 None
+IsFrame-done n budget priority has falling low end zeros =
+    let ranked = IsRanking-of n priority in
+    let closure = IsRankClosure-greedy n priority (ranking_of n priority) ranked falling budget has low end in
+    record {
+      ranking = ranking_of n priority;
+      chosen = closure.0;
+      has = has;
+      ranked = ranked;
+      closure = closure.1;
+      leaves = refl;
+      greatest = sym (worst-zeros priority (leaves_of n has) zeros);
+      unblocked = λ _. ⊎_elim
+          (λ (less : closure.0 < length (ranking_of n priority)).
+          let first = first_leaf-blocked n priority (ranking_of n priority) ranked falling budget closure.0 has closure.1 less low end in
+          let none = All-contains (λ a. priority a ≡ 0) (leaves_of n has) (get_or (ranking_of n priority) closure.0 0) zeros first.leaf in
+          let some = first.positive in absurd (omega arith))
+          (λ (all : length (ranking_of n priority) ≤ closure.0). let front = closure.1.front in omega arith)
+          (cases_lt closure.0 (length (ranking_of n priority)));
+      blocking = λ b some. absurd (none-some b some);
+    }
+
+-- where the first leaf in rank needs more than the budget
+pub IsFrame-stopped : (n budget : ℕ) (priority : ℕ → ℕ) (has next : ℕ → Bool) (b : Blocked) → IsFalling n priority → 2 ≤ budget → IsGreedyEnd n budget priority has →
+    IsFirstLeaf n priority has b.tri → IsLeastClosed n (with_triangle has b.tri) next → b.need ≡ length (leaves_of n next) →
+    IsFrame n budget priority (leaves_of n has) (priority b.tri) (Some b)
+IsFrame-stopped n budget priority has next b falling low end first least counted =
+    let ranked = IsRanking-of n priority in
+    let closure = IsRankClosure-greedy n priority (ranking_of n priority) ranked falling budget has low end in
+    let at : IsBlockedBy n (ranking_of n priority) closure.0 b.tri b.need =
+    subst (λ need. IsBlockedBy n (ranking_of n priority) closure.0 b.tri need) (sym counted)
+    (IsBlockedBy-greedy n priority (ranking_of n priority) ranked falling budget closure.0 has next b.tri low end closure.1 first least) in
+    record {
+      ranking = ranking_of n priority;
+      chosen = closure.0;
+      has = has;
+      ranked = ranked;
+      closure = closure.1;
+      leaves = refl;
+      greatest = blocking-worst n budget priority (ranking_of n priority) closure.0 has ranked falling closure.1 low b.tri b.need at;
+      unblocked = λ none. absurd (none-some b (sym none));
+      blocking = λ c some. subst (λ (z : Blocked). IsBlockedBy n (ranking_of n priority) closure.0 z.tri z.need) (same_Some b c some) at;
+    }

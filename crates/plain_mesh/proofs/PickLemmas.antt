@@ -1,5 +1,5 @@
 -- Picking what has a positive priority, and sorting it.
-use Rattle.std.proofs.Common.{◌≡◌, ℕ, zero, suc, ◌+◌, ◌-◌, ◌*◌, ◌^◌, ◌<◌, ◌≤◌, ◌⊎◌, inl, inr, ◌↔◌, Bool, true, false, cond, eqb, ltb, ltb-true, lt-ltb, List, [], ◌∷◌, ◌++◌, length, map, get_or, All, AllPairs, Contains, refl, sym, ◌∙◌, ap, subst, arith, ⊎_elim, count_by, eq-eqb}
+use Rattle.std.proofs.Common.{◌≡◌, true, ℕ, zero, suc, ◌+◌, ◌-◌, ◌*◌, ◌^◌, ◌<◌, ◌≤◌, ◌⊎◌, inl, inr, ◌↔◌, false, cond, eqb, ltb, ltb-true, lt-ltb, List, [], ◌∷◌, ◌++◌, map, get_or, All, AllPairs, refl, sym, ◌∙◌, ap, subst, arith, ⊎_elim, count_by, eq-eqb}
 use Rattle.std.proofs.lemmas.Bool.{cases_lt, cases_Bool, eqb-true, false≢true}
 use Rattle.std.proofs.lemmas.List.Elements.{All-nil, All-head, All-tail, All-push}
 use Rattle.std.proofs.lemmas.List.Kept.{AllPairs-cons}
@@ -21,6 +21,13 @@ use Rattle.plain_mesh.specs.Ranks.{triangles_of, HavePriorities, positives_below
 -- how often a stands in a list
 abbrev count_of : ℕ → List ℕ → ℕ
 count_of a xs = count_by (λ t. eqb t a) xs
+
+-- what is not found positive is 0
+pub not_positive : (p : ℕ) → (0 < p → false ≡ true) → p ≤ 0
+not_positive p h = ⊎_elim
+    (λ (none : p < 1). omega arith)
+    (λ (some : 1 ≤ p). absurd (false≢true (h (omega arith))))
+    (cases_lt p 1)
 
 -- picking
 

@@ -1,8 +1,7 @@
 //! The ranking: which triangles are worth a split, and in which order.
 
-ghost use Rattle.std.specs.Prelude.{◌≡◌, ◌<◌, ◌≤◌, ◌+◌, ◌*◌, ◌^◌, IfOk, map};
+ghost use Rattle.std.specs.Prelude.{◌≡◌, ◌<◌, ◌≤◌, ◌+◌, ◌*◌, ◌^◌, ◌↔◌, IsTrue, IfOk};
 ghost use Rattle.mesh_defs.specs.Priority.{priority_of};
-ghost use Rattle.mesh_defs.specs.Ranking.{IsRanking};
 ghost use Rattle.view_priority.specs.Camera.{view_from};
 ghost use Rattle.plain_mesh.specs.Ranks.{IsPicked, IsRanked, positives_below};
 
@@ -57,7 +56,7 @@ fn picked(
     let mut ranks = Vec::with_capacity(alloc, room as usize)?;
     for number in 2..end(w) {
         let entry = rank_at(w, camera, spacing, planes, number, &mut meter);
-        if entry.p > 0 {
+        if is_positive(&entry) {
             ranks.push(entry)?;
         }
     }
@@ -75,11 +74,19 @@ fn count_positive(w: &Wedges, camera: &Camera, spacing: u32, planes: &Planes) ->
     let mut meter = Meter::new();
     let mut count = 0;
     for number in 2..end(w) {
-        if rank_at(w, camera, spacing, planes, number, &mut meter).p > 0 {
+        let entry = rank_at(w, camera, spacing, planes, number, &mut meter);
+        if is_positive(&entry) {
             count += 1;
         }
     }
     count
+}
+
+/// Whether the triangle is worth a split.
+fn is_positive(entry: &Rank) -> bool
+    ensures { IsTrue result ↔ (0 < entry.now.p) }
+{
+    entry.p > 0
 }
 
 /// The first address past the splittable ones.

@@ -471,17 +471,16 @@ fn info_refuses_a_grid_as_mesh_does(rt: HostRuntime) -> Result<(), Fail> {
 
 #[test]
 fn words_that_are_no_command_open_nothing(rt: HostRuntime) -> Result<(), Fail> {
-    let cases = [
-        ["mesh", "g", "s", "out", "1", "1"],
-        ["mesh", "g", "s", "out", "1048577", "1"],
-        ["mesh", "g", "s", "out", "4x", "1"],
-        ["mesh", "g", "s", "out", "2", "0"],
-        ["mesh", "g", "s", "out", "2", "1025"],
-        ["mesh", "g", "s", "", "2", "1"],
-        ["info", "g", "s", "out", "2", "1"],
-    ];
-    for words in cases {
-        let (ran, calls) = run_frail(rt.alloc(), &words, b"frame\n", 64, 0)?;
+    for words in [
+        ["mesh", "g", "s", "out", "1", "1"].as_slice(),
+        &["mesh", "g", "s", "out", "1048577", "1"],
+        &["mesh", "g", "s", "out", "4x", "1"],
+        &["mesh", "g", "s", "out", "2", "0"],
+        &["mesh", "g", "s", "out", "2", "1025"],
+        &["mesh", "g", "s", "", "2", "1"],
+        &["info", "g", "s", "out", "2", "1"],
+    ] {
+        let (ran, calls) = run_frail(rt.alloc(), words, b"frame\n", 64, 0)?;
         assert_eq!(rt; ran.status, Status::Usage, "{words:?}");
         assert_eq!(rt; calls, 0, "{words:?}");
         assert_eq!(rt; ran.meshes.count(), 0, "{words:?}");
@@ -492,12 +491,17 @@ fn words_that_are_no_command_open_nothing(rt: HostRuntime) -> Result<(), Fail> {
 
 #[test]
 fn fewer_words_open_nothing(rt: HostRuntime) -> Result<(), Fail> {
-    for count in 0..6 {
-        let (ran, calls) = run_frail(rt.alloc(), &WORDS[..count], b"frame\n", 64, 0)?;
-        assert_eq!(rt; ran.status, Status::Usage, "{count} words");
-        assert_eq!(rt; calls, 0, "{count} words");
-    }
-    for words in [["info"].as_slice(), &["info", "g", "s"], &["Info", "g"]] {
+    for words in [
+        [].as_slice(),
+        &["mesh"],
+        &["mesh", "g"],
+        &["mesh", "g", "s"],
+        &["mesh", "g", "s", "out"],
+        &["mesh", "g", "s", "out", "2"],
+        &["info"],
+        &["info", "g", "s"],
+        &["Info", "g"],
+    ] {
         let (ran, calls) = run_frail(rt.alloc(), words, b"frame\n", 64, 0)?;
         assert_eq!(rt; ran.status, Status::Usage, "{words:?}");
         assert_eq!(rt; calls, 0, "{words:?}");

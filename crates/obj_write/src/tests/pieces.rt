@@ -1,6 +1,6 @@
 //! A sink that looks at the sizes of the pieces alone.
 
-ghost use Rattle.std.specs.Prelude.{◌≡◌, None};
+ghost use Rattle.std.specs.Prelude.{◌≡◌, false};
 
 use roam_edge::{Failed, MeshSink};
 

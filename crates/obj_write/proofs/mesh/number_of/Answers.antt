@@ -1,4 +1,4 @@
-use Rattle.std.proofs.Common.{◌≡◌, ◌∙◌, ◌<◌, ◌*◌, ap, get_or, length, arith}
+use Rattle.std.proofs.Common.{◌≡◌, ◌∙◌, ◌*◌, ap, get_or, length, arith}
 use Rattle.mesh_defs.specs.HeightField.{side_of, HeightField}
 use Rattle.obj_write.specs.VertexMarks.{grid_place}
 use Rattle.obj_write.proofs.NumberLemmas.{length-numbers, number-of-vertex}

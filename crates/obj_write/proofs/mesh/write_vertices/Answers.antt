@@ -1,13 +1,13 @@
-use Rattle.std.proofs.Common.{◌≡◌, ◌<◌, ◌≤◌, ◌+◌, ◌*◌, ◌∙◌, true, false, sym, ap, subst, get_or, length, arith, rules}
+use Rattle.std.proofs.Common.{◌≡◌, ◌*◌, ◌∙◌, sym, ap, subst, get_or, length, arith}
 use Rattle.std.proofs.lemmas.Result.{err_from_is_err_and}
 use Rattle.mesh_defs.specs.HeightField.{side_of, HeightField}
 use Rattle.mesh_defs.specs.MeshText.{vertex_line}
-use Rattle.obj_write.specs.VertexMarks.{place_point, is_vertex}
+use Rattle.obj_write.specs.VertexMarks.{place_point}
 use Rattle.obj_write.specs.Page.{Passed}
 use Rattle.obj_write.specs.MeshView.{vertex_lines}
 use Rattle.obj_write.proofs.NumberLemmas.{length-numbers, number-below, no-vertex, some-vertex}
 use Rattle.obj_write.proofs.PageLemmas.{passed-then, broken-page}
-use Rattle.obj_write.proofs.LineLemmas.{lines-skip, lines-step, lines-cut, lines_behind}
+use Rattle.obj_write.proofs.LineLemmas.{lines-skip, lines-step, lines-cut}
 use Rattle.obj_write.proofs.mesh.write_vertices.Goals as goal
 use Rattle.obj_write.proofs.mesh.write_vertices.Goals.{then-number-ne0+in_ok-write_vertex, else-number-ne0}
 

@@ -1,4 +1,4 @@
-use Rattle.std.proofs.Common.{◌≡◌, ◌<◌, ◌∙◌, ap, ap₂, length, take, sym, arith, ◌++◌, ◌∷◌, []}
+use Rattle.std.proofs.Common.{◌<◌, ◌∙◌, ap, length, take, sym, arith, ◌++◌, ◌∷◌, []}
 use Rattle.std.proofs.Math.ListN.{set}
 use Rattle.std.proofs.lemmas.List.{take_more}
 use Rattle.obj_write.specs.VertexMarks.{grid_place, vertex_marks}

@@ -1,4 +1,4 @@
-use Rattle.std.proofs.Common.{◌≡◌, ◌∙◌, ap}
+use Rattle.std.proofs.Common.{◌∙◌, ap}
 use Rattle.obj_write.specs.VertexMarks.{numbered, marked}
 use Rattle.obj_write.proofs.NumberLemmas.{numbered-marks, marked-marks}
 use Rattle.obj_write.proofs.vertices.number_vertices.Goals as goal

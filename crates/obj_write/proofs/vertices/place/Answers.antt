@@ -1,4 +1,4 @@
-use Rattle.std.proofs.Common.{◌≡◌, ◌*◌, ◌<◌, ap, arith}
+use Rattle.std.proofs.Common.{◌*◌, ap, arith}
 use Rattle.obj_write.proofs.PlaceLemmas.{place-below}
 use Rattle.obj_write.proofs.vertices.place.Goals as goal
 

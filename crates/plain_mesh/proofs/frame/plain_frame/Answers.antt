@@ -1,5 +1,5 @@
 -- Where forced splits along the ranking stop is the frame; the laws say the rest.
-use Rattle.std.proofs.Common.{◌≡◌, ℕ, List, All, ap, subst, sym, ◌∙◌}
+use Rattle.std.proofs.Common.{◌≡◌, List, All, ap, subst, sym, ◌∙◌}
 use Rattle.mesh_defs.specs.HeightField.{HeightField}
 use Rattle.mesh_defs.specs.Triangle.{IsSplittable}
 use Rattle.mesh_defs.specs.Priority.{priority_of}

@@ -1,25 +1,25 @@
 -- Each address counts where its priority is positive, up to the last splittable one.
-use Rattle.std.proofs.Common.{◌≡◌, ℕ, ◌+◌, ◌*◌, ◌^◌, ◌<◌, ◌≤◌, subst, sym, ◌∙◌, arith}
+use Rattle.std.proofs.Common.{◌≡◌, ◌<◌, ◌≤◌, ◌+◌, ◌*◌, ◌^◌, refl, subst, ◌∙◌, arith}
 use Rattle.mesh_defs.specs.Priority.{priority_of}
 use Rattle.view_priority.specs.Camera.{view_from}
 use Rattle.plain_mesh.specs.Ranks.{positives_below}
-use Rattle.plain_mesh.proofs.PickLemmas.{positives-yes, positives-no}
-use Rattle.plain_mesh.proofs.ranking.count_positive.Goals.{then-rank_at-gt0, else-rank_at-gt0}
+use Rattle.plain_mesh.proofs.PickLemmas.{not_positive, positives-yes, positives-no}
+use Rattle.plain_mesh.proofs.ranking.count_positive.Goals.{then-is_positive, else-is_positive}
 use Rattle.plain_mesh.proofs.ranking.count_positive.Goals as goal
 
 pub loop-number-preserved : goal.loop-number-preserved
 loop-number-preserved c =
     let p = priority_of c.args.w.now.n c.args.w.now.heights (view_from c.args.camera.now c.args.spacing c.args.planes.now) in
-    let value = c.rank_at.ensures.value in
-    elim c.if-rank_at-gt0.branch [
-      | then-rank_at-gt0 w ↦
-          let is = w.count-is in let some = w.if-rank_at-gt0.true in let few = c.loop-number.invariant.few in
+    let value = c.rank_at-entry.ensures.value in
+    elim c.if-is_positive.branch [
+      | then-is_positive w ↦
+          let is = w.count-is in let some : 0 < c.rank_at-entry.result.p = w.if-is_positive.ensures.0 refl in let few = c.loop-number.invariant.few in
           record {
             counted = is ∙ positives-yes p c.loop-number.number c.loop-number.count c.loop-number.auto.number c.loop-number.invariant.counted (omega arith);
             few = omega arith;
           }
-      | else-rank_at-gt0 w ↦
-          let is = w.count-is in let none = w.if-rank_at-gt0.false in let few = c.loop-number.invariant.few in
+      | else-is_positive w ↦
+          let is = w.count-is in let none : c.rank_at-entry.result.p ≤ 0 = not_positive c.rank_at-entry.result.p (w.if-is_positive.ensures.1) in let few = c.loop-number.invariant.few in
           record {
             counted = is ∙ positives-no p c.loop-number.number c.loop-number.count c.loop-number.auto.number c.loop-number.invariant.counted (omega arith);
             few = omega arith;

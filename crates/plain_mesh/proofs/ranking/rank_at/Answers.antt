@@ -1,5 +1,5 @@
 -- Each address of the grid is one of the deepest grid.
-use Rattle.std.proofs.Common.{◌+◌, ◌*◌, ◌^◌, ◌<◌, ◌≤◌, arith}
+use Rattle.std.proofs.Common.{◌+◌, ◌*◌, ◌^◌, ◌≤◌, arith}
 use Rattle.std.proofs.Math.Pow.{pow_mono}
 use Rattle.plain_mesh.proofs.ranking.rank_at.Goals as goal
 

@@ -1,5 +1,5 @@
 -- One entry after the other: the closure of a front, until one is over the budget.
-use Rattle.std.proofs.Common.{◌≡◌, ℕ, ◌+◌, ◌<◌, ◌≤◌, List, length, Some, Bool, false, is_some, ap, subst, sym, ◌∙◌, arith}
+use Rattle.std.proofs.Common.{◌≡◌, ℕ, ◌≤◌, List, length, Some, false, is_some, ap, subst, sym, ◌∙◌, arith}
 use Rattle.std.proofs.lemmas.Option.{MatchOption-at_some}
 use Rattle.mesh_defs.specs.ClosedSet.{leaves_of, among}
 use Rattle.diamond_rel.specs.GridSet.{GridSet}
