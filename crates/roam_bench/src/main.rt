@@ -6,6 +6,9 @@
 
 #![tactic(auto)]
 
+mod reading;
+
+use crate::reading::{Kernel, kernels, plain_text, raw_text, readings, text_alone};
 use bintree_addr::Tri;
 use cull_marks::Planes;
 use diamond_rel::Split;
@@ -27,6 +30,17 @@ fn main(rt: HostRuntime) -> io::Result<()> {
             "forced" => forced(rt.alloc()),
             "wedges" => wedges(rt.alloc()),
             "ranks" => ranks(rt.alloc()),
+            "raw_text" => text_alone(raw_text(rt.alloc())),
+            "raw" => readings(rt.alloc(), raw_text(rt.alloc())),
+            "plain_text" => text_alone(plain_text(rt.alloc())),
+            "plain" => readings(rt.alloc(), plain_text(rt.alloc())),
+            "samples_alone" => kernels(rt.alloc(), Kernel::None),
+            "be16" => kernels(rt.alloc(), Kernel::Words),
+            "be16_plain" => kernels(rt.alloc(), Kernel::WordsPlain),
+            "first_above" => kernels(rt.alloc(), Kernel::FirstAbove),
+            "first_above_plain" => kernels(rt.alloc(), Kernel::FirstAbovePlain),
+            "range" => kernels(rt.alloc(), Kernel::Range),
+            "range_plain" => kernels(rt.alloc(), Kernel::RangePlain),
             _ => continue,
         };
         let seconds = start.elapsed(&rt)?.as_secs_f64();
