@@ -1,5 +1,5 @@
 -- A grid that is read from a shelf, piece by piece.
-use Rattle.std.proofs.Common.{Result, OnOk, IfOk, Bool, true, ◌≡◌, ◌≢◌, ℕ, ◌≤◌, List, [], ◌++◌, length, take, drop, Option, Some, Ok, Err, refl, sym, ◌∙◌, ap, append_assoc}
+use Rattle.std.proofs.Common.{arith, ◌+◌, length-append, Result, OnOk, IfOk, Bool, true, ◌≡◌, ◌≢◌, ℕ, ◌≤◌, List, [], ◌++◌, length, take, drop, Option, Some, Ok, Err, refl, sym, ◌∙◌, ap, append_assoc}
 use Rattle.std.proofs.Math.Seq.{take-append_seam}
 use Rattle.std.proofs.lemmas.List.{take-append-drop, length-take-le}
 use Rattle.mesh_defs.specs.HeightField.{HeightField}
@@ -7,9 +7,8 @@ use Rattle.roam_edge.specs.Shelf.{NamedFile, bytes_of}
 use Rattle.pgm_grid.specs.declared.fault.PgmFault.{PgmFault}
 use Rattle.pgm_grid.specs.declared.fault.PgmFault.TheVariants.{BadMagic, BadHeader, HeaderTooLong, BadMaxval, NotSquare, BadSide, Truncated, BadSample, AboveMaxval, Trailing, NoMemory, TooLong}
 use Rattle.std.proofs.lemmas.Result.{IfOk-at_ok, IfErr-at_err}
-use Rattle.pgm_grid.specs.Laws.{OthersAreAbsent, IsRefusal, GridsHaveHeaders, HeadersAreRead}
-use Rattle.pgm_grid.specs.PgmText.{raster_of, header_text}
-use Rattle.pgm_grid.specs.Progress.{Progress, grid_of, resume, IsSettled, EndsHeader}
+use Rattle.pgm_grid.specs.Laws.{OthersAreAbsent, GridsHaveHeaders}
+use Rattle.pgm_grid.specs.Progress.{Progress, grid_of, resume, taken, IsSettled, EndsHeader}
 use Rattle.roam_run.specs.Promise.{BeginsWithHeader, HasEnded}
 use Rattle.roam_run.specs.declared.grid_file.GridStop.{GridStop}
 use Rattle.roam_run.specs.declared.grid_file.GridStop.TheVariants as stop
@@ -20,17 +19,19 @@ use Rattle.roam_run.specs.GridStop.{stop_for}
 pub record IsReading (files : Option (List NamedFile)) (rest : Option (List ℕ)) (name : List ℕ) (reader : Progress) : Type 0 where
   pub bytes : List ℕ
   pub means : (more : List ℕ) → resume reader more ≡ grid_of (bytes ++ more)
+  pub counted : taken reader ≡ length bytes
   pub told : (all : List NamedFile) → files ≡ Some all →
       (unread : List ℕ) × (rest ≡ Some unread) × (bytes_of all name ≡ bytes ++ unread)
 
 -- nothing was taken of a file that was just opened
 pub reading-begin : (files : Option (List NamedFile)) (rest : Option (List ℕ)) (name : List ℕ) (reader : Progress)
-    → ((more : List ℕ) → resume reader more ≡ grid_of more)
+    → ((more : List ℕ) → resume reader more ≡ grid_of more) → taken reader ≡ 0
     → ((all : List NamedFile) → files ≡ Some all → rest ≡ Some (bytes_of all name))
     → IsReading files rest name reader
-reading-begin files rest name reader means chosen = record {
+reading-begin files rest name reader means none chosen = record {
   bytes = [];
   means = means;
+  counted = none;
   told = λ all is. (bytes_of all name, chosen all is, refl);
 }
 
@@ -46,10 +47,11 @@ pub reading-more : (files : Option (List NamedFile)) (rest rest' : Option (List 
     → IsReading files rest name reader
     → ((unread : List ℕ) → rest ≡ Some unread → rest' ≡ Some (drop count unread))
     → ((unread : List ℕ) → rest ≡ Some unread → piece ≡ take count unread)
-    → ((more : List ℕ) → resume reader (piece ++ more) ≡ resume next more)
+    → ((more : List ℕ) → resume reader (piece ++ more) ≡ resume next more) → taken next ≡ taken reader + length piece
     → IsReading files rest' name next
-reading-more files rest rest' name piece count reader next reading takes gives goes_on = record {
+reading-more files rest rest' name piece count reader next reading takes gives goes_on counted = record {
   bytes = reading.bytes ++ piece;
+  counted = omega (arith, counted, reading.counted, length-append reading.bytes piece);
   means = λ more. sym (goes_on more) ∙ reading.means (piece ++ more) ∙ ap grid_of (sym (append_assoc reading.bytes piece more));
   told = λ all is.
       let here = reading.told all is in (
@@ -108,7 +110,7 @@ pub reading-unsettled : (files : Option (List NamedFile)) (rest : Option (List �
 unfolding IsSettled
 reading-unsettled files rest name reader others reading settled =
     let e = sym (reading.means []) ∙ settled [] in
-    IfErr-at_err IsRefusal e (others (reading.bytes ++ []))
+    IfErr-at_err (λ fault. fault ≢ NoMemory) e (others (reading.bytes ++ [])) refl
 
 -- the header of a grid ended with a piece
 pub reading-header : (files : Option (List NamedFile)) (rest : Option (List ℕ)) (name piece : List ℕ) (count : ℕ) (reader : Progress)
@@ -124,12 +126,14 @@ reading-header files rest name piece count reader reading gives ends all is =
       drop ends.count piece ++ drop count here.0,
       here.2 ∙ ap (λ m. reading.bytes ++ m) split ∙ sym (append_assoc reading.bytes (take ends.count piece) (drop ends.count piece ++ drop count here.0)),
       record {
-        n = ends.n;
-        level = ends.level;
-        raster = λ samples size.
-            ap grid_of (append_assoc reading.bytes (take ends.count piece) (raster_of samples))
-            ∙ sym (reading.means (take ends.count piece ++ raster_of samples))
-            ∙ ends.room samples size;
+        header = ends.header;
+        valid = ends.valid;
+        reads = λ heights text is many bounded within.
+            let size : length (reading.bytes ++ take ends.count piece) ≡ taken reader + ends.count =
+            omega (arith, length-append reading.bytes (take ends.count piece), length-take-le ends.count piece ends.within, reading.counted) in
+            ap grid_of (append_assoc reading.bytes (take ends.count piece) text)
+            ∙ sym (reading.means (take ends.count piece ++ text))
+            ∙ ends.reads heights text is many bounded (omega (arith, within, size));
       },
     )
 
@@ -141,14 +145,13 @@ on-ok (Err fault) P proof = tt
 module _ (files : Option (List NamedFile)) (rest : Option (List ℕ)) (name : List ℕ) (reader : Progress) (reading : IsReading files rest name reader)
     (nothing : (unread : List ℕ) → rest ≡ Some unread → unread ≡ []) where
   -- a file that is read to its end begins with the header of its grid
-  pub grid-header : (answer : Result HeightField GridStop) → GridsHaveHeaders → HeadersAreRead → IfOk answer (λ grid. resume reader [] ≡ Ok grid)
+  pub grid-header : (answer : Result HeightField GridStop) → GridsHaveHeaders → IfOk answer (λ grid. resume reader [] ≡ Ok grid)
       → OnOk answer ((all : List NamedFile) → files ≡ Some all → BeginsWithHeader (bytes_of all name))
-  grid-header answer headers rasters value = on-ok answer _ (λ grid is all told.
+  grid-header answer headers value = on-ok answer _ (λ grid is all told.
       let here = reading.told all told in
       let whole = here.2 ∙ ap (λ m. reading.bytes ++ m) (nothing here.0 here.1) in
       let read = ap grid_of whole ∙ sym (reading.means []) ∙ IfOk-at_ok _ is value in
-      let found = headers grid (bytes_of all name) read in
-      (header_text found.0, found.2.0, found.2.1, record { n = found.0; level = found.1; raster = λ samples size. rasters found.0 samples found.1 size }))
+      headers grid (bytes_of all name) read)
 
   -- a read that gave no byte leaves nothing
   pub grid-ended : (ended : Bool) (rest' : Option (List ℕ)) (count : ℕ) (answer : Result HeightField GridStop) → count ≡ 0 → ended ≡ true

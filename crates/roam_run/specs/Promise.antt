@@ -1,6 +1,6 @@
 -- What a run of `roam` promises, by its status.
 -- Words: is_complete, IsScriptEnd, IsRunEnd, HasEnded, EndsAs, EndsRight, StandsForRead, CommandReadFault,
--- IsWholeHeader, BeginsWithHeader, CommandNoMemory, LeavesAtReadFault, LeavesAtNoMemory, OpensForStatus, IsBestFrame, AreBestFrames,
+-- BeginsWithHeader, CommandNoMemory, LeavesAtReadFault, LeavesAtNoMemory, OpensForStatus, IsBestFrame, AreBestFrames,
 -- KeepsBestMeshes, IsCertificate, CertifiesFrames.
 use Rattle.std.specs.Prelude.{◌≡◌, ◌≢◌, ℕ, ◌+◌, ◌<◌, ◌≤◌, ◌⊎◌, ◌↔◌, Bool, true, false, IsTrue, ⊤, List, [], ◌∷◌, ◌++◌, length, Option, Some, IsNone, IfSome, Ok}
 use Rattle.mesh_defs.specs.HeightField.{HeightField}
@@ -8,8 +8,7 @@ use Rattle.mesh_defs.specs.MeshText.{mesh_text}
 use Rattle.mesh_defs.specs.BestMesh.{IsBestMesh}
 use Rattle.roam_edge.specs.MeshSink.{Mesh}
 use Rattle.roam_edge.specs.Shelf.{NamedFile, bytes_of}
-use Rattle.pgm_grid.specs.PgmText.{IsLevel, points_of, raster_of}
-use Rattle.pgm_grid.specs.Progress.{grid_of}
+use Rattle.pgm_grid.specs.Progress.{grid_of, IsWholeHeader}
 use Rattle.roam_run.specs.declared.status.Status.{Status}
 use Rattle.roam_run.specs.declared.status.Status.TheVariants.{Done, NoMemory, Usage, GridRefused, ScriptRefused, ReadFault, WriteFault}
 use Rattle.roam_run.specs.Words.{MeshCommand, Command, MeshOf, InfoOf, grid_name, command_of}
@@ -75,14 +74,7 @@ CommandReadFault before now opens opens' rest (MeshOf command) files =
     × StandsForRead before now rest (record { prefix = command.prefix; picture = picture }) (bytes_of files command.script))
 CommandReadFault before now opens opens' rest (InfoOf grid) files = (opens' ≡ opens + 1) × Stands before now []
 
--- the bytes are a whole header of an accepted grid: behind them each raster of its size is read
-pub record IsWholeHeader (bytes : List ℕ) : Type 0 where
-  pub n : ℕ
-  pub level : IsLevel n
-  pub raster : (samples : List ℕ) → length samples ≡ points_of n →
-      grid_of (bytes ++ raster_of samples) ≡ Ok (record { n = n; maxval = 65535; heights = samples })
-
--- some front of the bytes is a whole header of an accepted grid
+-- some front of the bytes is a whole accepted header, behind which each raster of its grid is read
 abbrev pub BeginsWithHeader : List ℕ → Type 0
 BeginsWithHeader bytes = (front rest : List ℕ) × (bytes ≡ front ++ rest) × IsWholeHeader front
 

@@ -9,6 +9,7 @@ ghost use Rattle.roam_run.specs.ReportText.{info_line};
 use crate::text::{Text, push_bytes, push_number};
 use arrayvec::ArrayVec;
 use bintree_addr::Tri;
+use roam_lanes::range;
 use wedgie_tree::Wedges;
 
 /// The line on a grid, of which the wedges are.
@@ -16,7 +17,7 @@ pub(crate) fn info_report(wedges: &Wedges) -> Text
     ensures { result.items ≡ info_line wedges.now }
 {
     let grid = wedges.grid();
-    let (low, high) = range_of(grid.heights());
+    let (low, high) = extremes(grid.heights());
     let mut text = ArrayVec::new();
     push_bytes(&mut text, b"side ");
     push_number(&mut text, side_for(grid.n()));
@@ -50,16 +51,10 @@ fn side_for(n: u32) -> u64
 }
 
 /// The least and the greatest height, of which there is one at least.
-fn range_of(heights: &[u16]) -> (u16, u16)
+fn extremes(heights: &[u16]) -> (u16, u16)
     requires { 0 < length heights.now }
     ensures least { result.0 ≡ least heights.now }
     ensures greatest { result.1 ≡ greatest heights.now }
 {
-    let mut low = heights[0];
-    let mut high = 0;
-    for height in heights {
-        low = low.min(*height);
-        high = high.max(*height);
-    }
-    (low, high)
+    range(heights).unwrap()
 }

@@ -179,7 +179,9 @@ fn a_refused_grid_is_told_with_its_place(rt: HostRuntime) -> Result<(), Fail> {
     for place in 0..32 {
         let mut grid = Vec::from_slice(rt.alloc(), &FLAT[..place])?;
         grid.push(b'x')?;
-        let want = if place < 13 {
+        let want = if place < 2 {
+            String::from_str(rt.alloc(), "grid refused: bad magic\n")?
+        } else if place < 13 {
             format!(in rt.alloc(); "grid refused: bad header at {place}\n")?
         } else if place < 30 {
             String::from_str(rt.alloc(), "grid refused: truncated\n")?
@@ -402,6 +404,42 @@ fn a_mesh_has_each_vertex_once_and_its_faces_depth_first(rt: HostRuntime) -> Res
         let ran = run_with(rt.alloc(), &words, grid, b"frame\n", MeshCall::Begin(0), 0)?;
         let want = Some(("out", 1, mesh.as_bytes(), true));
         assert_eq!(rt; kept(&ran.meshes, 0), want);
+    }
+    Ok(())
+}
+
+#[test]
+fn grids_in_other_forms_are_read(rt: HostRuntime) -> Result<(), Fail> {
+    let hill = "frame 1 triangles 4 vertices 5 worst 0 splits 2 merges 0 blocked none\n";
+    let corner =
+        "frame 1 triangles 2 vertices 4 worst 655360 splits 0 merges 0 blocked 2 needs 4\n";
+    let cases = [
+        (
+            b"P5\n# made by hand\n3 3\n255\n\0\0\0\0\n\0\0\0\0".as_slice(),
+            "4",
+            hill,
+        ),
+        (b"P5\n3 # x\n3\n255\n\0\0\0\0\n\0\0\0\0", "4", hill),
+        (b"P2 3 3 9\n5 0 0 0 0 0 0 0 0\n", "2", corner),
+        (
+            b"P5\n3# x\n3\n255\n\0\0\0\0\n\0\0\0\0",
+            "4",
+            "grid refused: bad header at 4\n",
+        ),
+        (
+            b"P5\n3 3\n9\n\0\0\0\0\n\0\0\0\0",
+            "4",
+            "grid refused: above maxval at sample 4\n",
+        ),
+        (b"P2 3 3 9 0 0 x", "4", "grid refused: bad sample at 13\n"),
+        (b"P5 3 3 0\n", "4", "grid refused: bad maxval\n"),
+        (b"P5 5 3 255\n", "4", "grid refused: not square\n"),
+        (b"P5 4 4 255\n", "4", "grid refused: bad side\n"),
+    ];
+    for (grid, budget, report) in cases {
+        let words = ["mesh", "g", "s", "out", budget, "1"];
+        let ran = run_with(rt.alloc(), &words, grid, b"frame\n", MeshCall::Begin(0), 0)?;
+        assert_eq!(rt; ran.report.bytes(), report.as_bytes());
     }
     Ok(())
 }

@@ -6,7 +6,7 @@ use Rattle.roam_run.proofs.grid_file.read_grid.Goals as goal
 
 pub pieces-init : goal.pieces-init
 pieces-init g c = record {
-  reading = reading-begin _ _ _ _ c.new-reader.ensures.value c.in-Ok.ensures.opened.chosen;
+  reading = reading-begin _ _ _ _ c.new-reader.ensures.value c.new-reader.ensures.count c.in-Ok.ensures.opened.chosen;
   few = omega (arith, c.new-reader.ensures.count);
   open_file = search rules;
   files = search rules;
@@ -27,7 +27,7 @@ pieces-preserved g c = record {
   reading = reading-more _ _ _ _ _ c.in-Ok-read.count _ _ c.pieces.invariant.reading c.in-Ok-read.ensures.bytes.takes
       (λ unread here. ap (take c.in-Ok-read.count) (c.in-Ok-read.ensures.bytes.gives unread here)
       ∙ front-read c.in-Ok-read.count unread _ (c.in-Ok-read.ensures.bytes.within unread here))
-      c.in_default-feed.ensures.ok;
+      c.in_default-feed.ensures.ok c.in_default-feed.ensures.count;
   few = c.in_default-feed.ensures.limit;
   open_file = search rules;
   files = search rules;
@@ -48,7 +48,7 @@ returns-in-Err-clause-no_memory g c is all told =
 pub returns-then-count-eq0-clause-header : goal.returns-then-count-eq0-clause-header
 returns-then-count-eq0-clause-header g c =
     grid-header _ _ _ _ c.pieces.invariant.reading (λ unread is. (c.in-Ok-read.ensures.bytes.empty unread is).0 c.if-count-eq0.true)
-    c.finished.result c.grids_and_texts.ensures.headers c.grids_and_texts.ensures.rasters c.finished.ensures.ok
+    c.finished.result c.grids_and_texts.ensures.headers c.finished.ensures.ok
 
 pub returns-then-count-eq0-clause-ended : goal.returns-then-count-eq0-clause-ended
 returns-then-count-eq0-clause-ended g c =
