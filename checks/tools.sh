@@ -108,26 +108,32 @@ fi
 
 # --- How refusals that people meet are mended, as README.md tells. ---
 
-if has tools_mended sed dd tail; then
-  rows() { printf 'AAAAKAAAA'; }
+# rows: nine samples of one byte, the least of them 65 and the greatest 75.
+rows() { printf 'AAAAKAAAA'; }
+
+if has tools_mended sed dd head tail; then
   { printf 'P5\r\n3 3\r\n255\r\n'; rows; } >crlf.pgm
   LC_ALL=C sed '1,3s/\r$//' crlf.pgm >crlf_mended.pgm
   told crlf_in_a_header_is_mended crlf_mended.pgm 'P5\n3 3\n255\n' 3 255 65 75
   { printf 'P5\n3 3\n255\n# a comment\n'; rows; } >comment.pgm
   LC_ALL=C sed 4d comment.pgm >comment_mended.pgm
   told a_comment_after_the_maxval_is_mended comment_mended.pgm 'P5\n3 3\n255\nA' 3 255 65 75
+  { printf 'P5\n3 3\n255 # a comment\n'; rows; } >behind.pgm
+  LC_ALL=C sed '3s/ *#.*//' behind.pgm >behind_mended.pgm
+  told a_comment_behind_the_maxval_is_mended behind_mended.pgm 'P5\n3 3\n255\nA' 3 255 65 75
   { printf 'P5\n3 3\n70\n'; rows; } >above.pgm
   LC_ALL=C sed '3s/.*/255/' above.pgm >above_mended.pgm
   told a_maxval_that_is_too_small_is_mended above_mended.pgm 'P5\n3 3\n255\n' 3 255 65 75
   { printf 'P5\n3 3\n300\n'; printf 'A\0A\0A\0A\0K\0A\0A\0A\0A\0'; } >swapped.pgm
-  { head -n 3 swapped.pgm; tail -n +4 swapped.pgm | dd conv=swab 2>/dev/null; } >swapped_mended.pgm
+  head -n 3 swapped.pgm >swapped_mended.pgm
+  tail -n +4 swapped.pgm | dd conv=swab 2>/dev/null >>swapped_mended.pgm
   told samples_with_the_least_significant_byte_first_are_mended swapped_mended.pgm 'P5\n3 3\n300\n' 3 300 65 75
   printf 'P2\n3 3\n75\n65 65 65 # top\n65 75 65\n65 65 65\n' >plain.pgm
   sed 's/#.*//' plain.pgm >plain_mended.pgm
   told comments_in_a_plain_raster_are_mended plain_mended.pgm 'P2\n3 3\n75\n' 3 75 65 75
 fi
 if has tools_pamsplit pamsplit; then
-  { printf 'P5\n3 3\n255\nAAAAKAAAA'; printf 'P5\n3 3\n255\nAAAAAAAAA'; } >two.pgm
+  { printf 'P5\n3 3\n255\n'; rows; printf 'P5\n3 3\n255\nAAAAAAAAA'; } >two.pgm
   pamsplit two.pgm 'image%d.pgm' 2>/dev/null
   told the_first_of_two_images_is_split_off image0.pgm 'P5\n3 3\n255\n' 3 255 65 75
   told the_second_of_two_images_is_split_off image1.pgm 'P5\n3 3\n255\n' 3 255 65 65
