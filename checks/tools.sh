@@ -29,13 +29,19 @@ mkdir -- "$room/tools" && cd -- "$room/tools" || exit 1
 
 # --- netpbm: a picture of 300x200 samples is scaled to 257x257. ---
 
-if has tools_netpbm pgmramp pamscale pamdepth pnmtoplainpnm pamsumm; then
+if has tools_netpbm pgmramp pamscale pnmscale pamdepth pnmtoplainpnm pnmtopng pngtopam ppmtopgm pamsumm; then
   pgmramp -ellipse 300 200 >in.pgm
   pamscale -width 257 -height 257 in.pgm >netpbm8.pgm 2>/dev/null
   pamdepth 65535 netpbm8.pgm >netpbm16.pgm 2>/dev/null
   pamdepth 1000 netpbm8.pgm >netpbm1000.pgm 2>/dev/null
   pnmtoplainpnm netpbm8.pgm >netpbm8plain.pgm
   pnmtoplainpnm netpbm16.pgm >netpbm16plain.pgm
+  {
+    pnmtopng in.pgm >netpbm.png
+    pngtopam netpbm.png | ppmtopgm | pamscale -width 257 -height 257 | pamdepth 65535 >netpbm_of_png.pgm
+    pngtopam netpbm.png | ppmtopgm | pnmscale -width 257 -height 257 | pamdepth 65535 | pnmtoplainpnm >netpbm_of_png_plain.pgm
+    pngtopam netpbm.png | ppmtopgm | pamscale -plain -width 257 -height 257 >netpbm_of_png_by_plain.pgm
+  } 2>/dev/null
   while read -r file magic maxval; do
     told "a_grid_of_$file" "$file.pgm" "$magic\n257 257\n$maxval\n" 257 "$maxval" \
       "$(pamsumm -min -brief "$file.pgm")" "$(pamsumm -max -brief "$file.pgm")"
@@ -45,6 +51,9 @@ netpbm16 P5 65535
 netpbm1000 P5 1000
 netpbm8plain P2 255
 netpbm16plain P2 65535
+netpbm_of_png P5 65535
+netpbm_of_png_plain P2 65535
+netpbm_of_png_by_plain P2 255
 TABLE
   same_heights netpbm_raw_and_plain_of_one_byte_are_alike netpbm8.pgm netpbm8plain.pgm
   same_heights netpbm_raw_and_plain_of_two_bytes_are_alike netpbm16.pgm netpbm16plain.pgm
