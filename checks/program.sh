@@ -158,9 +158,9 @@ a_byte_after_the_last_sample|P5\n3 3\n65535\n|19|trailing byte at 31
 a_thousand_bytes_after_the_last_sample|P5\n3 3\n65535\n|1018|trailing byte at 31
 a_byte_after_the_last_sample_of_side_2049|P5\n2049 2049\n65535\n|8396803|trailing byte at 8396821
 a_grid_of_side_2049_that_lacks_a_byte|P5\n2049 2049\n65535\n|8396801|truncated
-a_side_that_is_no_power_of_two_and_one|P5\n4 4\n65535\n|32|bad header at 3
-a_height_other_than_the_width|P5\n3 5\n65535\n|30|bad header at 5
-another_maxval|P5\n3 3\n65536\n|18|bad header at 11
+a_side_that_is_no_power_of_two_and_one|P5\n4 4\n65535\n|32|bad side
+a_height_other_than_the_width|P5\n3 5\n65535\n|30|not square
+a_maxval_beyond_the_greatest|P5\n3 3\n65536\n|18|bad maxval
 TABLE
 
 for ((place = 0; place <= 12; place++)); do
@@ -168,8 +168,151 @@ for ((place = 0; place <= 12; place++)); do
   header=$(printf 'P5\n3 3\n65535\n.')
   { printf '%sx%s' "${header:0:place}" "${header:place+1:12-place}"; head -c 18 /dev/zero; } >g
   run mesh g s out 2 1
-  expect 3 0 "grid refused: bad header at $place\n"
+  refusal="bad header at $place"
+  [ "$place" -ge 2 ] || refusal='bad magic'
+  expect 3 0 "grid refused: $refusal\n"
 done
+
+# Grids in other forms: the bytes of the file (as printf's %b), and the line of `info`. A is the byte 65, K is 75. Where
+# only the middle one of nine heights differs, the thickness is twice as much as it differs.
+while IFS='|' read -r name bytes line; do
+  start "$name"
+  printf '%b' "$bytes" >g
+  run info g
+  expect 0 0 "$line\n"
+done <<'TABLE'
+one_byte_a_sample|P5\n3 3\n255\nAAAAKAAAA|side 3 maxval 255 low 65 high 75 thickness 20
+a_maxval_that_is_the_greatest_height|P5\n3 3\n75\nAAAAKAAAA|side 3 maxval 75 low 65 high 75 thickness 20
+the_least_maxval|P5\n3 3\n1\n\0000\0000\0000\0000\0001\0000\0000\0000\0000|side 3 maxval 1 low 0 high 1 thickness 2
+two_bytes_a_sample_from_256_on|P5\n3 3\n256\n\0000\0000\0000\0000\0000\0000\0000\0000\0001\0000\0000\0000\0000\0000\0000\0000\0000\0000|side 3 maxval 256 low 0 high 256 thickness 512
+blanks_between_the_parts_of_a_header|P5 3 3 255 AAAAKAAAA|side 3 maxval 255 low 65 high 75 thickness 20
+tabs_between_the_parts_of_a_header|P5\t3\t3\t255\tAAAAKAAAA|side 3 maxval 255 low 65 high 75 thickness 20
+cr_between_the_parts_of_a_header|P5\r3 3\r255\rAAAAKAAAA|side 3 maxval 255 low 65 high 75 thickness 20
+cr_and_lf_before_the_maxval|P5\r\n3 3\r\n255\nAAAAKAAAA|side 3 maxval 255 low 65 high 75 thickness 20
+long_gaps|P5 \t\r\n\n 3\n\n\n3\t\t255\nAAAAKAAAA|side 3 maxval 255 low 65 high 75 thickness 20
+leading_zeros_up_to_nine_digits|P5\n000000003 03\n000000255\nAAAAKAAAA|side 3 maxval 255 low 65 high 75 thickness 20
+a_comment_line|P5\n# made by hand\n3 3\n255\nAAAAKAAAA|side 3 maxval 255 low 65 high 75 thickness 20
+comments_in_every_gap|P5 # one\n#two\r\n 3\t#3 3\n3 #\n# 255\n\t255\nAAAAKAAAA|side 3 maxval 255 low 65 high 75 thickness 20
+a_comment_that_a_cr_ends|P5\r#x\r3 3\r255\rAAAAKAAAA|side 3 maxval 255 low 65 high 75 thickness 20
+a_number_sign_in_a_comment|P5\n# a # b ## c\n3 3\n255\nAAAAKAAAA|side 3 maxval 255 low 65 high 75 thickness 20
+bytes_beyond_ascii_in_a_comment|P5\n#\0377\0000\0001\n3 3\n255\nAAAAKAAAA|side 3 maxval 255 low 65 high 75 thickness 20
+whitespace_as_samples|P5\n3 3\n255\n\n\n\n\nK\n\n\n\n|side 3 maxval 255 low 10 high 75 thickness 130
+a_number_sign_as_first_sample|P5\n3 3\n255\n#AAAKAAAA|side 3 maxval 255 low 35 high 75 thickness 80
+plain|P2\n3 3\n65535\n0 0 0\n0 10 0\n0 0 0\n|side 3 maxval 65535 low 0 high 10 thickness 20
+plain_with_comments_in_the_header|P2\n# a\n3 # b\n3\n#c\n255\n65 65 65 65 75 65 65 65 65\n|side 3 maxval 255 low 65 high 75 thickness 20
+plain_that_rises_evenly|P2\n3 3\n9\n1 2 3\n4 5 6\n7 8 9\n|side 3 maxval 9 low 1 high 9 thickness 0
+plain_with_whitespace_of_each_kind|P2\n3 3\n9\n\t\r\n 0 0\t0\r0\r\n9 0 00 000000000 0\n\n \t|side 3 maxval 9 low 0 high 9 thickness 18
+plain_without_a_last_lf|P2\n3 3\n65535\n0 0 0 0 0 0 0 0 65535|side 3 maxval 65535 low 0 high 65535 thickness 131070
+plain_in_one_line|P2 3 3 9 0 0 0 0 9 0 0 0 0|side 3 maxval 9 low 0 high 9 thickness 18
+TABLE
+
+# The same nine heights in five forms: one line of a frame and one mesh. The camera is 65 below the box of each base
+# triangle, so their priority is 65536 * 20 / 66, rounded down.
+while IFS='|' read -r name bytes; do
+  start "the_mesh_of_$name"
+  printf '%b' "$bytes" >g
+  printf 'v 0 0 65\nv 2 0 65\nv 0 2 65\nv 2 2 65\nf 1 2 3\nf 4 3 2\n' >"$room/mesh"
+  run mesh g s out 2 1
+  expect 0 1 "$(lines 1 19859 '2 needs 4')"
+done <<'TABLE'
+a_grid_of_two_bytes_a_sample|P5\n3 3\n65535\n\0000A\0000A\0000A\0000A\0000K\0000A\0000A\0000A\0000A
+a_grid_of_one_byte_a_sample|P5\n3 3\n255\nAAAAKAAAA
+a_grid_with_comments|P5\n# made by hand\n3 3 #\n75\nAAAAKAAAA
+a_plain_grid|P2\n3 3\n75\n65 65 65\n65 75 65\n65 65 65\n
+a_plain_grid_with_a_comment|P2 #\n3 3 1000 65 65 65 65 75 65 65 65 65
+TABLE
+
+# Refused grids of each kind: the bytes of the file, and the refusal.
+while IFS='|' read -r name bytes refusal; do
+  start "$name"
+  printf '%b' "$bytes" >g
+  run info g
+  expect 3 0 "grid refused: $refusal\n"
+done <<'TABLE'
+a_colour_image|P6\n3 3\n255\n|bad magic
+a_bitmap|P4\n3 3\n|bad magic
+a_small_p|p5\n3 3\n255\nAAAAKAAAA|bad magic
+an_lf_before_the_magic|\nP5\n3 3\n255\nAAAAKAAAA|bad magic
+a_mark_of_utf_8_before_the_magic|\0357\0273\0277P5\n3 3\n255\nAAAAKAAAA|bad magic
+a_digit_after_the_magic|P53 3\n255\nAAAAKAAAA|bad header at 2
+a_comment_directly_after_the_magic|P5# x\n3 3\n255\nAAAAKAAAA|bad header at 2
+a_number_with_a_sign|P5\n-3 3\n255\nAAAAKAAAA|bad header at 3
+a_number_with_a_point|P5\n3.0 3\n255\nAAAAKAAAA|bad header at 4
+a_comment_directly_after_the_width|P5\n3# x\n3\n255\nAAAAKAAAA|bad header at 4
+a_comment_directly_after_the_maxval|P5\n3 3\n255# x\nAAAAKAAAA|bad header at 10
+a_letter_after_a_comment|P5\n# a\n x3 3\n255\nAAAAKAAAA|bad header at 8
+a_comment_that_hides_the_width|P5\n# 3\n3\n255\nAAAAKAAAA|bad header at 13
+a_tenth_digit_in_the_header|P5\n0000000003 3\n255\nAAAAKAAAA|bad header at 12
+a_zero_byte_in_a_gap|P5\n\00003 3\n255\nAAAAKAAAA|bad header at 3
+a_form_feed_in_a_gap|P5\n\f3 3\n255\nAAAAKAAAA|bad header at 3
+a_file_that_ends_in_a_comment|P5\n# 3 3|truncated
+a_file_that_ends_in_the_maxval|P5\n4 5\n0|truncated
+a_maxval_of_0|P5\n3 3\n0\nAAAAKAAAA|bad maxval
+a_maxval_of_nine_digits|P5\n3 3\n999999999\nAAAAKAAAA|bad maxval
+a_bad_maxval_comes_before_the_sides|P5\n4 5\n0\n|bad maxval
+not_square_comes_before_the_side|P5\n4 5\n255\n|not square
+a_side_of_0|P5\n0 0\n255\n|bad side
+a_side_of_1|P5\n1 1\n255\nA|bad side
+a_side_of_2|P5\n2 2\n255\nAAAA|bad side
+a_side_of_256|P5\n256 256\n255\nAAAA|bad side
+a_side_of_4097|P5\n4097 4097\n255\n|bad side
+a_plain_grid_of_side_4|P2\n4 4\n255\n|bad side
+a_grid_of_one_byte_a_sample_that_lacks_one|P5\n3 3\n255\nAAAAKAAA|truncated
+an_lf_after_the_last_sample|P5\n3 3\n255\nAAAAKAAAA\n|trailing byte at 20
+cr_and_lf_after_the_maxval|P5\r\n3 3\r\n255\r\nAAAAKAAAA|trailing byte at 22
+a_comment_line_after_the_maxval|P5\n3 3\n255\n# x\nAAAAKAAAA|trailing byte at 20
+a_comment_behind_the_maxval|P5\n3 3\n255 # x\nAAAAKAAAA|trailing byte at 20
+two_images_in_a_file|P5\n3 3\n255\nAAAAKAAAAP5\n3 3\n255\nAAAAKAAAA|trailing byte at 20
+plain_samples_after_a_raw_header|P5\n3 3\n255\n0 0 0 0 0 0 0 0 0\n|trailing byte at 20
+a_sample_of_one_byte_above_the_maxval|P5\n3 3\n74\nAAAAKAAAA|above maxval at sample 4
+a_sample_of_two_bytes_above_the_maxval|P5\n3 3\n256\n\0001\0001\0000\0000|above maxval at sample 0
+half_a_sample_is_no_sample|P5\n3 3\n256\n\0002|truncated
+above_maxval_comes_before_truncated|P5\n3 3\n74\nAAAAK|above maxval at sample 4
+above_maxval_comes_before_a_trailing_byte|P5\n3 3\n74\nAAAAAAAAKAA|above maxval at sample 8
+least_significant_byte_first|P5\n3 3\n1000\n\0001\0000\0377\0000|above maxval at sample 1
+raw_samples_after_a_plain_header|P2\n3 3\n255\nAAAAKAAAA|bad sample at 11
+a_letter_in_a_plain_raster|P2\n3 3\n9\n0 0 0\n0 x 0\n0 0 0\n|bad sample at 17
+a_sign_in_a_plain_raster|P2\n3 3\n9\n-1 0 0 0 0 0 0 0 0\n|bad sample at 9
+a_comment_line_in_a_plain_raster|P2\n3 3\n9\n# x\n0 0 0 0 0 0 0 0 0\n|bad sample at 9
+a_comment_between_plain_samples|P2\n3 3\n9\n0 0 0 # top\n0 0 0 0 0 0\n|bad sample at 15
+a_tenth_digit_of_a_sample|P2\n3 3\n9\n0000000000 0 0 0 0 0 0 0 0\n|bad sample at 18
+a_sample_of_nine_digits_above_the_maxval|P2\n3 3\n9\n999999999 0 0 0 0 0 0 0 0\n|above maxval at sample 0
+a_plain_sample_above_the_maxval|P2\n3 3\n9\n0 0 0\n0 10 0\n0 0 0\n|above maxval at sample 4
+a_pending_sample_above_the_maxval|P2\n3 3\n9\n0 0 0 0 0 0 0 0 10|above maxval at sample 8
+a_pending_sample_comes_before_truncated|P2\n3 3\n9\n0 0 0 0 10|above maxval at sample 4
+a_bad_sample_comes_before_above_maxval|P2\n3 3\n9\n10x|bad sample at 11
+eight_plain_samples|P2\n3 3\n9\n0 0 0 0 0 0 0 0\n|truncated
+a_plain_header_alone|P2\n3 3\n9\n|truncated
+ten_plain_samples|P2\n3 3\n9\n0 0 0 0 0 0 0 0 0 0\n|trailing byte at 27
+a_letter_directly_after_the_last_plain_sample|P2\n3 3\n9\n0 0 0 0 0 0 0 0 0x|bad sample at 26
+a_comment_after_the_last_plain_sample|P2\n3 3\n9\n0 0 0 0 0 0 0 0 0\n# end\n|trailing byte at 27
+TABLE
+
+# A header with a comment of so many bytes has 13 bytes more than the comment's text.
+while IFS='|' read -r name length wanted line; do
+  start "$name"
+  { printf 'P5\n#'; head -c "$length" /dev/zero | tr '\0' x; printf '\n3 3\n255\nAAAAKAAAA'; } >g
+  run info g
+  expect "$wanted" 0 "$line\n"
+done <<'TABLE'
+a_header_of_65536_bytes|65523|0|side 3 maxval 255 low 65 high 75 thickness 20
+a_header_of_65537_bytes|65524|3|grid refused: header too long
+a_header_that_is_one_comment|1000000|3|grid refused: header too long
+TABLE
+
+# A plain grid has 34 bytes with whitespace behind its last sample; further whitespace fills the file.
+start a_plain_grid_of_the_most_bytes
+if { printf 'P2\n3 3\n9\n0 0 0 0 9 0 0 0 0\n\n\n\n\n\n\n\n'; head -c $((268435456 - 34)) /dev/zero | tr '\0' ' '; } >g 2>"$room/said"; then
+  run info g
+  expect 0 0 'side 3 maxval 9 low 0 high 9 thickness 18\n'
+  name=a_plain_grid_of_one_byte_more
+  printf x >>g
+  run info g
+  expect 3 0 'grid refused: file too long\n'
+else
+  skip "$name" 'there is no room for a file of 268,435,456 bytes'
+fi
+rm -f g
 
 # --- Info. ---
 
