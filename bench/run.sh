@@ -133,6 +133,15 @@ if [ -x "$single" ]; then
   echo "| the mate of every address, n = 11 | $calls calls, $found mates | $seconds s | | under 3 s |"
   read -r _ _ calls _ found _ seconds <<<"$(fastest forced)"
   echo "| the deepest corner triangle split by force on the empty set, n = 11 | $calls calls, $found triangles split | $(awk -v s="$seconds" -v n="$calls" 'BEGIN { printf "%.1f", 1000000 * s / n }') us a call | | under 1 ms |"
+  # seconds_of CASE: its least seconds. rate BYTES CASE LESS: bytes a second of 20 calls, in GB or MB.
+  seconds_of() { local it; read -r _ _ _ _ _ _ it <<<"$(fastest "$1")"; echo "$it"; }
+  rate() { awk -v b="$1" -v s="$(seconds_of "$2")" -v less="$3" 'BEGIN { r = 20 * b / (s - less); printf (r < 1e9 ? "%.0f MB/s" : "%.2f GB/s"), (r < 1e9 ? r / 1e6 : r / 1e9) }'; }
+  echo "| a raw grid of side 2049 read from memory | 20 times 8,396,821 bytes | $(rate 8396821 raw "$(seconds_of raw_text)") | | at least 1.5 GB/s |"
+  echo "| a plain grid of side 2049 read from memory | 20 times 25,190,425 bytes | $(rate 25190425 plain "$(seconds_of plain_text)") | | at least 150 MB/s |"
+  alone=$(seconds_of samples_alone)
+  for kernel in be16 first_above range; do
+    echo "| $kernel | 20 times 8,396,802 bytes of samples | $(rate 8396802 $kernel "$alone") | its plain twin $(rate 8396802 "${kernel}_plain" "$alone") | |"
+  done
   read -r _ _ calls _ found _ building <<<"$(fastest wedges)"
   echo "| the wedges of a rough grid, n = 11, the filling of the grid with it | $calls call | $building s | | under 0.5 s |"
   read -r _ _ calls _ found _ seconds <<<"$(fastest ranks)"

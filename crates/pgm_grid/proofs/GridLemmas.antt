@@ -1,5 +1,5 @@
 -- The numbers of points of grids.
-use Rattle.std.proofs.Common.{◌≡◌, ℕ, ◌+◌, ◌*◌, ◌^◌, ◌%◌, ◌≤◌, true, leb, eqb, refl, arith, leb-true, eqb-true}
+use Rattle.std.proofs.Common.{◌≡◌, ℕ, ◌*◌, ◌^◌, ◌%◌, ◌≤◌, true, leb, eqb, refl, arith, leb-true, eqb-true}
 use Rattle.std.proofs.lemmas.Bool.{agree_below, agree_below_at}
 use Rattle.pgm_grid.specs.PgmText.{points_of}
 

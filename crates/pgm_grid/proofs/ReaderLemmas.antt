@@ -1,24 +1,23 @@
 -- What a reader answers: the header's answer, and behind it the raster's.
-use Rattle.std.proofs.Common.{◌≡◌, ◌≢◌, ℕ, ◌+◌, ◌-◌, ◌*◌, ◌^◌, ◌<◌, ◌≤◌, ◌⊎◌, List, [], ◌∷◌, ◌++◌, length, take, drop, get_or, All, Option, Some, None, Result, Ok, Err, OnOk, IfOk, IfErr, IsErrOf, refl, sym, ap, ◌∙◌, inl, inr, subst, arith, length-append, append-nil, append_assoc, rules}
-use Rattle.std.proofs.Math.Seq.{take-append_seam, take-length}
+use Rattle.std.proofs.Common.{◌≡◌, ◌≢◌, ℕ, ◌+◌, ◌-◌, ◌^◌, ◌<◌, ◌≤◌, List, [], ◌∷◌, ◌++◌, length, take, drop, get_or, All, Result, Ok, Err, IfOk, IfErr, refl, sym, ap, ◌∙◌, inl, inr, subst, arith, length-append, append_assoc}
+use Rattle.std.proofs.Math.Seq.{take-append_seam}
 use Rattle.std.proofs.lemmas.Result.{IfOk-at_ok}
-use Rattle.std.proofs.lemmas.List.{take_more, take-append-drop, length-take-le}
-use Rattle.mesh_defs.specs.HeightField.{HeightField, IsHeightField, side_of}
+use Rattle.std.proofs.lemmas.List.{take_more, take-append-drop}
+use Rattle.mesh_defs.specs.HeightField.{IsHeightField}
 use Rattle.pgm_header.specs.declared.accepted.Header.{Header}
 use Rattle.pgm_header.specs.declared.fault.HeaderFault.{HeaderFault}
 use Rattle.pgm_header.specs.declared.fault.HeaderFault.TheVariants as header
-use Rattle.pgm_header.specs.Accepted.{IsHeader, HeaderAnswer, Part, Whole, Bad}
+use Rattle.pgm_header.specs.Accepted.{IsHeader, Whole, Bad}
 use Rattle.pgm_header.specs.Reading as reading
 use Rattle.pgm_raster.specs.declared.fault.RasterFault.{RasterFault}
 use Rattle.pgm_raster.specs.declared.form.RasterForm.{RasterForm}
 use Rattle.pgm_raster.specs.declared.fault.RasterFault.TheVariants as raster
-use Rattle.pgm_raster.specs.RasterText.{IsRaster}
 use Rattle.pgm_raster.specs.Laws.{RastersAreRead, OnlyWantedSamplesAreRead}
 use Rattle.pgm_raster.specs.Progress as samples
 use Rattle.pgm_grid.specs.declared.fault.PgmFault.{PgmFault}
-use Rattle.pgm_grid.specs.declared.fault.PgmFault.TheVariants.{BadMagic, BadHeader, HeaderTooLong, BadMaxval, NotSquare, BadSide, Truncated, BadSample, AboveMaxval, Trailing, NoMemory, TooLong}
-use Rattle.pgm_grid.specs.PgmText.{points_of, form_of, most_bytes}
-use Rattle.pgm_grid.specs.Progress.{Progress, InHeader, InRaster, HasRefused, header_fault, raster_fault, grid_with, grid_answer, samples_at, file_answer, resume, grid_of, taken, IsSettled, ReadsRasters, EndsHeader}
+use Rattle.pgm_grid.specs.declared.fault.PgmFault.TheVariants.{Truncated, NoMemory}
+use Rattle.pgm_grid.specs.PgmText.{points_of, form_of}
+use Rattle.pgm_grid.specs.Progress.{Progress, InHeader, InRaster, HasRefused, header_fault, raster_fault, grid_with, grid_answer, samples_at, file_answer, resume, grid_of, taken, IsSettled, ReadsRasters}
 use Rattle.pgm_grid.specs.Stage.{IsOpenHeader, IsBehind, HasRead, BeginsRaster, Takes, Stops}
 
 -- Faults.

@@ -1,7 +1,7 @@
 -- What the whole bytes of a file mean, in the words of the format. Places are counted from 0. The laws of
 -- rasters speak of files of at most 2 ^ 28 bytes; a longer one is refused, by its header, its raster or its length.
 -- Words: HasHeader, and a law a word.
-use Rattle.std.specs.Prelude.{◌≡◌, ◌≢◌, ◌↔◌, ◌⊎◌, ℕ, ◌+◌, ◌-◌, ◌^◌, ◌<◌, ◌≤◌, true, List, ◌++◌, length, take, All, Ok, Err, IfErr}
+use Rattle.std.specs.Prelude.{◌≡◌, ◌≢◌, ◌↔◌, ◌⊎◌, ℕ, ◌+◌, ◌-◌, ◌<◌, ◌≤◌, true, List, ◌++◌, length, take, All, Ok, Err, IfErr}
 use Rattle.mesh_defs.specs.HeightField.{HeightField, IsHeightField, side_of}
 use Rattle.pgm_header.specs.declared.accepted.Header.{Header}
 use Rattle.pgm_header.specs.declared.machine.HeaderValues.{HeaderValues}
@@ -9,7 +9,6 @@ use Rattle.pgm_header.specs.HeaderText.{IsHeaderText, IsProperFront, IsUnfitAt, 
 use Rattle.pgm_header.specs.Accepted.{IsLevel, IsMaxval, Accepts}
 use Rattle.pgm_raster.specs.RasterText.{IsCutShort, IsTrailingAt, IsAboveAt, IsBadSampleAt}
 use Rattle.pgm_raster.specs.Laws.{NoneIsRefused}
-use Rattle.pgm_grid.specs.declared.fault.PgmFault.{PgmFault}
 use Rattle.pgm_grid.specs.declared.fault.PgmFault.TheVariants.{BadMagic, BadHeader, HeaderTooLong, BadMaxval, NotSquare, BadSide, Truncated, BadSample, AboveMaxval, Trailing, NoMemory, TooLong}
 use Rattle.pgm_grid.specs.PgmText.{points_of, form_of, most_bytes, IsFileText}
 use Rattle.pgm_grid.specs.Progress.{grid_of, IsWholeHeader}

@@ -1,6 +1,6 @@
 -- The fields of a reader: what they have come to, and what holds of them.
 -- Words: progress_of, IsOpenHeader, IsBehind, HasRead, IsStage, BeginsRaster, Takes, Stops.
-use Rattle.std.specs.Prelude.{◌≡◌, ◌≢◌, ℕ, ◌+◌, ◌<◌, ◌≤◌, ◌^◌, List, [], ◌++◌, length, All, Result, Ok, Err, IfOk, ⊤, ◌⊎◌}
+use Rattle.std.specs.Prelude.{◌≡◌, ◌≢◌, ℕ, ◌+◌, ◌≤◌, ◌^◌, List, [], ◌++◌, length, All, Err, IfOk, ⊤, ◌⊎◌}
 use Rattle.pgm_header.specs.declared.accepted.Header.{Header}
 use Rattle.pgm_header.specs.declared.fault.HeaderFault.{HeaderFault}
 use Rattle.pgm_header.specs.Accepted.{IsHeader, Part, Bad}

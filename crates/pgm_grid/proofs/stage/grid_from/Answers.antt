@@ -1,4 +1,4 @@
-use Rattle.std.proofs.Common.{◌≡◌, Ok, Err, sym, ◌∙◌, ap}
+use Rattle.std.proofs.Common.{Ok, Err, sym, ◌∙◌, ap}
 use Rattle.pgm_grid.proofs.ReaderLemmas.{end-raster}
 use Rattle.pgm_grid.proofs.stage.grid_from.Goals as goal
 

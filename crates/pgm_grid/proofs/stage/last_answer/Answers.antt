@@ -1,4 +1,4 @@
-use Rattle.std.proofs.Common.{◌≡◌, sym}
+use Rattle.std.proofs.Common.{sym}
 use Rattle.pgm_grid.proofs.ReaderLemmas.{end-header, end-refused}
 use Rattle.pgm_grid.proofs.stage.last_answer.Goals as goal
 

@@ -1,4 +1,3 @@
-use Rattle.std.proofs.Common.{◌≡◌, ◌+◌, ◌^◌, ◌≤◌, length, arith}
 use Rattle.pgm_grid.proofs.ReaderLemmas.{raster-takes, raster-read, raster-refusal}
 use Rattle.pgm_grid.proofs.stage.raster_after.Goals as goal
 

@@ -1,4 +1,3 @@
-use Rattle.std.proofs.Common.{◌≡◌}
 use Rattle.pgm_grid.proofs.ReaderLemmas.{raster-stops, stopped-stops, both-err}
 use Rattle.pgm_grid.proofs.stage.stage_after.Goals as goal
 
