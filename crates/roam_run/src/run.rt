@@ -30,7 +30,9 @@ use wedgie_tree::Wedges;
 /// The words are those after the program's name. What comes in whatever pieces is handed on as it
 /// comes; a frame's mesh is written and finished before its line is written, and the first call that
 /// fails ends the run.
-/// Cost (not proved): one step a byte of the files; takes memory for the heights of the grid alone.
+/// Cost (not proved): a few steps a byte of the files; for `mesh` a rank and a sort of the triangles and the
+/// forced splits of the mesh, once, and the writing of the mesh for each frame. Memory is taken for the
+/// heights, the wedges and the mesh, before the script is opened.
 pub fn roam<F: Shelf, M: MeshSink, R: Sink>(
     alloc: Global,
     words: &[String],
