@@ -1,3 +1,1 @@
-pub mod Corners
-pub mod Pair
 pub mod RankOrder

@@ -2,7 +2,7 @@
 
 ghost use Rattle.std.specs.Prelude.{◌≡◌, ℕ, ◌^◌, ◌<◌, ◌≤◌, ◌↔◌, IfSome};
 ghost use Rattle.mesh_defs.specs.Triangle.{level_of};
-ghost use Rattle.bintree_addr.specs.Pair.{IsPair};
+ghost use Rattle.bintree_laws.specs.Pair.{IsPair};
 
 /// The other address of the level whose triangle has the same base.
 pub fn address_across(number: u32) -> Option<u32>

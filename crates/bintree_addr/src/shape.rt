@@ -2,7 +2,7 @@
 
 ghost use Rattle.std.specs.Prelude.{◌≡◌, ◌+◌, ◌<◌, ◌^◌, if◌then◌else◌};
 ghost use Rattle.mesh_defs.specs.Triangle.{midpoint, base_triangle, child};
-ghost use Rattle.bintree_addr.specs.Corners.{IsWithin, IsInSquare};
+ghost use Rattle.bintree_laws.specs.Corners.{IsWithin, IsInSquare};
 ghost use Rattle.mesh_defs.specs.BoundingBox.{is_left_or_on};
 
 use crate::{Corners, Point};

@@ -3,7 +3,7 @@
 ghost use Rattle.std.specs.Prelude.{◌≡◌, ℕ, ◌+◌, ◌*◌, ◌^◌, ◌<◌, ◌≤◌, ◌/◌, ◌↔◌, IsSome, IsNone, IfSome};
 ghost use Rattle.mesh_defs.specs.Triangle.{level_of, corners_of, child, midpoint, IsMate, HasBorderBase};
 ghost use Rattle.mesh_defs.specs.BoundingBox.{holds_point, point};
-ghost use Rattle.bintree_addr.specs.Corners.{IsWithin, HasEvenBase};
+ghost use Rattle.bintree_laws.specs.Corners.{IsWithin, HasEvenBase};
 
 use crate::pair::address_across;
 use crate::shape::{child_corners, half_square, is_left, point_between};
@@ -32,7 +32,7 @@ impl Model for Tri {
     ghost inverse = { λ a. record { number = a } };
 }
 
-#[tactic(auto, using(crate::proofs::LatticeLemmas::corner_facts))]
+#[tactic(auto, using(bintree_laws::proofs::LatticeLemmas::corner_facts))]
 impl Tri {
     /// The triangle with this address.
     pub fn new(number: u32) -> Option<Self>
@@ -152,7 +152,7 @@ impl Tri {
     /// Whether the grid point (x, y) lies in the closed triangle, its border included.
     ///
     /// Cost (not proved): that of `corners`.
-    #[tactic(auto, using(crate::proofs::CornerLemmas::side_small))]
+    #[tactic(auto, using(bintree_laws::proofs::CornerLemmas::side_small))]
     pub fn holds_point(self, n: u32, x: u32, y: u32) -> bool
         requires in_grid { (1 ≤ n) × (n ≤ 11) }
         requires level { level_of self ≤ 2 * n }

@@ -1,5 +1,1 @@
-pub mod ForcingLemmas
-pub mod MemberLemmas
-pub mod SizeLemmas
-pub mod ClosureLemmas
-pub mod RankLemmas
+pub mod SearchLemmas

@@ -1,3 +1,0 @@
-pub mod GridSet
-pub mod Forcing
-pub mod Falling

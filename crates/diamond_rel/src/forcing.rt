@@ -4,8 +4,8 @@ ghost use Rattle.std.specs.Prelude.{◌≤◌, OnOk, length};
 ghost use Rattle.mesh_defs.specs.Triangle.{IsSplittable};
 ghost use Rattle.mesh_defs.specs.ClosedSet.{IsClosed, IsLeastClosed, among};
 ghost use Rattle.mesh_defs.specs.Greedy.{with_triangle};
-ghost use Rattle.diamond_rel.specs.GridSet.{IsAscending};
-ghost use Rattle.diamond_rel.specs.Forcing.{IsPrepared};
+ghost use Rattle.mesh_defs.specs.GridSet.{IsAscending};
+ghost use Rattle.closure_laws.specs.Forcing.{IsPrepared};
 
 use crate::members::{contains, insert};
 use bintree_addr::Tri;

@@ -3,7 +3,7 @@
 ghost use Rattle.std.specs.Prelude.{◌≡◌, ◌+◌, ◌*◌, ◌≤◌, ◌++◌, OnOk};
 ghost use Rattle.mesh_defs.specs.Triangle.{level_of};
 ghost use Rattle.mesh_defs.specs.ClosedSet.{leaves_under, leaves_of, among};
-ghost use Rattle.diamond_rel.specs.GridSet.{IsAscending};
+ghost use Rattle.mesh_defs.specs.GridSet.{IsAscending};
 
 use crate::members::contains;
 use bintree_addr::Tri;

@@ -3,7 +3,7 @@
 ghost use Rattle.std.specs.Prelude.{◌≡◌, ℕ, ◌≤◌, OnOk, length};
 ghost use Rattle.mesh_defs.specs.ClosedSet.{among};
 ghost use Rattle.mesh_defs.specs.Greedy.{with_triangle};
-ghost use Rattle.diamond_rel.specs.GridSet.{IsAscending};
+ghost use Rattle.mesh_defs.specs.GridSet.{IsAscending};
 
 use bintree_addr::Tri;
 use roam_edge::NoMemory;

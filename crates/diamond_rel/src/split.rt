@@ -5,7 +5,7 @@ ghost use Rattle.mesh_defs.specs.Triangle.{IsSplittable};
 ghost use Rattle.mesh_defs.specs.Tiling.{IsConforming};
 ghost use Rattle.mesh_defs.specs.ClosedSet.{IsClosed, leaves_of, among};
 ghost use Rattle.tiling_laws.specs.Ancestors.{ancestors_of, AreLeaves};
-ghost use Rattle.diamond_rel.specs.GridSet.{IsGridSet, IsForced, IsGain};
+ghost use Rattle.mesh_defs.specs.GridSet.{IsGridSet, IsForced, IsGain};
 
 use crate::forcing::force;
 use crate::leaves::push_all_leaves;
@@ -27,7 +27,7 @@ pub struct Split {
 }
 
 impl Model for Split {
-    ghost use Rattle.diamond_rel.specs.GridSet.{GridSet, IsGridSet};
+    ghost use Rattle.mesh_defs.specs.GridSet.{GridSet, IsGridSet};
 
     ghost Value = { GridSet };
 

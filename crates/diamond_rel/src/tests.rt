@@ -3,7 +3,7 @@
 ghost use Rattle.std.specs.Prelude.{◌≡◌, ◌≤◌};
 ghost use Rattle.mesh_defs.specs.Triangle.{IsSplittable};
 
-use crate::{Split, closure_laws, greedy_laws, member_laws, rank_laws};
+use crate::Split;
 use bintree_addr::Tri;
 use std::process::Abort;
 use std::test::Fail;
@@ -65,12 +65,4 @@ fn the_empty_set_has_the_two_halves_as_leaves(rt: HostRuntime) -> Result<(), Fai
     assert_eq!(rt; leaves.len(), 2);
     assert_eq!(rt; (leaves[0].number(), leaves[1].number()), (2, 3));
     Ok(())
-}
-
-#[test]
-fn laws_are_calls() {
-    closure_laws();
-    member_laws();
-    rank_laws();
-    greedy_laws();
 }

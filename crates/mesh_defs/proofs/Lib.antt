@@ -1,8 +1,5 @@
-pub mod LevelLemmas
-pub mod ShapeLemmas
-pub mod TilingLemmas
-pub mod RankingLemmas
-pub mod GreedyLemmas
+pub mod ListLemmas
+pub mod OrderLemmas
 pub mod TextLemmas
 pub mod RootLemmas
 mod ClosedLists

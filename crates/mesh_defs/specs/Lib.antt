@@ -8,5 +8,8 @@ pub mod View
 pub mod Priority
 pub mod Ranking
 pub mod Greedy
+pub mod GridSet
+pub mod Falling
 pub mod MeshText
 pub mod BestMesh
+pub mod State

@@ -6,9 +6,14 @@ use Rattle.std.specs.Prelude.{◌≡◌, ℕ, ◌+◌, ◌<◌, ◌≤◌, ◌�
 use Rattle.mesh_defs.specs.Triangle.{IsSplittable}
 use Rattle.mesh_defs.specs.ClosedSet.{IsLeastClosed, leaves_of, among}
 
--- the greater priority first, and of equal ones the lesser address
+-- The order of ranks: triangle a with priority p is before b with q, where p is greater, or they are equal
+-- and a is less.
+abbrev pub IsBefore : ℕ → ℕ → ℕ → ℕ → Type 0
+IsBefore p a q b = (q < p) ⊎ ((p ≡ q) × (a < b))
+
+-- a ranks before b, each by its priority
 abbrev pub RanksBefore : (ℕ → ℕ) → ℕ → ℕ → Type 0
-RanksBefore priority a b = (priority b < priority a) ⊎ ((priority a ≡ priority b) × (a < b))
+RanksBefore priority a b = IsBefore (priority a) a (priority b) b
 
 -- the splittable triangles of positive priority, each once, in rank order
 pub record IsRanking (n : ℕ) (priority : ℕ → ℕ) (ranking : List ℕ) : Type 0 where

@@ -13,6 +13,6 @@ mod point;
 #[cfg(test)]
 mod worked_numbers;
 
-pub use laws::{base_mesh, roots};
+pub use laws::roots;
 pub use mark::Mark;
 pub use point::{Corners, Point};

@@ -12,7 +12,7 @@ use Rattle.mesh_defs.specs.MeshText.{is_same_point, vertices_of, vertex_number}
 use Rattle.obj_write.specs.Numbers.{number_at, numbers_of}
 use Rattle.obj_write.specs.VertexMarks.{grid_place, place_point, is_vertex, vertex_marks, numbered, marked}
 use Rattle.obj_write.proofs.PlaceLemmas.{by_bool, points-placed, place-again, place-below, point-again, same-point, same-self}
-use Rattle.bintree_addr.specs.Corners.{IsInSquare}
+use Rattle.bintree_laws.specs.Corners.{IsInSquare}
 
 -- the first that passes stands behind those that do not
 first-found : (p : Point → Bool) (vs : List Point) (q : Point) (more : List Point) → list_any p vs ≡ false → p q ≡ true →

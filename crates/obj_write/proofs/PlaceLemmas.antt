@@ -15,7 +15,7 @@ use Rattle.mesh_defs.specs.HeightField.{side_of}
 use Rattle.mesh_defs.specs.Triangle.{corners_of}
 use Rattle.mesh_defs.specs.BoundingBox.{point, points_of}
 use Rattle.mesh_defs.specs.MeshText.{is_same_point, has_corner}
-use Rattle.bintree_addr.specs.Corners.{IsInSquare, IsWithin}
+use Rattle.bintree_laws.specs.Corners.{IsInSquare, IsWithin}
 use Rattle.obj_write.specs.VertexMarks.{grid_place, place_point, is_vertex, vertex_marks}
 
 -- a test is true or false

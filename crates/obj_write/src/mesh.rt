@@ -4,7 +4,7 @@ ghost use Rattle.std.specs.Prelude.{◌≡◌, ℕ, ◌+◌, ◌*◌, ◌^◌, �
 ghost use Rattle.mesh_defs.specs.HeightField.{side_of};
 ghost use Rattle.mesh_defs.specs.Triangle.{level_of, corners_of};
 ghost use Rattle.mesh_defs.specs.MeshText.{vertex_line, vertex_number, face_line, face_lines, group_line, is_mark_before, triangle_mark, vertices_of};
-ghost use Rattle.bintree_addr.specs.Corners.{IsInSquare};
+ghost use Rattle.bintree_laws.specs.Corners.{IsInSquare};
 ghost use Rattle.roam_edge.specs.Fault.{HasCause};
 ghost use Rattle.roam_edge.specs.MeshSink.{Mesh};
 ghost use Rattle.obj_write.specs.Numbers.{numbers_of};

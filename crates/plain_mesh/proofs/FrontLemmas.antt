@@ -6,11 +6,11 @@ use Rattle.std.proofs.lemmas.Option.{slice_get-get_or, slice_get_read, same_Some
 use Rattle.mesh_defs.specs.ClosedSet.{IsSubset, IsLeastClosed, leaves_of, among}
 use Rattle.mesh_defs.specs.Ranking.{IsFrontClosure, IsRankClosure, IsBlockedBy}
 use Rattle.mesh_defs.specs.Greedy.{with_triangle}
-use Rattle.diamond_rel.proofs.ForcingLemmas.{with-cases, with-old, with-new}
-use Rattle.diamond_rel.proofs.ClosureLemmas.{IsSubset-closures, leaves_of-more}
+use Rattle.closure_laws.proofs.ForcingLemmas.{with-cases, with-old, with-new}
+use Rattle.closure_laws.proofs.ClosureLemmas.{IsSubset-closures, leaves_of-more}
 use Rattle.bintree_addr.specs.declared.blocked.Blocked.{Blocked}
 use Rattle.bintree_addr.specs.declared.rank.Rank.{Rank}
-use Rattle.diamond_rel.specs.GridSet.{IsForced}
+use Rattle.mesh_defs.specs.GridSet.{IsForced}
 use Rattle.plain_mesh.specs.Ranks.{triangles_of}
 use Rattle.plain_mesh.specs.Stop.{IsOver, IsStop}
 

@@ -1,4 +1,3 @@
 mod FrontLemmas
 mod PickLemmas
-mod ChoiceLemmas
-mod FrameLemmas
+mod StopLemmas

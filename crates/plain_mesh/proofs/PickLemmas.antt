@@ -14,8 +14,8 @@ use Rattle.mesh_defs.specs.Triangle.{level_of}
 use Rattle.mesh_defs.specs.Ranking.{RanksBefore}
 use Rattle.bintree_addr.specs.declared.rank.Rank.{Rank}
 use Rattle.bintree_addr.specs.RankOrder.{rank_cmp, ComesFirst}
-use Rattle.tiling_laws.proofs.TurnLemmas.{one_if}
-use Rattle.tiling_laws.proofs.ListLemmas.{IsIn, IsIn-contains, Contains-in, some-count, count-some, count-cons}
+use Rattle.mesh_defs.proofs.ListLemmas.{one_if}
+use Rattle.mesh_defs.proofs.ListLemmas.{IsIn, IsIn-contains, Contains-in, some-count, count-some, count-cons}
 use Rattle.plain_mesh.specs.Ranks.{triangles_of, HavePriorities, positives_below, IsPicked, IsRanked}
 
 -- how often a stands in a list

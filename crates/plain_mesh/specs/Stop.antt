@@ -5,7 +5,7 @@ use Rattle.mesh_defs.specs.ClosedSet.{leaves_of, among}
 use Rattle.mesh_defs.specs.Ranking.{IsRankClosure, IsBlockedBy}
 use Rattle.bintree_addr.specs.declared.blocked.Blocked.{Blocked}
 use Rattle.bintree_addr.specs.declared.rank.Rank.{Rank}
-use Rattle.diamond_rel.specs.GridSet.{IsForced}
+use Rattle.mesh_defs.specs.GridSet.{IsForced}
 use Rattle.plain_mesh.specs.Ranks.{triangles_of}
 
 -- with the triangle and what it forces there are this many leaves, more than the budget

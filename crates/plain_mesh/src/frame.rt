@@ -5,12 +5,13 @@ ghost use Rattle.mesh_defs.specs.ClosedSet.{leaves_of, among};
 ghost use Rattle.mesh_defs.specs.Priority.{priority_of};
 ghost use Rattle.mesh_defs.specs.BestMesh.{IsBestMesh};
 ghost use Rattle.view_priority.specs.Camera.{view_from};
-ghost use Rattle.plain_mesh.specs.Frame.{IsFrame};
+ghost use Rattle.closure_laws.specs.Frame.{IsFrame};
 
-use crate::frame_laws;
+use crate::falling_laws;
 use crate::ranking::ranking_of;
 use crate::refining::refined;
 use bintree_addr::Blocked;
+use closure_laws::frame_laws;
 use cull_marks::Planes;
 use diamond_rel::Split;
 use roam_edge::NoMemory;
@@ -51,7 +52,7 @@ pub fn plain_frame(
     ensures grid { IfOk result (λ f. f.split.n ≡ w.now.n) }
     ensures frame { IfOk result (λ f.
         let p = priority_of w.now.n w.now.heights (view_from camera.now spacing planes.now) in
-        IsFrame w.now.n budget p (leaves_of w.now.n (among f.split.members)) f.worst f.blocked) }
+        IsFrame w.now.n budget p (among f.split.members) f.worst f.blocked) }
 
     // No conforming list within the budget has a lower worst.
     ensures best { IfOk result (λ f.
@@ -70,6 +71,7 @@ pub fn plain_frame(
         × Contains (leaves_of w.now.n (among f.split.members)) b.tri)) }
 {
     frame_laws();
+    falling_laws();
     let ranking = ranking_of(alloc, w, camera, spacing, planes)?;
     let frame = refined(alloc, w.grid().n(), &ranking, budget)?;
     Ok(frame)

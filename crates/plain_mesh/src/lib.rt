@@ -14,4 +14,4 @@ mod refining;
 mod tests;
 
 pub use frame::{PlainFrame, plain_frame};
-pub use laws::frame_laws;
+pub use laws::falling_laws;

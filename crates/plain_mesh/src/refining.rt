@@ -3,7 +3,7 @@
 ghost use Rattle.std.specs.Prelude.{◌≡◌, ◌<◌, ◌≤◌, IfOk, IfSome, IsNone, All, length};
 ghost use Rattle.mesh_defs.specs.Triangle.{IsSplittable};
 ghost use Rattle.mesh_defs.specs.ClosedSet.{leaves_of, among};
-ghost use Rattle.diamond_rel.specs.GridSet.{IsForced};
+ghost use Rattle.mesh_defs.specs.GridSet.{IsForced};
 ghost use Rattle.plain_mesh.specs.Stop.{IsOver, IsStop};
 
 use crate::PlainFrame;

@@ -1,6 +1,6 @@
 //! Frames on small grids, worked by hand: what is split, the worst priority, and what blocks.
 
-use crate::{PlainFrame, frame_laws, plain_frame};
+use crate::{PlainFrame, falling_laws, plain_frame};
 use bintree_addr::{Blocked, Tri};
 use cull_marks::{Plane, Planes};
 use pgm_grid::PgmReader;
@@ -123,5 +123,5 @@ fn what_the_planes_leave_out_is_not_split(rt: HostRuntime) -> Result<(), Fail> {
 
 #[test]
 fn laws_are_calls() {
-    frame_laws();
+    falling_laws();
 }

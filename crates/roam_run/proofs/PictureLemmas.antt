@@ -11,8 +11,8 @@ use Rattle.mesh_defs.specs.View.{View, start_view}
 use Rattle.mesh_defs.specs.Priority.{priority_of, worst_of}
 use Rattle.mesh_defs.specs.MeshText.{mesh_text, vertices_of}
 use Rattle.bintree_addr.specs.declared.blocked.Blocked.{Blocked}
-use Rattle.diamond_rel.specs.Falling.{IsFalling}
-use Rattle.plain_mesh.specs.Frame.{IsFrame}
+use Rattle.mesh_defs.specs.Falling.{IsFalling}
+use Rattle.closure_laws.specs.Frame.{IsFrame}
 use Rattle.roam_edge.specs.Shelf.{NamedFile, bytes_of}
 use Rattle.pgm_grid.specs.declared.fault.PgmFault.{PgmFault}
 use Rattle.pgm_grid.specs.Progress.{grid_of}

@@ -8,9 +8,9 @@ use Rattle.mesh_defs.specs.declared.point.Corners.{Corners}
 use Rattle.mesh_defs.specs.Triangle.{level_of, base_triangle, IsAddress, IsSplittable, midpoint, child, corners_of, IsCorner, IsEdge}
 use Rattle.mesh_defs.specs.Tiling.{IsBetween, IsStrictlyBetween, IsConforming}
 use Rattle.mesh_defs.specs.ClosedSet.{IsClosed, leaves_of}
-use Rattle.bintree_addr.specs.Corners.{IsWithin}
-use Rattle.bintree_addr.proofs.CornerLemmas.{corners_of-left, corners_of-right, IsWithin-corners_of}
-use Rattle.bintree_addr.proofs.CentreLemmas.{same_centre}
+use Rattle.bintree_laws.specs.Corners.{IsWithin}
+use Rattle.bintree_laws.proofs.CornerLemmas.{corners_of-left, corners_of-right, IsWithin-corners_of}
+use Rattle.bintree_laws.proofs.CentreLemmas.{same_centre}
 use Rattle.tiling_laws.proofs.WayLemmas.{Way, IsInside-between, IsStrictlyBetween-inside, IsRun-first_half, IsRun-second_half, inside_halves, not_inside_one}
 use Rattle.tiling_laws.proofs.TurnLemmas.{IsTurned, leg, IsAxis, three, six, IsRun-base, IsRun-short_base, IsRun-right_leg}
 use Rattle.tiling_laws.proofs.DescentLemmas.{IsDown, IsDown-left, IsDown-right, IsSplittable-down, IsAddress-down, forked_of, finest_of, All-leaves_of, Tiles-leaves_of}

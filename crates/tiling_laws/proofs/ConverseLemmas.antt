@@ -8,16 +8,16 @@ use Rattle.mesh_defs.specs.declared.point.Corners.{Corners}
 use Rattle.mesh_defs.specs.Triangle.{level_of, IsAddress, IsSplittable, midpoint, child, corners_of, IsCorner, IsEdge, IsMate}
 use Rattle.mesh_defs.specs.Tiling.{IsSample, is_inside, IsBetween, IsStrictlyBetween, IsConforming}
 use Rattle.mesh_defs.specs.ClosedSet.{IsClosed, leaves_of}
-use Rattle.mesh_defs.proofs.LevelLemmas.{level-le}
-use Rattle.bintree_addr.proofs.LevelLemmas.{level_of-parent, level_of-below}
-use Rattle.bintree_addr.proofs.CornerLemmas.{corners_of-left, corners_of-right}
-use Rattle.bintree_addr.proofs.CentreLemmas.{same_centre, mate_unique, mate_symmetric}
+use Rattle.bintree_laws.proofs.LevelLemmas.{level-le}
+use Rattle.bintree_laws.proofs.LevelLemmas.{level_of-parent, level_of-below}
+use Rattle.bintree_laws.proofs.CornerLemmas.{corners_of-left, corners_of-right}
+use Rattle.bintree_laws.proofs.CentreLemmas.{same_centre, mate_unique, mate_symmetric}
 use Rattle.tiling_laws.specs.Ancestors.{halves_to, is_above, ancestors_of, AreLeaves}
 use Rattle.tiling_laws.proofs.WayLemmas.{Way, point, IsInside-between, IsStrictlyBetween-inside, IsRun-first_half, IsRun-second_half, IsInside-first_half, IsInside-second_half, IsInside-middle}
 use Rattle.tiling_laws.proofs.TurnLemmas.{three, IsTurned, leg, IsRun-base}
 use Rattle.tiling_laws.proofs.DescentLemmas.{IsDown, IsDown-left, IsDown-right, IsDown-address, IsDown-splittable, IsAddress-down, IsAddress-splittable, forked_of, one_child_of, one_if-true, one_if-le, is_inside-left, is_inside-right, sample_of, one_base, All-leaves_of, Tiles-leaves_of}
 use Rattle.tiling_laws.proofs.ConformityLemmas.{IsUnder, self, below, IsUnder-up, IsUnder-left, IsUnder-right, middle, between_ends, point_on_edge}
-use Rattle.tiling_laws.proofs.ListLemmas.{IsIn, Contains-in, Any-in, list_any-in, count-some, some-count, one_entry, count-narrower}
+use Rattle.mesh_defs.proofs.ListLemmas.{IsIn, Contains-in, Any-in, list_any-in, count-some, some-count, one_entry, count-narrower}
 
 -- ancestors
 

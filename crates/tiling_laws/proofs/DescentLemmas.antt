@@ -5,12 +5,13 @@ use Rattle.std.proofs.lemmas.List.Sums.{sum_by-append}
 use Rattle.mesh_defs.specs.Triangle.{level_of, IsAddress, IsSplittable, child, corners_of}
 use Rattle.mesh_defs.specs.Tiling.{IsSample, is_within, is_inside, Tiles}
 use Rattle.mesh_defs.specs.ClosedSet.{leaves_under, leaves_of}
-use Rattle.mesh_defs.proofs.LevelLemmas.{level-le, lt-pow-level}
-use Rattle.mesh_defs.proofs.TilingLemmas.{base_conforming}
-use Rattle.bintree_addr.proofs.LevelLemmas.{level_of-left, level_of-right}
-use Rattle.bintree_addr.proofs.CornerLemmas.{corners_of-left, corners_of-right, IsWithin-corners_of}
+use Rattle.bintree_laws.proofs.LevelLemmas.{level-le, lt-pow-level}
+use Rattle.tiling_laws.proofs.BaseLemmas.{base_tiles}
+use Rattle.bintree_laws.proofs.LevelLemmas.{level_of-left, level_of-right}
+use Rattle.bintree_laws.proofs.CornerLemmas.{corners_of-left, corners_of-right, IsWithin-corners_of}
 use Rattle.tiling_laws.proofs.WayLemmas.{Way}
-use Rattle.tiling_laws.proofs.TurnLemmas.{IsTurned, leg, IsAxis, IsPlaced, IsPlaced-at, forked-placed, finest-placed, one_if, one_child, IsOff-sample, some_sample}
+use Rattle.tiling_laws.proofs.TurnLemmas.{IsTurned, leg, IsAxis, IsPlaced, IsPlaced-at, forked-placed, finest-placed, one_child, IsOff-sample, some_sample}
+use Rattle.mesh_defs.proofs.ListLemmas.{one_if}
 
 -- levels
 
@@ -36,7 +37,7 @@ IsSplittable-down n levels a d = let h = d.height in record { low = d.low; coars
 -- each of them is an address of the grid
 pub IsAddress-level : (n a : ℕ) → 2 ≤ a → level_of a ≤ 2 * n → IsAddress n a
 IsAddress-level n a low fits =
-    let high : a < 4 * 2 ^ level_of a = lt-pow-level a in
+    let high : a < 4 * 2 ^ level_of a = lt-pow-level a low in
     let more : 2 ^ level_of a ≤ 2 ^ (2 * n) = pow_mono fits in
     let four : 2 ^ (2 * n + 2) ≡ 2 ^ (2 * n) * 4 = pow-add 2 (2 * n) 2 in
     record { low = low; high = omega arith }
@@ -199,7 +200,7 @@ count-leaves_under n x y has s (suc levels) a d =
 -- a sample is inside exactly one of the base triangles
 pub one_base : (n x y : ℕ) → IsSample n x y → one_if (is_inside n x y 2) + one_if (is_inside n x y 3) ≡ 1
 one_base n x y s =
-    let one : count_by (is_inside n x y) (2 ∷ (3 ∷ [])) ≡ 1 = (base_conforming n).tiles x y s in omega arith
+    let one : count_by (is_inside n x y) (2 ∷ (3 ∷ [])) ≡ 1 = base_tiles n x y s in omega arith
 
 -- the leaves of every test tile the square
 pub Tiles-leaves_of : (n : ℕ) (has : ℕ → Bool) → Tiles n (leaves_of n has)

@@ -4,8 +4,9 @@ use Rattle.std.proofs.lemmas.Bool.{cases_lt, and_parts, and_from, false≢true}
 use Rattle.mesh_defs.specs.declared.point.Corners.{Corners}
 use Rattle.mesh_defs.specs.Triangle.{base_triangle, child, corners_at}
 use Rattle.mesh_defs.specs.Tiling.{IsSample, is_left, is_within}
-use Rattle.bintree_addr.specs.Corners.{IsWithin}
-use Rattle.mesh_defs.proofs.LevelLemmas.{pow-twice}
+use Rattle.bintree_laws.specs.Corners.{IsWithin}
+use Rattle.std.proofs.Math.Nat.{pow-succ'}
+use Rattle.mesh_defs.proofs.ListLemmas.{one_if}
 use Rattle.tiling_laws.proofs.WayLemmas.{Way, east, north_east, north, north_west, west, south_west, south, south_east, IsRun, IsBeside, IsBeside-left, IsLeft-beside}
 
 -- a quarter turn to the left
@@ -323,16 +324,16 @@ IsForked w half c = IsTurned w (leg w (2 ^ half)) c
 forked : (w : Way) (half n level : ℕ) (c : Corners) → level < 2 * n → level + levels_below w half ≡ 2 * n → IsTurned w (2 ^ half) c →
     (less : ℕ) × IsForked w less c × (suc level + levels_below (five w) less ≡ 2 * n) × (suc level + levels_below (three w) less ≡ 2 * n)
 forked east zero n level c h e t = absurd (omega arith)
-forked east (suc half) n level c h e t = (half, subst (λ k. IsTurned east k c) (pow-twice half) t, omega arith, omega arith)
+forked east (suc half) n level c h e t = (half, subst (λ k. IsTurned east k c) (pow-succ' 2 half) t, omega arith, omega arith)
 forked north_east half n level c h e t = (half, t, omega arith, omega arith)
 forked north zero n level c h e t = absurd (omega arith)
-forked north (suc half) n level c h e t = (half, subst (λ k. IsTurned north k c) (pow-twice half) t, omega arith, omega arith)
+forked north (suc half) n level c h e t = (half, subst (λ k. IsTurned north k c) (pow-succ' 2 half) t, omega arith, omega arith)
 forked north_west half n level c h e t = (half, t, omega arith, omega arith)
 forked west zero n level c h e t = absurd (omega arith)
-forked west (suc half) n level c h e t = (half, subst (λ k. IsTurned west k c) (pow-twice half) t, omega arith, omega arith)
+forked west (suc half) n level c h e t = (half, subst (λ k. IsTurned west k c) (pow-succ' 2 half) t, omega arith, omega arith)
 forked south_west half n level c h e t = (half, t, omega arith, omega arith)
 forked south zero n level c h e t = absurd (omega arith)
-forked south (suc half) n level c h e t = (half, subst (λ k. IsTurned south k c) (pow-twice half) t, omega arith, omega arith)
+forked south (suc half) n level c h e t = (half, subst (λ k. IsTurned south k c) (pow-succ' 2 half) t, omega arith, omega arith)
 forked south_east half n level c h e t = (half, t, omega arith, omega arith)
 
 -- at the finest level
@@ -393,10 +394,6 @@ leg_some south k h = omega arith
 leg_some south_east k h = omega arith
 
 -- samples
-
--- 1 for a test that passes
-abbrev pub one_if : Bool → ℕ
-one_if b = cond b 1 0
 
 -- what three tests count
 count_of : (whole left right : Bool) → (left ≡ true → whole ≡ true) → (right ≡ true → whole ≡ true) →

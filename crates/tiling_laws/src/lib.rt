@@ -2,13 +2,13 @@
 //!
 //! The statements are about definitions alone, so each is the clause of a function with an empty
 //! body. A caller gets a law by a call, which costs nothing. The geometry stands below, in
-//! `bintree_addr`; sets as the code has them, and forced splits, stand above.
+//! `bintree_laws`; sets as the code has them, and forced splits, stand above.
 
 #![tactic(auto)]
 
 mod laws;
 
-pub use laws::{conformity_laws, leaf_laws, sample_laws};
+pub use laws::{conformity_laws, leaf_laws, orientation_laws, sample_laws};
 
 #[cfg(test)]
 mod tests;

@@ -9,7 +9,7 @@ use Rattle.mesh_defs.specs.declared.point.Point.{Point}
 use Rattle.mesh_defs.specs.declared.point.Corners.{Corners}
 use Rattle.mesh_defs.specs.Triangle.{child, midpoint, base_triangle, IsCorner, level_of, corners_of}
 use Rattle.mesh_defs.specs.BoundingBox.{is_left_or_on, is_in_closed}
-use Rattle.bintree_addr.specs.Corners.{IsWithin, HasEvenBase}
+use Rattle.bintree_laws.specs.Corners.{IsWithin, HasEvenBase}
 
 -- ---- doubled areas
 

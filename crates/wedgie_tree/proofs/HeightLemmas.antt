@@ -6,7 +6,7 @@ use Rattle.mesh_defs.specs.declared.point.Corners.{Corners}
 use Rattle.mesh_defs.specs.Triangle.{level_of, corners_of, IsCorner, IsSplittable}
 use Rattle.mesh_defs.specs.Thickness.{height_of}
 use Rattle.mesh_defs.specs.BoundingBox.{points_of, holds_point, low_of, high_of, least_of_3, greatest_of_3}
-use Rattle.bintree_addr.specs.Corners.{IsWithin}
+use Rattle.bintree_laws.specs.Corners.{IsWithin}
 use Rattle.wedgie_tree.proofs.ExtremeLemmas.{IsIn, IsIn-points_of, under, under-split, le-under, under-le, greatest-split, greatest-le, le-greatest, least-bounded}
 use Rattle.wedgie_tree.proofs.AreaLemmas.{AddressLaws, HasArea, HasArea-at, is_in_closed-children, apex-held, v0-held, v1-held, finest-corner}
 

@@ -4,7 +4,7 @@ use Rattle.std.proofs.Math.Pow.{pow_mono}
 use Rattle.std.proofs.lemmas.Nat.{one_shl}
 use Rattle.mesh_defs.specs.declared.point.Corners.{Corners}
 use Rattle.mesh_defs.specs.Triangle.{corners_of}
-use Rattle.bintree_addr.specs.Corners.{IsWithin, IsInSquare}
+use Rattle.bintree_laws.specs.Corners.{IsWithin, IsInSquare}
 
 -- the corners of an address lie within the square
 pub IsWithin-of : ((n a : ℕ) → IsWithin (2 ^ n) (corners_of n a)) → (n a : ℕ) (c : Corners) → c ≡ corners_of n a →

@@ -5,7 +5,7 @@ ghost use Rattle.mesh_defs.specs.HeightField.{HeightField};
 ghost use Rattle.mesh_defs.specs.Triangle.{midpoint, child};
 ghost use Rattle.mesh_defs.specs.Thickness.{height_of, deviation};
 ghost use Rattle.mesh_defs.specs.BoundingBox.{least_of_3, greatest_of_3};
-ghost use Rattle.bintree_addr.specs.Corners.{IsWithin, IsInSquare};
+ghost use Rattle.bintree_laws.specs.Corners.{IsWithin, IsInSquare};
 
 use bintree_addr::{Corners, Cuboid, Point};
 use pgm_grid::Grid;

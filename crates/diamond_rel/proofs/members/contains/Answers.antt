@@ -1,6 +1,6 @@
 -- The binary search answers whether the triangle is there.
 use Rattle.std.proofs.Common.{◌∙◌}
-use Rattle.diamond_rel.proofs.MemberLemmas.{is_ok-searched}
+use Rattle.diamond_rel.proofs.SearchLemmas.{is_ok-searched}
 use Rattle.diamond_rel.proofs.members.contains.Goals as goal
 
 pub returns : goal.returns

@@ -3,8 +3,8 @@ use Rattle.std.proofs.Common.{◌≡◌, ◌∙◌, ℕ, List, Ok, Err, subst, s
 use Rattle.std.specs.List.Sorted.{IsBinarySearchResult}
 use Rattle.std.specs.Ordering.{nat_cmp}
 use Rattle.mesh_defs.specs.ClosedSet.{among}
-use Rattle.diamond_rel.specs.GridSet.{IsAscending}
-use Rattle.diamond_rel.proofs.MemberLemmas.{IsPlaceFor, IsPlaceFor-searched, ascending-insert, among-insert, among-there, found-searched}
+use Rattle.mesh_defs.specs.GridSet.{IsAscending}
+use Rattle.diamond_rel.proofs.SearchLemmas.{IsPlaceFor, IsPlaceFor-searched, ascending-insert, among-insert, among-there, found-searched}
 use Rattle.diamond_rel.proofs.members.insert.Goals as goal
 
 pub returns-in-Ok-clause-ok : goal.returns-in-Ok-clause-ok

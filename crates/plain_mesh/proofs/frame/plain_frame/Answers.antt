@@ -6,7 +6,7 @@ use Rattle.mesh_defs.specs.Priority.{priority_of}
 use Rattle.bintree_addr.specs.declared.rank.Rank.{Rank}
 use Rattle.view_priority.specs.Camera.{view_from}
 use Rattle.plain_mesh.specs.Stop.{IsStop}
-use Rattle.plain_mesh.proofs.FrameLemmas.{IsFrame-stop, All-splittable}
+use Rattle.plain_mesh.proofs.StopLemmas.{IsFrame-stop, All-splittable}
 use Rattle.plain_mesh.proofs.frame.plain_frame.Goals as goal
 
 pub refined-requires-clause-splittable : goal.refined-requires-clause-splittable
@@ -27,16 +27,16 @@ returns-clause-frame c =
     (subst (λ n. IsStop n c.args.budget c.deref.result.now frame.split.members frame.worst frame.blocked) grid c.in_ok-frame.ensures.stop) in
     IsFrame-stop c.args.w.now.n c.args.budget (priority_of c.args.w.now.n c.args.w.now.heights view) c.in_ok-ranking.ranking.items
     frame.split.members frame.worst frame.blocked stop c.in_ok-ranking.ensures
-    (c.frame_laws.ensures.falling c.args.w.now.n c.args.w.now.heights view) c.requires.budget
+    (c.falling_laws.ensures c.args.w.now.n c.args.w.now.heights view) c.requires.budget
 
 pub returns-clause-best : goal.returns-clause-best
 returns-clause-best c =
-    c.frame_laws.ensures.best _ _ _ _ _ _ (returns-clause-frame c) (c.frame_laws.ensures.falling _ _ _) c.requires.budget
+    c.frame_laws.ensures.best _ _ _ _ _ _ (returns-clause-frame c) (c.falling_laws.ensures _ _ _) c.requires.budget
 
 pub returns-clause-unblocked : goal.returns-clause-unblocked
 returns-clause-unblocked c =
-    c.frame_laws.ensures.unblocked _ _ _ _ _ _ (returns-clause-frame c) (c.frame_laws.ensures.falling _ _ _) c.requires.budget
+    c.frame_laws.ensures.unblocked _ _ _ _ _ _ (returns-clause-frame c) (c.falling_laws.ensures _ _ _) c.requires.budget
 
 pub returns-clause-certificate : goal.returns-clause-certificate
 returns-clause-certificate c =
-    c.frame_laws.ensures.certificate _ _ _ _ _ _ (returns-clause-frame c) (c.frame_laws.ensures.falling _ _ _) c.requires.budget
+    c.frame_laws.ensures.certificate _ _ _ _ _ _ (returns-clause-frame c) (c.falling_laws.ensures _ _ _) c.requires.budget

@@ -2,10 +2,10 @@
 use Rattle.std.proofs.Common.{◌≡◌, ℕ, ◌+◌, ◌<◌, ◌≤◌, ◌^◌, List, length, ap, arith, rules}
 use Rattle.mesh_defs.specs.ClosedSet.{leaves_of, among}
 use Rattle.mesh_defs.specs.Greedy.{with_triangle}
-use Rattle.diamond_rel.specs.GridSet.{IsGridSet, IsForced, IsGain}
-use Rattle.diamond_rel.proofs.SizeLemmas.{length-grown, length-leaves_of}
-use Rattle.diamond_rel.proofs.MemberLemmas.{ascending_unique}
-use Rattle.diamond_rel.proofs.ClosureLemmas.{IsLeastClosed-unique}
+use Rattle.mesh_defs.specs.GridSet.{IsGridSet, IsForced, IsGain}
+use Rattle.closure_laws.proofs.SizeLemmas.{length-grown, length-leaves_of}
+use Rattle.closure_laws.proofs.MemberLemmas.{ascending_unique}
+use Rattle.closure_laws.proofs.ClosureLemmas.{IsLeastClosed-unique}
 use Rattle.plain_mesh.specs.Stop.{IsOver}
 use Rattle.plain_mesh.proofs.refining.admit.Goals as goal
 

@@ -2,8 +2,8 @@
 use Rattle.std.proofs.Common.{◌≡◌, ℕ, ◌≤◌, List, length, Some, false, is_some, ap, subst, sym, ◌∙◌, arith}
 use Rattle.std.proofs.lemmas.Option.{MatchOption-at_some}
 use Rattle.mesh_defs.specs.ClosedSet.{leaves_of, among}
-use Rattle.diamond_rel.specs.GridSet.{GridSet}
-use Rattle.diamond_rel.proofs.ClosureLemmas.{leaves_of-none}
+use Rattle.mesh_defs.specs.GridSet.{GridSet}
+use Rattle.closure_laws.proofs.ClosureLemmas.{leaves_of-none}
 use Rattle.plain_mesh.specs.Ranks.{triangles_of}
 use Rattle.plain_mesh.specs.Stop.{IsOver, IsStop}
 use Rattle.plain_mesh.proofs.FrontLemmas.{closure-nothing, closure-forced, IsStop-over}

@@ -2,8 +2,9 @@
 use Rattle.mesh_defs.specs.ClosedSet.{leaves_of}
 use Rattle.tiling_laws.specs.Ancestors.{ancestors_of}
 use Rattle.tiling_laws.proofs.ConformityLemmas.{IsConforming-leaves_of}
+use Rattle.tiling_laws.proofs.PermutedLemmas.{IsConforming-permuted}
 use Rattle.tiling_laws.proofs.ConverseLemmas.{is_above-power, IsClosed-ancestors_of, AreLeaves-ancestors_of}
-use Rattle.tiling_laws.proofs.ListLemmas.{length-counts}
+use Rattle.mesh_defs.proofs.ListLemmas.{length-counts}
 use Rattle.tiling_laws.proofs.laws.conformity_laws.Goals as goal
 
 pub returns-clause-above : goal.returns-clause-above
@@ -11,6 +12,9 @@ returns-clause-above c = is_above-power
 
 pub returns-clause-conforming : goal.returns-clause-conforming
 returns-clause-conforming c = IsConforming-leaves_of
+
+pub returns-clause-any_order : goal.returns-clause-any_order
+returns-clause-any_order c = IsConforming-permuted
 
 pub returns-clause-closed : goal.returns-clause-closed
 returns-clause-closed c = IsClosed-ancestors_of

@@ -1,4 +1,4 @@
-use Rattle.bintree_addr.proofs.LatticeLemmas.{HasEvenBase-corners_of}
+use Rattle.bintree_laws.proofs.LatticeLemmas.{HasEvenBase-corners_of}
 use Rattle.bintree_addr.proofs.tri.Tri.centre.Goals as goal
 
 pub returns-clause-exact : goal.returns-clause-exact

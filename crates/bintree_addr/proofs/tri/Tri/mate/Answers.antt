@@ -1,7 +1,7 @@
 use Rattle.std.proofs.Common.{◌≡◌, ℕ, Option, Some, None, refl, arith}
 use Rattle.mesh_defs.specs.Triangle.{level_of}
-use Rattle.bintree_addr.specs.Pair.{IsPair}
-use Rattle.bintree_addr.proofs.MateLemmas.{mate_answer, mate_no_answer, answer_off_border, no_answer_on_border}
+use Rattle.bintree_laws.specs.Pair.{IsPair}
+use Rattle.bintree_laws.proofs.MateLemmas.{mate_answer, mate_no_answer, answer_off_border, no_answer_on_border}
 use Rattle.bintree_addr.proofs.tri.Tri.mate.Goals as goal
 use Rattle.bintree_addr.proofs.tri.Tri.mate.Goals.{In-Some, In-None}
 

@@ -2,9 +2,9 @@
 use Rattle.std.proofs.Common.{◌-◌, ◌≤◌, ◌^◌, length, subst, rules}
 use Rattle.mesh_defs.specs.ClosedSet.{among}
 use Rattle.mesh_defs.specs.Greedy.{with_triangle}
-use Rattle.diamond_rel.specs.GridSet.{GridSet, IsGridSet, IsGain}
-use Rattle.diamond_rel.proofs.MemberLemmas.{gain-member}
-use Rattle.diamond_rel.proofs.SizeLemmas.{length-grown}
+use Rattle.mesh_defs.specs.GridSet.{GridSet, IsGridSet, IsGain}
+use Rattle.closure_laws.proofs.MemberLemmas.{gain-member}
+use Rattle.closure_laws.proofs.SizeLemmas.{length-grown}
 use Rattle.diamond_rel.proofs.split.Split.gain.Goals as goal
 
 pub overflow_cast-result : goal.overflow_cast-result

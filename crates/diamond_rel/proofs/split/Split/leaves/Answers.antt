@@ -2,8 +2,8 @@
 use Rattle.std.proofs.Common.{◌≡◌, ℕ, ◌+◌, ◌∙◌, List, length, ap, subst, sym, rules}
 use Rattle.mesh_defs.specs.Tiling.{IsConforming}
 use Rattle.mesh_defs.specs.ClosedSet.{leaves_of, among}
-use Rattle.diamond_rel.specs.GridSet.{IsGridSet, GridSet}
-use Rattle.diamond_rel.proofs.SizeLemmas.{length-leaves_of}
+use Rattle.mesh_defs.specs.GridSet.{IsGridSet, GridSet}
+use Rattle.closure_laws.proofs.SizeLemmas.{length-leaves_of}
 use Rattle.diamond_rel.proofs.split.Split.leaves.Goals as goal
 
 -- the leaves of a set are conforming and are two more than its members

@@ -1,5 +1,0 @@
-use Rattle.bintree_addr.proofs.LevelLemmas.{level_of-below}
-use Rattle.bintree_addr.proofs.laws.level_laws.Goals as goal
-
-pub returns-clause-below : goal.returns-clause-below
-returns-clause-below c a k low = level_of-below a k low

@@ -1,0 +1,9 @@
+pub mod ForcingLemmas
+pub mod ClosureLemmas
+pub mod MemberLemmas
+pub mod SizeLemmas
+pub mod RankingLemmas
+pub mod RankLemmas
+pub mod ChoiceLemmas
+pub mod FrameLemmas
+pub mod BaseLemmas
