@@ -2,6 +2,7 @@ pub mod ForcingLemmas
 pub mod ClosureLemmas
 pub mod MemberLemmas
 pub mod SizeLemmas
+pub mod LeafLemmas
 pub mod RankingLemmas
 pub mod RankLemmas
 pub mod ChoiceLemmas

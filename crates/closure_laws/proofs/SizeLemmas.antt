@@ -18,7 +18,7 @@ use Rattle.tiling_laws.proofs.ConverseLemmas.{under-above, above-under, level-un
 -- how long an ascending list can be
 
 -- entries from k up to m are at most m - k
-length-within : (k m : ℕ) (xs : List ℕ) → IsAscending xs → ((a : ℕ) → IsIn a xs → (k ≤ a) × (a < m)) → length xs ≤ m - k
+pub length-within : (k m : ℕ) (xs : List ℕ) → IsAscending xs → ((a : ℕ) → IsIn a xs → (k ≤ a) × (a < m)) → length xs ≤ m - k
 length-within k m [] o within = omega arith
 length-within k m (x ∷ xs) o within =
     let first = within x (inl refl) in
@@ -44,14 +44,14 @@ length-grown n wanted after low high o least =
 -- an entry of an ascending list is there once
 
 -- where no entry passes, none is counted
-count-none : (p : ℕ → Bool) (xs : List ℕ) → ((a : ℕ) → IsIn a xs → p a ≡ true → ⊥) → count_by p xs ≡ 0
+pub count-none : (p : ℕ → Bool) (xs : List ℕ) → ((a : ℕ) → IsIn a xs → p a ≡ true → ⊥) → count_by p xs ≡ 0
 count-none p xs none = ⊎_elim
     (λ zero. omega arith)
     (λ some. let e = some-count p xs some in absurd (none e.0 e.1 e.2))
     (cases_lt (count_by p xs) 1)
 
 -- an entry of an ascending list is counted once
-count-ascending : (a : ℕ) (xs : List ℕ) → IsAscending xs → IsIn a xs → count_by (λ t. eqb t a) xs ≡ 1
+pub count-ascending : (a : ℕ) (xs : List ℕ) → IsAscending xs → IsIn a xs → count_by (λ t. eqb t a) xs ≡ 1
 count-ascending a [] o h = absurd h
 count-ascending a (x ∷ xs) o (inl e) =
     let c = count-yes (λ t. eqb t a) x xs (eq-eqb x a e) in
@@ -74,18 +74,18 @@ count-ascending a (x ∷ xs) o (inr h) =
 -- at and below a
 
 -- m is a or lies below it
-abbrev is_under : ℕ → ℕ → Bool
+abbrev pub is_under : ℕ → ℕ → Bool
 is_under a m = eqb m a || is_above a m
 
 -- from the test
-under-true : (a m : ℕ) → is_under a m ≡ true → IsUnder a m
+pub under-true : (a m : ℕ) → is_under a m ≡ true → IsUnder a m
 under-true a m h = ⊎_elim
     (λ same. subst (λ z. IsUnder a z) (sym (eqb-true m a same)) self)
     (λ above. let parts = under-above a m above in below m parts.1 parts.2)
     (or_cases (eqb m a) (is_above a m) h)
 
 -- to the test
-true-under : (a m : ℕ) → 2 ≤ a → IsUnder a m → is_under a m ≡ true
+pub true-under : (a m : ℕ) → 2 ≤ a → IsUnder a m → is_under a m ≡ true
 true-under a m low self = or_left (eqb a a) (is_above a a) (eq-eqb a a refl)
 true-under a m low (below y big u) = or_right (eqb y a) (is_above a y) (above-under a y low big u)
 
@@ -164,7 +164,7 @@ length_step : (b : Bool) (left right : List ℕ) (a total : ℕ) →
 length_step true left right a total both one = length-append left right ∙ both refl
 length_step false left right a total both one = one refl
 
-module _ (n : ℕ) (members : List ℕ) (ascending : IsAscending members) (closed : IsClosed n (among members)) where
+module _ (n : ℕ) (members : List ℕ) (each : (a : ℕ) → IsIn a members → count_by (λ t. eqb t a) members ≡ 1) (closed : IsClosed n (among members)) where
   -- each member is an address
   address_of : (m : ℕ) → IsIn m members → IsAddress n m
   address_of m h = IsAddress-splittable n m (closed.splittable m (among-in m members h))
@@ -185,7 +185,7 @@ module _ (n : ℕ) (members : List ℕ) (ascending : IsAscending members) (close
       length-leaves_under levels (2 * a) (IsDown-left n levels a d) in
       let right : length (leaves_under levels (among members) (2 * a + 1)) ≡ 1 + count_by (is_under (2 * a + 1)) members =
       length-leaves_under levels (2 * a + 1) (IsDown-right n levels a d) in
-      let once = count-ascending a members ascending (IsIn-among a members member) in
+      let once = each a (IsIn-among a members member) in
       let all = count-three (is_under a) (λ t. eqb t a) (is_under (2 * a)) (is_under (2 * a + 1)) members
       (λ m h. under_children n levels a m d (address_of m h)) in
       omega arith)
@@ -216,10 +216,14 @@ module _ (n : ℕ) (members : List ℕ) (ascending : IsAscending members) (close
       same_test false false to from = refl
 
   -- a closed set has two leaves more than members
-  pub length-leaves_of : length (leaves_of n (among members)) ≡ length members + 2
+  pub length-leaves_once : length (leaves_of n (among members)) ≡ length members + 2
   unfolding leaves_of
-  length-leaves_of =
+  length-leaves_once =
       let lower = length-leaves_under (2 * n) 2 (IsDown-2 n) in
       let upper = length-leaves_under (2 * n) 3 (IsDown-3 n) in
       let all = count-two (is_under 2) (is_under 3) members one_base_above in
       length-append (leaves_under (2 * n) (among members) 2) (leaves_under (2 * n) (among members) 3) ∙ omega arith
+
+-- of an ascending list
+pub length-leaves_of : (n : ℕ) (members : List ℕ) → IsAscending members → IsClosed n (among members) → length (leaves_of n (among members)) ≡ length members + 2
+length-leaves_of n members ascending closed = length-leaves_once n members (λ a h. count-ascending a members ascending h) closed

@@ -1,7 +1,7 @@
 //! Laws of the definitions, each a clause of a function with an empty body.
 
-ghost use Rattle.std.specs.Prelude.{◌≡◌, ℕ, ◌+◌, ◌*◌, ◌^◌, ◌<◌, ◌≤◌, ◌↔◌, ◌⊎◌, Bool, Option, Some, None, IfSome, IsNone, List, [], ◌∷◌, ◌++◌, length, get_or, All, Contains};
-ghost use Rattle.mesh_defs.specs.Triangle.{IsSplittable};
+ghost use Rattle.std.specs.Prelude.{◌≡◌, ℕ, ◌+◌, ◌*◌, ◌/◌, ◌^◌, ◌<◌, ◌≤◌, ◌↔◌, ◌⊎◌, Bool, Option, Some, None, IfSome, IsNone, List, [], ◌∷◌, ◌++◌, length, get_or, All, Contains, IsTrue, count_by, nat_eq};
+ghost use Rattle.mesh_defs.specs.Triangle.{IsAddress, IsSplittable};
 ghost use Rattle.mesh_defs.specs.Tiling.{IsConforming};
 ghost use Rattle.mesh_defs.specs.BoundingBox.{point};
 ghost use Rattle.mesh_defs.specs.Thickness.{height_of};
@@ -27,6 +27,21 @@ pub fn closed_set_laws()
         leaves_of n has ≡ leaves_of n other }
     ensures more_leaves { (n : ℕ) (has other : ℕ → Bool) → IsSubset has other →
         length (leaves_of n has) ≤ length (leaves_of n other) }
+    ensures counted { (n : ℕ) (members : List ℕ) → ((a : ℕ) → IsTrue (among members a) → count_by (λ t. nat_eq t a) members ≡ 1) →
+        IsClosed n (among members) → length (leaves_of n (among members)) ≡ length members + 2 }
+{}
+
+/// The leaves of a closed set.
+///
+/// A leaf is a triangle of the grid that is no member and whose parent is a member, unless it is 2 or 3. Each
+/// stands once, there are at most as many as finest triangles, and they determine the set.
+pub fn set_leaf_laws()
+    ensures leaf { (n : ℕ) (has : ℕ → Bool) (a : ℕ) → IsClosed n has →
+        (Contains (leaves_of n has) a ↔ (IsAddress n a × (IsTrue (has a) → ⊥) × (4 ≤ a → IsTrue (has (a / 2))))) }
+    ensures once { (n : ℕ) (has : ℕ → Bool) (a : ℕ) → count_by (λ t. nat_eq t a) (leaves_of n has) ≤ 1 }
+    ensures most { (n : ℕ) (has : ℕ → Bool) → length (leaves_of n has) ≤ 2 * 4 ^ n }
+    ensures determine { (n : ℕ) (has other : ℕ → Bool) → IsClosed n has → IsClosed n other →
+        ((v : ℕ) → Contains (leaves_of n has) v ↔ Contains (leaves_of n other) v) → (a : ℕ) → has a ≡ other a }
 {}
 
 /// Sets as ascending lists: the list is determined by its members, and so is a gain.

@@ -9,7 +9,7 @@
 
 mod laws;
 
-pub use laws::{base_mesh, closed_set_laws, frame_laws, greedy_laws, member_laws, rank_laws};
+pub use laws::{base_mesh, closed_set_laws, frame_laws, greedy_laws, member_laws, rank_laws, set_leaf_laws};
 
 #[cfg(test)]
 mod tests;

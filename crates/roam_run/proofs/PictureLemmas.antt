@@ -12,7 +12,9 @@ use Rattle.mesh_defs.specs.Priority.{priority_of, worst_of}
 use Rattle.mesh_defs.specs.MeshText.{mesh_text, vertices_of}
 use Rattle.bintree_addr.specs.declared.blocked.Blocked.{Blocked}
 use Rattle.mesh_defs.specs.Falling.{IsFalling}
+use Rattle.mesh_defs.specs.ClosedSet.{leaves_of}
 use Rattle.closure_laws.specs.Frame.{IsFrame}
+use Rattle.closure_laws.proofs.ClosureLemmas.{leaves_of-same}
 use Rattle.roam_edge.specs.Shelf.{NamedFile, bytes_of}
 use Rattle.pgm_grid.specs.declared.fault.PgmFault.{PgmFault}
 use Rattle.pgm_grid.specs.Progress.{grid_of}
@@ -95,23 +97,24 @@ zero-worst priority (a ∷ triangles) none =
 
 module _ (falling : (n : ℕ) (heights : List ℕ) (view : View) → IsFalling n (priority_of n heights view)) where
   -- what a frame's line tells of blocking is a certificate
-  pub certificates : ((n budget : ℕ) (priority : ℕ → ℕ) (triangles : List ℕ) (worst : ℕ) (blocked : Option Blocked) →
-      IsFrame n budget priority triangles worst blocked → IsFalling n priority → 2 ≤ budget → (IsNone blocked ↔ All (λ a. priority a ≡ 0) triangles))
-      → ((n budget : ℕ) (priority : ℕ → ℕ) (triangles : List ℕ) (worst : ℕ) (blocked : Option Blocked) →
-      IsFrame n budget priority triangles worst blocked → IsFalling n priority → 2 ≤ budget →
-      IfSome blocked (λ b. (budget < b.need) × (priority b.tri ≡ worst) × Contains triangles b.tri))
+  pub certificates : ((n budget : ℕ) (priority : ℕ → ℕ) (has : ℕ → Bool) (worst : ℕ) (blocked : Option Blocked) →
+      IsFrame n budget priority has worst blocked → IsFalling n priority → 2 ≤ budget → (IsNone blocked ↔ All (λ a. priority a ≡ 0) (leaves_of n has)))
+      → ((n budget : ℕ) (priority : ℕ → ℕ) (has : ℕ → Bool) (worst : ℕ) (blocked : Option Blocked) →
+      IsFrame n budget priority has worst blocked → IsFalling n priority → 2 ≤ budget →
+      IfSome blocked (λ b. (budget < b.need) × (priority b.tri ≡ worst) × Contains (leaves_of n has) b.tri))
       → (words : List (List ℕ)) (files : List NamedFile) → CertifiesFrames words files
   certificates unblocked blocking words files command grid picture is_command is_grid is_picture =
       let view : View = start_view command.spacing in
       let fall = falling grid.n grid.heights view in
       let low = command-budget words command is_command in
       let frame = is_picture.frame in
-      let none = unblocked grid.n command.budget (start_priority grid command.spacing) is_picture.leaves picture.worst picture.blocked frame fall low in
-      let some = blocking grid.n command.budget (start_priority grid command.spacing) is_picture.leaves picture.worst picture.blocked frame fall low in
-      let zeros = λ (e : picture.worst ≡ 0). All-from_recursion (λ a. start_priority grid command.spacing a ≡ 0) is_picture.leaves
-      (zero-worst (start_priority grid command.spacing) is_picture.leaves (sym frame.greatest ∙ e)) in
-      let zero = λ (e : IsNone picture.blocked). frame.greatest ∙ worst-zero (start_priority grid command.spacing) is_picture.leaves
-      (recursion_from_All (λ a. start_priority grid command.spacing a ≡ 0) is_picture.leaves (none.0 e)) in
+      let leaves = leaves_of grid.n is_picture.has in
+      let none = unblocked grid.n command.budget (start_priority grid command.spacing) is_picture.has picture.worst picture.blocked frame fall low in
+      let some = blocking grid.n command.budget (start_priority grid command.spacing) is_picture.has picture.worst picture.blocked frame fall low in
+      let zeros = λ (e : picture.worst ≡ 0). All-from_recursion (λ a. start_priority grid command.spacing a ≡ 0) leaves
+      (zero-worst (start_priority grid command.spacing) leaves (sym frame.greatest ∙ e)) in
+      let zero = λ (e : IsNone picture.blocked). frame.greatest ∙ worst-zero (start_priority grid command.spacing) leaves
+      (recursion_from_All (λ a. start_priority grid command.spacing a ≡ 0) leaves (none.0 e)) in
       record {
         unblocked = (zero, λ e. none.1 (zeros e));
         worst = if-some picture.blocked _ _ (λ b is. is.1) some;
@@ -122,18 +125,19 @@ module _ (falling : (n : ℕ) (heights : List ℕ) (view : View) → IsFalling n
       if-some None P Q weaker is = tt
       if-some (Some a) P Q weaker is = weaker a is
 
-module _ (unique : (n budget : ℕ) (priority : ℕ → ℕ) (triangles others : List ℕ) (worst other : ℕ) (blocked blocks : Option Blocked) →
-    IsFrame n budget priority triangles worst blocked → IsFrame n budget priority others other blocks →
-    ((triangles ≡ others) × (worst ≡ other) × (blocked ≡ blocks))) where
+module _ (unique : (n budget : ℕ) (priority : ℕ → ℕ) (has instead : ℕ → Bool) (worst other : ℕ) (blocked blocks : Option Blocked) →
+    IsFrame n budget priority has worst blocked → IsFrame n budget priority instead other blocks →
+    (((a : ℕ) → has a ≡ instead a) × (worst ≡ other) × (blocked ≡ blocks))) where
   -- a grid, a budget and a spacing have one picture
   one-picture : (grid : HeightField) (budget spacing : ℕ) (picture other : Picture)
       → IsPicture grid budget spacing picture → IsPicture grid budget spacing other → picture ≡ other
   one-picture grid budget spacing picture other one two =
-      let same = unique grid.n budget (start_priority grid spacing) one.leaves two.leaves picture.worst other.worst picture.blocked other.blocked
+      let same = unique grid.n budget (start_priority grid spacing) one.has two.has picture.worst other.worst picture.blocked other.blocked
       one.frame two.frame in
-      let text = one.text ∙ ap (λ l. mesh_text grid.n grid.heights spacing [] l) same.0 ∙ sym two.text in
-      let triangles = one.triangles ∙ ap length same.0 ∙ sym two.triangles in
-      let vertices = one.vertices ∙ ap (λ l. length (vertices_of grid.n l)) same.0 ∙ sym two.vertices in
+      let leaves : leaves_of grid.n one.has ≡ leaves_of grid.n two.has = leaves_of-same grid.n one.has two.has same.0 in
+      let text = one.text ∙ ap (λ l. mesh_text grid.n grid.heights spacing [] l) leaves ∙ sym two.text in
+      let triangles = one.triangles ∙ ap length leaves ∙ sym two.triangles in
+      let vertices = one.vertices ∙ ap (λ l. length (vertices_of grid.n l)) leaves ∙ sym two.vertices in
       same-picture picture other text triangles vertices same.1 same.2
     where
       picture_with : List ℕ → ℕ → ℕ → ℕ → Option Blocked → Picture

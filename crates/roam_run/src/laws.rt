@@ -6,7 +6,8 @@ ghost use Rattle.roam_run.specs.Outcome.{IsOutcome};
 ghost use Rattle.roam_run.specs.Promise.{CertifiesFrames};
 ghost use Rattle.roam_run.specs.Script.{Outcome};
 
-use plain_mesh::frame_laws;
+use closure_laws::frame_laws;
+use plain_mesh::falling_laws;
 
 /// Words and files have one outcome, and what a frame's line tells of blocking is a certificate.
 pub(crate) fn picture_laws()
@@ -15,4 +16,5 @@ pub(crate) fn picture_laws()
     ensures certificate { (words : List (List ℕ)) (files : List NamedFile) → CertifiesFrames words files }
 {
     frame_laws();
+    falling_laws();
 }

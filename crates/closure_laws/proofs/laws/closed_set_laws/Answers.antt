@@ -1,5 +1,7 @@
 -- Each clause is a lemma.
 use Rattle.closure_laws.proofs.ClosureLemmas.{IsLeastClosed-unique, IsSubset-closures, closure_of, leaves_of-same, leaves_of-more}
+use Rattle.closure_laws.proofs.SizeLemmas.{length-leaves_once}
+use Rattle.mesh_defs.proofs.ListLemmas.{among-in}
 use Rattle.closure_laws.proofs.laws.closed_set_laws.Goals as goal
 
 pub returns-clause-unique : goal.returns-clause-unique
@@ -16,3 +18,6 @@ returns-clause-same_leaves c = leaves_of-same
 
 pub returns-clause-more_leaves : goal.returns-clause-more_leaves
 returns-clause-more_leaves c = leaves_of-more
+
+pub returns-clause-counted : goal.returns-clause-counted
+returns-clause-counted c n members once closed = length-leaves_once n members (λ a h. once a (among-in a members h)) closed
