@@ -19,7 +19,7 @@ mod tri;
 pub use blocked::Blocked;
 pub use cuboid::Cuboid;
 pub use bintree_laws::{corner_laws, level_laws, mate_laws};
-pub use laws::rank_laws;
+pub use laws::{rank_laws, rank_order_laws};
 pub use mesh_defs::{Corners, Point};
 pub use rank::Rank;
 pub use slot::Slot;
