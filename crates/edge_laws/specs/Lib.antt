@@ -1,0 +1,4 @@
+pub mod Edge
+pub mod LeafAcross
+pub mod Chain
+pub mod Net

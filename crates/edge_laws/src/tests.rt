@@ -1,0 +1,10 @@
+//! The laws can be called.
+
+use crate::{chain_laws, edge_laws, leaf_laws};
+
+#[test]
+fn laws_are_calls() {
+    edge_laws();
+    leaf_laws();
+    chain_laws();
+}
