@@ -8,3 +8,8 @@ pub mod RankLemmas
 pub mod ChoiceLemmas
 pub mod FrameLemmas
 pub mod BaseLemmas
+pub mod OrderLemmas
+pub mod SetListLemmas
+pub mod DiamondLemmas
+pub mod ChangeLemmas
+pub mod ExistenceLemmas

@@ -1,2 +1,4 @@
 pub mod Forcing
 pub mod Frame
+pub mod Order
+pub mod Diamond
