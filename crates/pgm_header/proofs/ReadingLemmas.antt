@@ -1,5 +1,5 @@
 -- Facts about a reader: one byte, and then more.
-use Rattle.std.proofs.Common.{◌≡◌, ℕ, zero, suc, ◌+◌, ◌-◌, ◌≤◌, arith, List, [], ◌∷◌, Result, Ok, Err, refl, sym, ap, ◌∙◌, eq-eqb, ne_eqb}
+use Rattle.std.proofs.Common.{◌≡◌, ℕ, zero, suc, ◌+◌, ◌-◌, ◌≤◌, ◌⊎◌, inl, inr, arith, List, [], ◌∷◌, ◌++◌, Result, Ok, Err, refl, sym, ap, ◌∙◌, eq-eqb, ne_eqb}
 use Rattle.pgm_header.specs.declared.accepted.Header.{Header}
 use Rattle.pgm_header.specs.declared.fault.HeaderFault.{HeaderFault}
 use Rattle.pgm_header.specs.declared.fault.HeaderFault.TheVariants.{HeaderTooLong}
@@ -7,10 +7,13 @@ use Rattle.pgm_header.specs.declared.machine.HeaderValues.{HeaderValues}
 use Rattle.pgm_header.specs.declared.machine.State.{State}
 use Rattle.pgm_header.specs.declared.machine.Fields.{Fields}
 use Rattle.pgm_header.specs.declared.machine.State.TheVariants.{Start, Letter, Named, Gap, Comment, Number}
+use Rattle.pgm_header.specs.declared.machine.Step.{Step}
 use Rattle.pgm_header.specs.declared.machine.Step.TheVariants.{Goes, Ends, Fails}
-use Rattle.pgm_header.specs.Accepted.{Part, Whole, Bad, judged}
+use Rattle.std.proofs.lemmas.Bool.{cases_eq}
+use Rattle.pgm_header.specs.Accepted.{HeaderAnswer, Part, Whole, Bad, judged}
 use Rattle.pgm_header.specs.Machine.{step_of}
 use Rattle.pgm_header.specs.Reading.{Progress, unfit, whole_answer, run, resume, header_of, taken}
+use Rattle.pgm_header.specs.Laws.{PartsAreRefusable}
 
 -- the header goes on
 pub run_goes : (s t : State) (place b : ℕ) (more : List ℕ) → step_of s b ≡ Goes t → (place ≡ 65535 → ⊥) → run (b ∷ more) s place ≡ run more t (place + 1)
@@ -89,3 +92,30 @@ state_refused room place (Number before digits value) e = (35 ∷ [], unfit plac
 pub resume_refused : (p : Progress) → p.place ≤ 65535 → (more : List ℕ) × (fault : HeaderFault) × (resume p more ≡ Bad fault)
 unfolding resume
 resume_refused p within = state_refused (65535 - p.place) p.place p.state (omega (arith, within))
+
+-- a whole header or a refusal is no part of a header
+whole_no-part : (r : Result Header HeaderFault) (rest : List ℕ) → whole_answer r rest ≡ Part → ⊥
+whole_no-part (Ok h) rest e = cc
+whole_no-part (Err f) rest e = cc
+
+bad_no-part : (f : HeaderFault) → Bad f ≡ Part → ⊥
+bad_no-part f e = cc
+
+-- bytes that are a part of a header from a state on are refused with some that follow
+part_refused : (bytes : List ℕ) (s : State) (place : ℕ) → place ≤ 65535 → run bytes s place ≡ Part → (more : List ℕ) × (fault : HeaderFault) × (run (bytes ++ more) s place ≡ Bad fault)
+part_refused [] s place within part = state_refused (65535 - place) place s (omega (arith, within))
+part_refused (b ∷ bytes) s place within part =
+    by_step (λ t next rest. part_refused bytes t (place + 1) next rest) (step_of s b) refl (cases_eq place 65535)
+  where
+    by_step : ((t : State) → place + 1 ≤ 65535 → run bytes t (place + 1) ≡ Part → (more : List ℕ) × (fault : HeaderFault) × (run (bytes ++ more) t (place + 1) ≡ Bad fault))
+        → (r : Step) → step_of s b ≡ r → ((place ≡ 65535) ⊎ (place ≡ 65535 → ⊥)) → (more : List ℕ) × (fault : HeaderFault) × (run ((b ∷ bytes) ++ more) s place ≡ Bad fault)
+    by_step later (Goes t) is (inl last) = absurd (bad_no-part HeaderTooLong (sym (run_long s t place b bytes is last) ∙ part))
+    by_step later (Goes t) is (inr on) =
+        let found = later t (omega (arith, within, on)) (sym (run_goes s t place b bytes is on) ∙ part) in
+        (found.0, found.1, run_goes s t place b (bytes ++ found.0) is on ∙ found.2)
+    by_step later (Ends v) is limit = absurd (whole_no-part (judged v) bytes (sym (run_ends s v place b bytes is) ∙ part))
+    by_step later Fails is limit = absurd (bad_no-part (unfit place) (sym (run_fails s place b bytes is) ∙ part))
+
+pub part_refusable : PartsAreRefusable
+unfolding header_of
+part_refusable bytes part = part_refused bytes Start 0 (omega arith) part

@@ -68,3 +68,7 @@ ReadHeadersStand = (bytes rest more : List ℕ) (header : Header) → header_of 
 -- nor a refusal
 abbrev pub RefusalsStand : Type 0
 RefusalsStand = (bytes more : List ℕ) (fault : HeaderFault) → header_of bytes ≡ Bad fault → header_of (bytes ++ more) ≡ Bad fault
+
+-- bytes that are a part of a header are refused with some that follow
+abbrev pub PartsAreRefusable : Type 0
+PartsAreRefusable = (bytes : List ℕ) → header_of bytes ≡ Part → (more : List ℕ) × (fault : HeaderFault) × (header_of (bytes ++ more) ≡ Bad fault)
