@@ -21,14 +21,14 @@ use Rattle.pgm_raster.specs.Laws as laws
 use Rattle.pgm_raster.specs.Progress as samples
 use Rattle.pgm_grid.specs.declared.fault.PgmFault.{PgmFault}
 use Rattle.pgm_grid.specs.declared.fault.PgmFault.TheVariants.{Truncated, NoMemory}
-use Rattle.pgm_grid.specs.PgmText.{points_of, form_of, most_bytes, IsFileText}
-use Rattle.pgm_grid.specs.Progress.{header_fault, raster_fault, grid_with, grid_answer, samples_at, file_answer, grid_of, ReadsRasters}
-use Rattle.pgm_grid.specs.Laws.{HasHeader, AreBytes, TextsAreRead, GridsHaveTexts, GridsHaveHeaders, CutTextsAreRefused, TrailingBytesAreRefused, GreatSamplesAreRefused, BadSamplesAreRefused, LongFilesAreRefused, OthersAreAbsent}
+use Rattle.pgm_grid.specs.PgmText.{points_of, form_of, most_bytes, IsFileText, HasHeader}
+use Rattle.pgm_grid.specs.Progress.{header_fault, raster_fault, grid_with, grid_answer, samples_at, file_answer, grid_of}
+use Rattle.pgm_grid.specs.Laws.{AreBytes, TextsAreRead, GridsHaveTexts, GridsHaveHeaders, CutTextsAreRefused, TrailingBytesAreRefused, GreatSamplesAreRefused, BadSamplesAreRefused, LongFilesAreRefused, OthersAreAbsent}
 use Rattle.pgm_grid.proofs.GridLemmas.{points_small}
 use Rattle.pgm_grid.proofs.ReaderLemmas.{no_header-memory, no_raster-memory, header-truncated, same_raster, err-same, ok-err, raster-refused}
 
 -- no refusal of a header is one of a raster
-apart : (one : HeaderFault) (other : RasterFault) → header_fault one ≡ raster_fault other → ⊥
+pub apart : (one : HeaderFault) (other : RasterFault) → header_fault one ≡ raster_fault other → ⊥
 apart header.BadMagic (raster.BadSample place) e = cc
 apart header.BadMagic (raster.AboveMaxval place) e = cc
 apart header.BadMagic (raster.Trailing place) e = cc
@@ -313,22 +313,11 @@ law-grids read rasters short g bytes all e =
       },
     )
 
-pub law-headers : head.TextsAreRead → head.ReadTextsAreHeaders → laws.RastersAreRead → GridsHaveHeaders
+pub law-headers : head.ReadTextsAreHeaders → GridsHaveHeaders
 unfolding grid_of
-law-headers texts read rasters g bytes e =
+law-headers read g bytes e =
     let found = file-ok (length bytes) (reading.header_of bytes) g e in
-    let h : Header = found.0 in
-    let has = whole-has bytes h read found.1 found.2 in
-    (has.text, found.1, has.cut, record { header = h; valid = has.accepts.valid; reads = header-reads h has.text has.values has.is_text has.short has.accepts })
-  where
-    header-reads : (h : Header) (text : List ℕ) (values : HeaderValues) → IsHeaderText text values → length text ≤ 65536 → Accepts values h
-        → ReadsRasters h (length text) (λ more. grid_of (text ++ more))
-    header-reads h text values is short accepts heights more raster many bounded within =
-        let has : HasHeader (text ++ more) h (length text) more =
-        record { text = text; values = values; is_text = is; short = short; accepts = accepts; cut = refl; place = refl } in
-        let whole = has-whole (text ++ more) h texts (length text) more has in
-        ap (file_answer (length (text ++ more))) whole.0 ∙ ap (λ k. grid_answer h (samples_at h k more)) whole.1
-        ∙ ap (grid_answer h) (rasters (form_of h.plain h.maxval) (points_of h.n) h.maxval (length text) heights more within raster many bounded)
+    (found.0, length bytes - length found.1, found.1, whole-has bytes found.0 read found.1 found.2, sym (ap (λ (f : HeightField). f.n) found.4), sym (ap (λ (f : HeightField). f.maxval) found.4))
 
 pub law-others : OthersAreAbsent
 unfolding grid_of

@@ -16,3 +16,10 @@ shift_test = refl
 -- the side of a grid as the code computes it
 pub shifted_side : (n : ℕ) → n ≤ 11 → 1 * 2 ^ n % 18446744073709551616 ≡ 2 ^ n
 shifted_side n high = eqb-true _ _ (agree_below_at (λ k. eqb (1 * 2 ^ k % 18446744073709551616) (2 ^ k)) (λ _. true) 12 n shift_test (omega (arith, high)))
+
+sides_test : agree_below (λ k. leb (2 ^ k) 2048) (λ _. true) 12 ≡ true
+sides_test = refl
+
+-- no side has more intervals
+pub sides_small : (n : ℕ) → n ≤ 11 → 2 ^ n ≤ 2048
+sides_small n high = leb-true _ 2048 (agree_below_at (λ k. leb (2 ^ k) 2048) (λ _. true) 12 n sides_test (omega (arith, high)))

@@ -1,3 +1,4 @@
 pub mod GridLemmas
 pub mod ReaderLemmas
 pub mod FileLemmas
+pub mod HeaderEndLemmas

@@ -17,7 +17,7 @@ use Rattle.pgm_raster.specs.Progress as samples
 use Rattle.pgm_grid.specs.declared.fault.PgmFault.{PgmFault}
 use Rattle.pgm_grid.specs.declared.fault.PgmFault.TheVariants.{Truncated, NoMemory}
 use Rattle.pgm_grid.specs.PgmText.{points_of, form_of}
-use Rattle.pgm_grid.specs.Progress.{Progress, InHeader, InRaster, HasRefused, header_fault, raster_fault, grid_with, grid_answer, samples_at, file_answer, resume, grid_of, taken, IsSettled, ReadsRasters}
+use Rattle.pgm_grid.specs.Progress.{Progress, InHeader, InRaster, HasRefused, header_fault, raster_fault, grid_with, grid_answer, samples_at, file_answer, resume, grid_of, taken, IsSettled}
 use Rattle.pgm_grid.specs.Stage.{IsOpenHeader, IsBehind, HasRead, BeginsRaster, Takes, Stops}
 
 -- Faults.
@@ -207,7 +207,7 @@ module _ (start reader : reading.Progress) (piece : List ℕ) (begun : IsOpenHea
     module _ (header : Header) (ends : (more : List ℕ) → reading.resume reader (byte ∷ more) ≡ Whole header more)
         (at : ℕ) (place : at ≡ reading.taken reader + 1) (size : length (take count piece) ≡ count) where
       -- what follows the header is its raster
-      whole-answer : (more : List ℕ) → resume (InHeader start) (piece ++ more) ≡ grid_answer header (samples_at header at (rest ++ more))
+      pub whole-answer : (more : List ℕ) → resume (InHeader start) (piece ++ more) ≡ grid_answer header (samples_at header at (rest ++ more))
       unfolding resume
       whole-answer more =
           let total = length (piece ++ more) in
@@ -226,44 +226,6 @@ module _ (start reader : reading.Progress) (piece : List ℕ) (begun : IsOpenHea
         count = (let sum : length piece ≡ count + 1 + length rest = ap length cut ∙ omega (arith, size, length-append (take count piece) (byte ∷ rest)) in
             begins.count ∙ omega (arith, sum, place, so_far.counted));
         limit = begins.limit;
-      }
-
-      -- behind the byte each raster is read
-      header-reads : RastersAreRead → ReadsRasters header (taken (InHeader start) + (count + 1)) (λ text. resume (InHeader start) (take (count + 1) piece ++ text))
-      unfolding resume taken
-      header-reads rasters heights text is many bounded short =
-          let front : take (count + 1) piece ≡ take count piece ++ byte ∷ [] = front-byte in
-          let answer : reading.resume start (take (count + 1) piece ++ text) ≡ Whole header text =
-          ap (λ p. reading.resume start (p ++ text)) front ∙ ap (reading.resume start) (append_assoc (take count piece) (byte ∷ []) text)
-          ∙ so_far.means (byte ∷ text) ∙ ends text in
-          let sum : length (take (count + 1) piece ++ text) ≡ count + 1 + length text =
-          ap (λ p. length (p ++ text)) front ∙ omega (arith, size, length-append (take count piece ++ byte ∷ []) text, length-append (take count piece) (byte ∷ [])) in
-          let here : reading.taken start + length (take (count + 1) piece ++ text) - length text ≡ at = omega (arith, sum, place, so_far.counted) in
-          ap (file_answer (reading.taken start + length (take (count + 1) piece ++ text))) answer
-          ∙ ap (λ k. grid_answer header (samples_at header k text)) here
-          ∙ ap (grid_answer header) (rasters (form_of header.plain header.maxval) (points_of header.n) header.maxval at heights text (omega (arith, short, place, so_far.counted)) is many bounded)
-        where
-          front-byte : take (count + 1) piece ≡ take count piece ++ byte ∷ []
-          front-byte =
-              let one : length (take count piece ++ byte ∷ []) ≡ count + 1 = omega (arith, size, length-append (take count piece) (byte ∷ [])) in
-              ap (take (count + 1)) (cut ∙ sym (append_assoc (take count piece) (byte ∷ []) rest))
-              ∙ ap (λ k. take k ((take count piece ++ byte ∷ []) ++ rest)) (sym one) ∙ take-append_seam (take count piece ++ byte ∷ []) rest
-
-      -- the byte ended the header, and there was no room, or what follows is refused
-      pub header-full : RastersAreRead → IsHeader header → (fault : PgmFault)
-          → (fault ≢ NoMemory → (more : List ℕ) → grid_answer header (samples_at header at (rest ++ more)) ≡ Err fault)
-          → Stops (InHeader start) piece fault
-      header-full rasters valid fault refusal = record {
-        refusal = λ other more. whole-answer more ∙ refusal other more;
-        no_memory = λ e. inr (record {
-          header = header;
-          count = count + 1;
-          valid = valid;
-          positive = omega arith;
-          within = (let sum : length piece ≡ count + 1 + length rest = ap length cut ∙ omega (arith, size, length-append (take count piece) (byte ∷ rest)) in omega (arith, sum));
-          reads = λ heights text is many bounded short. header-reads rasters heights text is many bounded short;
-        });
-        sticks = λ before settled. absurd (unsettled-header start before begun settled);
       }
 
 -- a piece around the byte at a place

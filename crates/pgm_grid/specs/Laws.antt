@@ -1,31 +1,21 @@
 -- What the whole bytes of a file mean, in the words of the format. Places are counted from 0. The laws of
 -- rasters speak of files of at most 2 ^ 28 bytes; a longer one is refused, by its header, its raster or its length.
--- Words: HasHeader, and a law a word.
+-- Words: AreBytes, and a law a word.
 use Rattle.std.specs.Prelude.{◌≡◌, ◌≢◌, ◌↔◌, ◌⊎◌, ℕ, ◌+◌, ◌-◌, ◌<◌, ◌≤◌, true, List, ◌++◌, length, take, All, Ok, Err, IfErr}
 use Rattle.mesh_defs.specs.HeightField.{HeightField, IsHeightField, side_of}
 use Rattle.pgm_header.specs.declared.accepted.Header.{Header}
 use Rattle.pgm_header.specs.declared.machine.HeaderValues.{HeaderValues}
-use Rattle.pgm_header.specs.HeaderText.{IsHeaderText, IsProperFront, IsUnfitAt, BeginsWithHeader}
-use Rattle.pgm_header.specs.Accepted.{IsLevel, IsMaxval, Accepts}
+use Rattle.pgm_header.specs.HeaderText.{IsProperFront, IsUnfitAt, BeginsWithHeader}
+use Rattle.pgm_header.specs.Accepted.{IsLevel, IsMaxval}
 use Rattle.pgm_raster.specs.RasterText.{IsCutShort, IsTrailingAt, IsAboveAt, IsBadSampleAt}
 use Rattle.pgm_raster.specs.Laws.{NoneIsRefused}
 use Rattle.pgm_grid.specs.declared.fault.PgmFault.TheVariants.{BadMagic, BadHeader, HeaderTooLong, BadMaxval, NotSquare, BadSide, Truncated, BadSample, AboveMaxval, Trailing, NoMemory, TooLong}
-use Rattle.pgm_grid.specs.PgmText.{points_of, form_of, most_bytes, IsFileText}
-use Rattle.pgm_grid.specs.Progress.{grid_of, IsWholeHeader}
+use Rattle.pgm_grid.specs.PgmText.{points_of, form_of, most_bytes, IsFileText, HasHeader}
+use Rattle.pgm_grid.specs.Progress.{grid_of}
 
 -- the bytes are those of a file
 abbrev pub AreBytes : List ℕ → Type 0
 AreBytes bytes = All (λ b. b < 256) bytes
-
--- the bytes begin with the text of an accepted header, behind which, from place `at` on, this is left
-pub record HasHeader (bytes : List ℕ) (header : Header) (at : ℕ) (rest : List ℕ) : Type 0 where
-  pub text : List ℕ
-  pub values : HeaderValues
-  pub is_text : IsHeaderText text values
-  pub short : length text ≤ 65536
-  pub accepts : Accepts values header
-  pub cut : bytes ≡ text ++ rest
-  pub place : at ≡ length text
 
 -- a file text of a grid is read as that grid
 abbrev pub TextsAreRead : Type 0
@@ -35,9 +25,10 @@ TextsAreRead = (g : HeightField) (bytes : List ℕ) → IsHeightField g → IsFi
 abbrev pub GridsHaveTexts : Type 0
 GridsHaveTexts = (g : HeightField) (bytes : List ℕ) → AreBytes bytes → grid_of bytes ≡ Ok g → IsHeightField g × IsFileText g bytes
 
--- bytes that are read as a grid begin with a whole accepted header
+-- bytes that are read as a grid begin with the text of an accepted header, which has its level and its maxval
 abbrev pub GridsHaveHeaders : Type 0
-GridsHaveHeaders = (g : HeightField) (bytes : List ℕ) → grid_of bytes ≡ Ok g → (front rest : List ℕ) × (bytes ≡ front ++ rest) × IsWholeHeader front
+GridsHaveHeaders = (g : HeightField) (bytes : List ℕ) → grid_of bytes ≡ Ok g
+    → (header : Header) × (at : ℕ) × (rest : List ℕ) × HasHeader bytes header at rest × (header.n ≡ g.n) × (header.maxval ≡ g.maxval)
 
 -- BadMagic exactly where the first or the second byte continues no header
 abbrev pub BadMagicsAreRefused : Type 0

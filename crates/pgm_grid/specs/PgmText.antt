@@ -1,11 +1,13 @@
 -- The text of a grid in a file: a header, then a raster. Source: Netpbm manual, "pgm"; the sides, where
 -- comments may stand and the limits of length are this project's own.
 --
--- Words: points_of, form_of, most_bytes, IsFileText.
+-- Words: points_of, form_of, most_bytes, IsFileText, HasHeader, HasWholeHeader.
 use Rattle.std.specs.Prelude.{◌≡◌, ℕ, ◌*◌, ◌≤◌, Bool, true, false, nat_lt, if◌then◌else◌, List, ◌++◌, length}
 use Rattle.mesh_defs.specs.HeightField.{HeightField, side_of}
 use Rattle.pgm_header.specs.declared.machine.HeaderValues.{HeaderValues}
+use Rattle.pgm_header.specs.declared.accepted.Header.{Header}
 use Rattle.pgm_header.specs.HeaderText.{IsHeaderText}
+use Rattle.pgm_header.specs.Accepted.{Accepts}
 use Rattle.pgm_raster.specs.declared.form.RasterForm.{RasterForm}
 use Rattle.pgm_raster.specs.declared.form.RasterForm.TheVariants as form
 use Rattle.pgm_raster.specs.RasterText.{IsRaster}
@@ -37,3 +39,17 @@ pub record IsFileText (g : HeightField) (bytes : List ℕ) : Type 0 where
   pub is_raster : IsRaster (form_of values.plain g.maxval) g.heights raster
   pub text : bytes ≡ header ++ raster
   pub short : length bytes ≤ most_bytes
+
+-- the bytes begin with the text of an accepted header, behind which, from place `at` on, this is left
+pub record HasHeader (bytes : List ℕ) (header : Header) (at : ℕ) (rest : List ℕ) : Type 0 where
+  pub text : List ℕ
+  pub values : HeaderValues
+  pub is_text : IsHeaderText text values
+  pub short : length text ≤ 65536
+  pub accepts : Accepts values header
+  pub cut : bytes ≡ text ++ rest
+  pub place : at ≡ length text
+
+-- the bytes begin with the text of an accepted header
+abbrev pub HasWholeHeader : List ℕ → Type 0
+HasWholeHeader bytes = (header : Header) × (at : ℕ) × (rest : List ℕ) × HasHeader bytes header at rest

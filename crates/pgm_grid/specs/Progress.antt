@@ -2,21 +2,20 @@
 -- header the raster's. The laws of `Laws` say in the format's own words what these answers are.
 --
 -- Words: Progress, header_fault, raster_fault, grid_with, grid_answer, file_answer, resume, grid_of, taken,
--- IsSettled, EndsHeader, IsWholeHeader.
-use Rattle.std.specs.Prelude.{◌≡◌, ℕ, ◌+◌, ◌-◌, ◌<◌, ◌≤◌, List, ◌++◌, length, take, All, Result, Ok, Err}
+-- IsSettled, StandsFor, EndsHeaderOf, EndsHeader.
+use Rattle.std.specs.Prelude.{◌≡◌, ℕ, ◌+◌, ◌-◌, ◌<◌, List, ◌++◌, length, Result, Ok, Err}
 use Rattle.mesh_defs.specs.HeightField.{HeightField}
 use Rattle.pgm_header.specs.declared.accepted.Header.{Header}
 use Rattle.pgm_header.specs.declared.fault.HeaderFault.{HeaderFault}
 use Rattle.pgm_header.specs.declared.fault.HeaderFault.TheVariants as header
-use Rattle.pgm_header.specs.Accepted.{IsHeader, HeaderAnswer, Part, Whole, Bad}
+use Rattle.pgm_header.specs.Accepted.{HeaderAnswer, Part, Whole, Bad}
 use Rattle.pgm_header.specs.Reading as reading
 use Rattle.pgm_raster.specs.declared.fault.RasterFault.{RasterFault}
 use Rattle.pgm_raster.specs.declared.fault.RasterFault.TheVariants as raster
-use Rattle.pgm_raster.specs.RasterText.{IsRaster}
 use Rattle.pgm_raster.specs.Progress as samples
 use Rattle.pgm_grid.specs.declared.fault.PgmFault.{PgmFault}
 use Rattle.pgm_grid.specs.declared.fault.PgmFault.TheVariants.{BadMagic, BadHeader, HeaderTooLong, BadMaxval, NotSquare, BadSide, Truncated, BadSample, AboveMaxval, Trailing, TooLong}
-use Rattle.pgm_grid.specs.PgmText.{points_of, form_of, most_bytes}
+use Rattle.pgm_grid.specs.PgmText.{points_of, form_of, HasHeader}
 
 -- what a reader has come to: a part of a header; an accepted header and a part of its raster; or a refusal
 pub data Progress : Type 0 where
@@ -81,24 +80,19 @@ taken (HasRefused fault) = 0
 unfoldable pub IsSettled : Progress → PgmFault → Type 0
 IsSettled reader fault = (more : List ℕ) → resume reader more ≡ Err fault
 
--- behind so many bytes each raster of an accepted header is read, if the file is not too long
-abbrev pub ReadsRasters : Header → ℕ → (List ℕ → Result HeightField PgmFault) → Type 0
-ReadsRasters h before answer =
-    (heights text : List ℕ) → IsRaster (form_of h.plain h.maxval) heights text → length heights ≡ points_of h.n → All (λ s. s ≤ h.maxval) heights
-    → before + length text ≤ most_bytes → answer text ≡ Ok (grid_with h heights)
+-- these bytes have brought a reader so far: it answers what they and the bytes that still come mean
+abbrev pub StandsFor : Progress → List ℕ → Type 0
+StandsFor reader bytes = (more : List ℕ) → resume reader more ≡ grid_of (bytes ++ more)
 
--- so many bytes of the piece, and not fewer than one, end an accepted header: behind them each raster of
--- such a grid is read
+-- behind these bytes, among which its end is not, the piece ends the text of an accepted header
+pub record EndsHeaderOf (before piece : List ℕ) : Type 0 where
+  pub header : Header
+  pub at : ℕ
+  pub rest : List ℕ
+  pub has : HasHeader (before ++ piece) header at rest
+  pub later : length before < at
+
+-- the reader was still in its header, of which fewer than 65,536 bytes had come, and the piece ends it
 pub record EndsHeader (reader : Progress) (piece : List ℕ) : Type 0 where
-  pub header : Header
-  pub count : ℕ
-  pub valid : IsHeader header
-  pub positive : 0 < count
-  pub within : count ≤ length piece
-  pub reads : ReadsRasters header (taken reader + count) (λ text. resume reader (take count piece ++ text))
-
--- the bytes are a whole accepted header: behind them each raster of such a grid is read
-pub record IsWholeHeader (bytes : List ℕ) : Type 0 where
-  pub header : Header
-  pub valid : IsHeader header
-  pub reads : ReadsRasters header (length bytes) (λ text. grid_of (bytes ++ text))
+  pub early : taken reader < 65536
+  pub ends : (before : List ℕ) → StandsFor reader before → EndsHeaderOf before piece

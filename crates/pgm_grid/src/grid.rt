@@ -2,6 +2,7 @@
 
 ghost use Rattle.std.specs.Prelude.{◌≡◌, ◌<◌, ◌≤◌, ◌^◌, ◌*◌, ℕ, length, replicate, slice_set, IfOk};
 ghost use Rattle.mesh_defs.specs.HeightField.{IsHeightField, height_at, place_of, side_of};
+ghost use Rattle.pgm_grid.specs.PgmText.{points_of};
 
 use roam_edge::NoMemory;
 use std::alloc::Global;
@@ -49,6 +50,17 @@ impl Grid {
         Ok(Grid { n, maxval, heights })
     }
 
+    /// The grid of these heights, in file order: rows from the top, each from left to right.
+    ///
+    /// For grids that come from elsewhere than a PGM file. Takes no memory and looks at no height.
+    pub fn from_heights(n: u32, maxval: u16, heights: Vec<u16>) -> Grid
+        requires valid { IsHeightField (record { n = n; maxval = maxval; heights = heights.items }) }
+        ensures value { result ≡ record { n = n; maxval = maxval; heights = heights.items } }
+        ensures valid { IsHeightField result }
+    {
+        Grid { n, maxval, heights }
+    }
+
     /// The level of the grid: a side has 2^n + 1 points.
     pub fn n(&self) -> u32
         ensures value { result ≡ self.now.n }
@@ -66,6 +78,23 @@ impl Grid {
         ensures valid { IsHeightField self.now }
     {
         self.maxval
+    }
+
+    /// The number of points of a side.
+    pub fn side(&self) -> usize
+        ensures value { result ≡ side_of self.now.n }
+        ensures high { result ≤ 2049 }
+    {
+        side_for(self.n)
+    }
+
+    /// The number of points.
+    pub fn points(&self) -> usize
+        ensures value { result ≡ points_of self.now.n }
+        ensures high { result ≤ 4198401 }
+        ensures valid { IsHeightField self.now }
+    {
+        points_for(self.n)
     }
 
     /// All heights, in file order.
@@ -114,17 +143,26 @@ impl Grid {
         ensures value { result ≡ place_of self.now.n x y }
         ensures within { result < length self.now.heights }
     {
-        let last = 1usize << self.n;
-        (last - y as usize) * (last + 1) + x as usize
+        let side = side_for(self.n);
+        (side - 1 - y as usize) * side + x as usize
     }
+}
+
+/// The number of points of a side of a grid with this n.
+fn side_for(n: u32) -> usize
+    requires { n ≤ 11 }
+    ensures value { result ≡ side_of n }
+    ensures high { result ≤ 2049 }
+{
+    (1 << n) + 1
 }
 
 /// The number of points of a grid with this n.
 pub(crate) fn points_for(n: u32) -> usize
     requires { n ≤ 11 }
-    ensures value { result ≡ side_of n * side_of n }
-    ensures small { result ≤ 2 ^ 23 }
+    ensures value { result ≡ points_of n }
+    ensures high { result ≤ 4198401 }
 {
-    let side = (1 << n) + 1;
+    let side = side_for(n);
     side * side
 }

@@ -65,7 +65,7 @@ impl PgmReader {
         // The refusal is that of the file, whatever still comes.
         ensures refusal { IfErr result (λ fault. fault ≢ PgmFault.NoMemory →
             (more : List ℕ) → resume self.old (piece.now ++ more) ≡ Err fault) }
-        // The room is wanted once: where the header ends.
+        // The room is wanted once: where the text of an accepted header ends, of at most 65,536 bytes.
         ensures no_memory { IsErrOf result PgmFault.NoMemory →
             IsSettled self.old PgmFault.NoMemory ⊎ EndsHeader self.old piece.now }
         ensures err { IfErr result (λ fault. IsSettled self.new fault) }

@@ -8,7 +8,7 @@ ghost use Rattle.pgm_grid.specs.Stage.{progress_of, IsOpenHeader, IsBehind, IsSt
 
 use crate::fault::PgmFault;
 use crate::grid::{Grid, points_for};
-use pgm_header::{Header, HeaderFault, HeaderReader};
+use pgm_header::{Header, HeaderFault, HeaderReader, header_laws};
 use pgm_raster::{RasterFault, RasterForm, RasterReader, raster_laws};
 use std::alloc::Global;
 
@@ -44,7 +44,7 @@ fn header_after(alloc: Global, mut reader: HeaderReader, piece: &[u8]) -> Result
     ensures takes { IfOk result (λ next. Takes (InHeader reader) (progress_of next) piece.now) }
     ensures stops { IfErr result (λ fault. Stops (InHeader reader) piece.now fault) }
 {
-    raster_laws();
+    header_laws();
     for i in 0..piece.len() {
         match reader.take(piece[i]) {
             Ok(None) => {}

@@ -97,6 +97,18 @@ fn a_flat_grid_has_the_one_height_that_is_put(rt: HostRuntime) -> Result<(), Fai
 }
 
 #[test]
+fn a_grid_of_heights_has_their_sides_and_points(rt: HostRuntime) -> Result<(), Fail> {
+    let heights = Vec::from_array(rt.alloc(), [1, 2, 3, 4, 5, 6, 7, 8, 9])?;
+    let grid = Grid::from_heights(1, 9, heights);
+    assert_eq!(rt; grid.side(), 3);
+    assert_eq!(rt; grid.points(), 9);
+    assert_eq!(rt; grid.maxval(), 9);
+    assert_eq!(rt; grid.height(1, 1), 5);
+    assert_eq!(rt; grid.height(0, 2), 1, "upper left");
+    Ok(())
+}
+
+#[test]
 fn pieces_of_one_byte_give_the_same_grid(rt: HostRuntime) -> Result<(), Fail> {
     let grid = read_by_bytes(rt.alloc(), &TEXT)?;
     assert_eq!(rt; grid.n(), 1);

@@ -9,7 +9,7 @@ pub returns-clause-grids : goal.returns-clause-grids
 returns-clause-grids c = law-grids c.header_laws.ensures.read c.raster_laws.ensures.samples c.raster_laws.ensures.short
 
 pub returns-clause-headers : goal.returns-clause-headers
-returns-clause-headers c = law-headers c.header_laws.ensures.texts c.header_laws.ensures.read c.raster_laws.ensures.rasters
+returns-clause-headers c = law-headers c.header_laws.ensures.read
 
 pub returns-clause-bad_magic : goal.returns-clause-bad_magic
 returns-clause-bad_magic c bytes = header-law bytes header.BadMagic _ (c.header_laws.ensures.bad_magic bytes)
