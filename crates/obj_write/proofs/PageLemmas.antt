@@ -3,7 +3,7 @@ use Rattle.std.proofs.Common.{◌≡◌, ℕ, true, false, List, [], ◌∷◌, 
 use Rattle.roam_edge.specs.MeshSink.{Mesh, begun, longer, closed}
 use Rattle.roam_edge.specs.Told.{IsFront}
 use Rattle.obj_write.specs.Page.{Passed, Broken}
-use Rattle.obj_write.specs.Written.{mesh_with, Grows, IsPartOfMesh}
+use Rattle.obj_write.specs.Written.{mesh_with, Grows, GrowsByPart, IsPartOfMesh}
 
 -- nothing was written
 pub passed-none : (before : Option (List Mesh)) (page : List ℕ) → Passed before before page page []
@@ -81,6 +81,11 @@ broken-part before middle now page page' text more rest whole one cut is =
 module _ (before started later : Option (List Mesh)) (prefix : List ℕ) (number : ℕ) (text : List ℕ)
     (begin : (all : List Mesh) → before ≡ Some all → started ≡ Some (all ++ begun prefix number ∷ [])) where
   -- a mesh was begun, and its text was cut short
+  pub begun-cut : Broken started later ([] ++ text) → GrowsByPart before later prefix number text
+  begun-cut cut all is =
+      let front = cut.meshes all (begun prefix number) (begin all is) in
+      (front.0, front.1, front.2)
+
   pub part-cut : Broken started later ([] ++ text) → (all : List Mesh) → before ≡ Some all
       → (part : List Mesh) × IsPartOfMesh prefix number text part × (later ≡ Some (all ++ part))
   part-cut cut all is =
@@ -89,6 +94,12 @@ module _ (before started later : Option (List Mesh)) (prefix : List ℕ) (number
 
   module _ (written : Option (List Mesh)) (page : List ℕ) (lines : Passed started written [] page text) where
     -- a mesh was begun and its text passed to the page, and the rest was cut short
+    pub begun-rest : ((all : List Mesh) (mesh : Mesh) → written ≡ Some (all ++ mesh ∷ [])
+        → (front : List ℕ) × IsFront front page × (later ≡ Some (all ++ longer mesh front ∷ [])))
+        → GrowsByPart before later prefix number text
+    begun-rest rest = begun-cut (broken-page started written later [] page text [] text lines
+        (record { meshes = rest }) (sym (append-nil text)))
+
     pub part-rest : ((all : List Mesh) (mesh : Mesh) → written ≡ Some (all ++ mesh ∷ [])
         → (front : List ℕ) × IsFront front page × (later ≡ Some (all ++ longer mesh front ∷ [])))
         → (all : List Mesh) → before ≡ Some all
@@ -113,6 +124,9 @@ module _ (before started later : Option (List Mesh)) (prefix : List ℕ) (number
       whole-mesh finish all is = finish all (mesh_with prefix number text false) (written-whole all is)
 
       -- but not finished
+      pub begun-finish : now ≡ later → GrowsByPart before now prefix number text
+      begun-finish same all is = (text, record { back = []; joined = sym (append-nil text) }, same ∙ written-whole all is)
+
       pub part-finish : now ≡ later → (all : List Mesh) → before ≡ Some all
           → (part : List Mesh) × IsPartOfMesh prefix number text part × (now ≡ Some (all ++ part))
       part-finish same all is = (

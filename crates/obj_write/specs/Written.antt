@@ -16,3 +16,8 @@ Grows {A} before now more = (all : List A) → before ≡ Some all → now ≡ S
 abbrev pub IsPartOfMesh : List ℕ → ℕ → List ℕ → List Mesh → Type 0
 IsPartOfMesh prefix number bytes part =
     (part ≡ []) ⊎ ((front : List ℕ) × IsFront front bytes × (part ≡ mesh_with prefix number front false ∷ []))
+
+-- where it is told, one unfinished mesh with a prefix of these bytes came behind what was there
+abbrev pub GrowsByPart : Option (List Mesh) → Option (List Mesh) → List ℕ → ℕ → List ℕ → Type 0
+GrowsByPart before now name number bytes =
+    (all : List Mesh) → before ≡ Some all → (front : List ℕ) × IsFront front bytes × (now ≡ Some (all ++ mesh_with name number front false ∷ []))

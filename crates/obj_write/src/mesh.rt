@@ -9,7 +9,7 @@ ghost use Rattle.roam_edge.specs.Fault.{HasCause};
 ghost use Rattle.roam_edge.specs.MeshSink.{Mesh};
 ghost use Rattle.obj_write.specs.Numbers.{numbers_of};
 ghost use Rattle.obj_write.specs.Page.{Passed, Broken};
-ghost use Rattle.obj_write.specs.Written.{mesh_with, Grows, IsPartOfMesh};
+ghost use Rattle.obj_write.specs.Written.{mesh_with, Grows, GrowsByPart, IsPartOfMesh};
 ghost use Rattle.obj_write.specs.MeshView.{view_text, IsView, IsShown, vertex_lines, group_text};
 ghost use Rattle.obj_write.specs.VertexMarks.{place_point, is_vertex};
 
@@ -40,7 +40,7 @@ pub struct MeshView<'a> {
 /// Writes a whole mesh, named by the prefix and the number.
 ///
 /// The sink gets the text in pieces of at least 8 KiB, but for the last. After a failed call the mesh holds
-/// a front of its text, and stays unfinished.
+/// a prefix of its text, and stays unfinished and under way; where it could not be begun, nothing has changed.
 /// Cost (not proved): a step a place, and a few steps a level and a plane for each leaf.
 /// Source: the Wavefront object file format, the lines v, f and g.
 pub fn write_mesh<M: MeshSink>(
@@ -63,6 +63,10 @@ pub fn write_mesh<M: MeshSink>(
     ensures idle { OnOk result (M.under_way out.new ≡ false) }
     ensures err { OnErr result ((all : List Mesh) → M.meshes out.old ≡ Some all → (part : List Mesh)
         × IsPartOfMesh prefix.now number (view_text view.now) part × (M.meshes out.new ≡ Some (all ++ part))) }
+    // After a failed call a mesh is under way exactly where it was begun: no mesh came, or an unfinished one.
+    ensures not_begun { OnErr result (M.under_way out.new ≡ false → M.meshes out.new ≡ M.meshes out.old) }
+    ensures begun { OnErr result (M.under_way out.new ≡ true → GrowsByPart (M.meshes out.old) (M.meshes out.new)
+        prefix.now number (view_text view.now)) }
     ensures faults { HasCause (M.faults out.old) (M.faults out.new) result }
 {
     out.begin(prefix, number)?;

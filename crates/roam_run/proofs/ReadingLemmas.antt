@@ -8,8 +8,9 @@ use Rattle.pgm_grid.specs.declared.fault.PgmFault.{PgmFault}
 use Rattle.pgm_grid.specs.declared.fault.PgmFault.TheVariants.{BadMagic, BadHeader, HeaderTooLong, BadMaxval, NotSquare, BadSide, Truncated, BadSample, AboveMaxval, Trailing, NoMemory, TooLong}
 use Rattle.std.proofs.lemmas.Result.{IfOk-at_ok, IfErr-at_err}
 use Rattle.pgm_grid.specs.Laws.{OthersAreAbsent, GridsHaveHeaders}
+use Rattle.pgm_grid.specs.PgmText.{HasWholeHeader}
 use Rattle.pgm_grid.specs.Progress.{Progress, grid_of, resume, taken, IsSettled, EndsHeader}
-use Rattle.roam_run.specs.Promise.{BeginsWithHeader, HasEnded}
+use Rattle.roam_run.specs.Promise.{HasEnded}
 use Rattle.roam_run.specs.declared.grid_file.GridStop.{GridStop}
 use Rattle.roam_run.specs.declared.grid_file.GridStop.TheVariants as stop
 use Rattle.roam_run.specs.GridStop.{stop_for}
@@ -117,23 +118,23 @@ pub reading-header : (files : Option (List NamedFile)) (rest : Option (List ℕ)
     → IsReading files rest name reader
     → ((unread : List ℕ) → rest ≡ Some unread → piece ≡ take count unread)
     → EndsHeader reader piece
-    → (all : List NamedFile) → files ≡ Some all → BeginsWithHeader (bytes_of all name)
+    → (all : List NamedFile) → files ≡ Some all → HasWholeHeader (bytes_of all name)
 reading-header files rest name piece count reader reading gives ends all is =
     let here = reading.told all is in
-    let split = sym (take-append-drop count here.0) ∙ ap (λ m. m ++ drop count here.0) (sym (gives here.0 here.1) ∙ sym (take-append-drop ends.count piece))
-    ∙ append_assoc (take ends.count piece) (drop ends.count piece) (drop count here.0) in (
-      reading.bytes ++ take ends.count piece,
-      drop ends.count piece ++ drop count here.0,
-      here.2 ∙ ap (λ m. reading.bytes ++ m) split ∙ sym (append_assoc reading.bytes (take ends.count piece) (drop ends.count piece ++ drop count here.0)),
+    let header = ends.ends reading.bytes reading.means in
+    let split = sym (take-append-drop count here.0) ∙ ap (λ m. m ++ drop count here.0) (sym (gives here.0 here.1)) in
+    let whole = here.2 ∙ ap (λ m. reading.bytes ++ m) split ∙ sym (append_assoc reading.bytes piece (drop count here.0)) in (
+      header.header,
+      header.at,
+      header.rest ++ drop count here.0,
       record {
-        header = ends.header;
-        valid = ends.valid;
-        reads = λ heights text is many bounded within.
-            let size : length (reading.bytes ++ take ends.count piece) ≡ taken reader + ends.count =
-            omega (arith, length-append reading.bytes (take ends.count piece), length-take-le ends.count piece ends.within, reading.counted) in
-            ap grid_of (append_assoc reading.bytes (take ends.count piece) text)
-            ∙ sym (reading.means (take ends.count piece ++ text))
-            ∙ ends.reads heights text is many bounded (omega (arith, within, size));
+        text = header.has.text;
+        values = header.has.values;
+        is_text = header.has.is_text;
+        short = header.has.short;
+        accepts = header.has.accepts;
+        cut = whole ∙ ap (λ m. m ++ drop count here.0) header.has.cut ∙ append_assoc header.has.text header.rest (drop count here.0);
+        place = header.has.place;
       },
     )
 
@@ -146,12 +147,12 @@ module _ (files : Option (List NamedFile)) (rest : Option (List ℕ)) (name : Li
     (nothing : (unread : List ℕ) → rest ≡ Some unread → unread ≡ []) where
   -- a file that is read to its end begins with the header of its grid
   pub grid-header : (answer : Result HeightField GridStop) → GridsHaveHeaders → IfOk answer (λ grid. resume reader [] ≡ Ok grid)
-      → OnOk answer ((all : List NamedFile) → files ≡ Some all → BeginsWithHeader (bytes_of all name))
+      → OnOk answer ((all : List NamedFile) → files ≡ Some all → HasWholeHeader (bytes_of all name))
   grid-header answer headers value = on-ok answer _ (λ grid is all told.
       let here = reading.told all told in
       let whole = here.2 ∙ ap (λ m. reading.bytes ++ m) (nothing here.0 here.1) in
       let read = ap grid_of whole ∙ sym (reading.means []) ∙ IfOk-at_ok _ is value in
-      headers grid (bytes_of all name) read)
+      let found = headers grid (bytes_of all name) read in (found.0, found.1, found.2, found.3))
 
   -- a read that gave no byte leaves nothing
   pub grid-ended : (ended : Bool) (rest' : Option (List ℕ)) (count : ℕ) (answer : Result HeightField GridStop) → count ≡ 0 → ended ≡ true

@@ -1,6 +1,6 @@
 -- What a run of `roam` promises, by its status.
 -- Words: is_complete, IsScriptEnd, IsRunEnd, HasEnded, EndsAs, EndsRight, StandsForRead, CommandReadFault,
--- BeginsWithHeader, CommandNoMemory, LeavesAtReadFault, LeavesAtNoMemory, OpensForStatus, IsBestFrame, AreBestFrames,
+-- CommandNoMemory, LeavesAtReadFault, LeavesAtNoMemory, OpensForStatus, IsBestFrame, AreBestFrames,
 -- KeepsBestMeshes, IsCertificate, CertifiesFrames.
 use Rattle.std.specs.Prelude.{◌≡◌, ◌≢◌, ℕ, ◌+◌, ◌<◌, ◌≤◌, ◌⊎◌, ◌↔◌, Bool, true, false, IsTrue, ⊤, List, [], ◌∷◌, ◌++◌, length, Option, Some, IsNone, IfSome, Ok}
 use Rattle.mesh_defs.specs.HeightField.{HeightField}
@@ -8,7 +8,8 @@ use Rattle.mesh_defs.specs.MeshText.{mesh_text}
 use Rattle.mesh_defs.specs.BestMesh.{IsBestMesh}
 use Rattle.roam_edge.specs.MeshSink.{Mesh}
 use Rattle.roam_edge.specs.Shelf.{NamedFile, bytes_of}
-use Rattle.pgm_grid.specs.Progress.{grid_of, IsWholeHeader}
+use Rattle.pgm_grid.specs.PgmText.{HasWholeHeader}
+use Rattle.pgm_grid.specs.Progress.{grid_of}
 use Rattle.roam_run.specs.declared.status.Status.{Status}
 use Rattle.roam_run.specs.declared.status.Status.TheVariants.{Done, NoMemory, Usage, GridRefused, ScriptRefused, ReadFault, WriteFault}
 use Rattle.roam_run.specs.Words.{MeshCommand, Command, MeshOf, InfoOf, grid_name, command_of}
@@ -74,14 +75,10 @@ CommandReadFault before now opens opens' rest (MeshOf command) files =
     × StandsForRead before now rest (record { prefix = command.prefix; picture = picture }) (bytes_of files command.script))
 CommandReadFault before now opens opens' rest (InfoOf grid) files = (opens' ≡ opens + 1) × Stands before now []
 
--- some front of the bytes is a whole accepted header, behind which each raster of its grid is read
-abbrev pub BeginsWithHeader : List ℕ → Type 0
-BeginsWithHeader bytes = (front rest : List ℕ) × (bytes ≡ front ++ rest) × IsWholeHeader front
-
 -- A command wanted memory: nothing was done, and the file of the grid begins with a whole accepted header.
 pub record CommandNoMemory (before now : Told) (grid : List ℕ) (files : List NamedFile) : Type 0 where
   pub left : Stands before now []
-  pub header : BeginsWithHeader (bytes_of files grid)
+  pub header : HasWholeHeader (bytes_of files grid)
 
 -- Only words of a command read files, and what stands then is that of the command.
 pub record LeavesAtReadFault (before now : Told) (opens opens' : ℕ) (rest : Option (List ℕ)) (words : List (List ℕ)) (files : List NamedFile) : Type 0 where

@@ -4,9 +4,10 @@ ghost use Rattle.std.specs.Prelude.{◌≡◌, ◌≢◌, List, [], true, OnOk, 
 ghost use Rattle.roam_edge.specs.Fault.{Rose, next_count};
 ghost use Rattle.roam_edge.specs.Shelf.{NamedFile, bytes_of};
 ghost use Rattle.pgm_grid.specs.declared.fault.PgmFault.{PgmFault as Fault};
+ghost use Rattle.pgm_grid.specs.PgmText.{HasWholeHeader};
 ghost use Rattle.pgm_grid.specs.Progress.{grid_of, resume};
 ghost use Rattle.roam_run.specs.GridStop.{stop_for};
-ghost use Rattle.roam_run.specs.Promise.{BeginsWithHeader, HasEnded};
+ghost use Rattle.roam_run.specs.Promise.{HasEnded};
 
 use pgm_grid::{Grid, PgmFault, PgmReader, grids_and_texts};
 use roam_edge::Shelf;
@@ -37,12 +38,12 @@ pub(crate) fn read_grid<F: Shelf>(
     // A file that is read was read to its end, and begins with a whole header.
     ensures ended { OnOk result (HasEnded (F.ended shelf.new) (F.files shelf.old) (F.rest shelf.new)) }
     ensures header { OnOk result ((files : List NamedFile) → F.files shelf.old ≡ Some files →
-        BeginsWithHeader (bytes_of files name.now)) }
+        HasWholeHeader (bytes_of files name.now)) }
     ensures refused { (fault : Fault) → result ≡ Err (GridStop.Refused fault) →
         (files : List NamedFile) → F.files shelf.old ≡ Some files →
         grid_of (bytes_of files name.now) ≡ Err fault }
     ensures no_memory { result ≡ Err GridStop.NoMemory →
-        (files : List NamedFile) → F.files shelf.old ≡ Some files → BeginsWithHeader (bytes_of files name.now) }
+        (files : List NamedFile) → F.files shelf.old ≡ Some files → HasWholeHeader (bytes_of files name.now) }
     ensures files { F.files shelf.new ≡ F.files shelf.old }
     ensures opens { F.opens shelf.new ≡ next_count (F.opens shelf.old) }
     ensures failed { result ≡ Err GridStop.Failed → Rose (F.faults shelf.old) (F.faults shelf.new) }

@@ -7,7 +7,8 @@ ghost use Rattle.pgm_grid.specs.Progress.{grid_of};
 ghost use Rattle.roam_run.specs.Act.{told, ReportLine};
 ghost use Rattle.roam_run.specs.Cause.{StatusHasCause, StatusWritesHaveCause};
 ghost use Rattle.roam_run.specs.Outcome.{IsOutcome, IsCommandOutcome, info_outcome};
-ghost use Rattle.roam_run.specs.Promise.{EndsAs, EndsRight, HasEnded, LeavesAtReadFault, LeavesAtNoMemory, OpensForStatus, KeepsBestMeshes, CommandReadFault, CommandNoMemory, BeginsWithHeader, CertifiesFrames, is_complete};
+ghost use Rattle.pgm_grid.specs.PgmText.{HasWholeHeader};
+ghost use Rattle.roam_run.specs.Promise.{EndsAs, EndsRight, HasEnded, LeavesAtReadFault, LeavesAtNoMemory, OpensForStatus, KeepsBestMeshes, CommandReadFault, CommandNoMemory, CertifiesFrames, is_complete};
 ghost use Rattle.roam_run.specs.Script.{Outcome, outcome};
 ghost use Rattle.roam_run.specs.WordView.{mesh_seen, IsMeshCommand};
 ghost use Rattle.roam_run.specs.Words.{command_of, file_count, MeshOf};
@@ -152,7 +153,7 @@ fn run_info<F: Shelf, R: Sink>(alloc: Global, name: &str, shelf: &mut F, report:
     ensures stopped { (result ≡ Status.ReadFault) ⊎ (result ≡ Status.NoMemory) →
         R.contents report.new ≡ R.contents report.old }
     ensures no_memory { result ≡ Status.NoMemory → (files : List NamedFile) → F.files shelf.old ≡ Some files →
-        BeginsWithHeader (bytes_of files name.now) }
+        HasWholeHeader (bytes_of files name.now) }
     ensures not_usage { result ≢ Status.Usage }
     ensures faults { StatusHasCause (F.faults shelf.old) (F.faults shelf.new) 0 0
         (R.faults report.old) (R.faults report.new) result }
