@@ -182,4 +182,5 @@ not_border_and_mate n a b address border mate =
 pub mate_reversed : (n a b : ℕ) → IsAddress n a → IsMate n a b → IsReversed (corners_of n a) (corners_of n b)
 mate_reversed n a b address mate = IsReversed-mate n a b address.low (level-le n a address) mate
 
+-- all laws of mates
 pub ruleset mate_facts = (same_centre, mate_unique, mate_symmetric, border_or_mate, not_border_and_mate, mate_reversed)

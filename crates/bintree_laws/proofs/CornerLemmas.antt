@@ -9,11 +9,13 @@ use Rattle.bintree_laws.proofs.LevelLemmas.{level_of-left, level_of-right}
 
 -- ---- children
 
+-- a left child, one level down
 pub corners_at-left : (level m a : ℕ) → corners_at (suc level) m (2 * a) ≡ child 0 (corners_at level m a)
 corners_at-left level m a =
     let side : 2 * a % 2 ≡ 0 = omega arith in
     let half : 2 * a / 2 ≡ a = omega arith in rw (side, half) refl
 
+-- a right child, one level down
 pub corners_at-right : (level m a : ℕ) → corners_at (suc level) m (2 * a + 1) ≡ child 1 (corners_at level m a)
 corners_at-right level m a =
     let side : (2 * a + 1) % 2 ≡ 1 = omega arith in
@@ -31,6 +33,7 @@ corners_of-right n a low = rw (level_of-right a low, add-one (level_of a)) (corn
 
 -- ---- within the square
 
+-- a base triangle lies within the square
 pub IsWithin-base : (m half : ℕ) → IsWithin m (base_triangle m half)
 IsWithin-base m zero = record {
   apex_x = omega arith;
@@ -49,6 +52,7 @@ IsWithin-base m (suc _) = record {
   v1_y = omega arith;
 }
 
+-- a child lies where its parent does
 pub IsWithin-child : (m side : ℕ) (c : Corners) → IsWithin m c → IsWithin m (child side c)
 IsWithin-child m zero c w = record {
   apex_x = omega arith;
@@ -67,6 +71,7 @@ IsWithin-child m (suc _) c w = record {
   v1_y = w.apex_y;
 }
 
+-- so every triangle lies within the square
 pub IsWithin-corners_at : (level m a : ℕ) → IsWithin m (corners_at level m a)
 IsWithin-corners_at zero m a = IsWithin-base m (a % 2)
 IsWithin-corners_at (suc level) m a = IsWithin-child m (a % 2) (corners_at level m (a / 2))
@@ -77,6 +82,7 @@ pub IsWithin-corners_of : (n a : ℕ) → IsWithin (2 ^ n) (corners_of n a)
 unfolding corners_of
 IsWithin-corners_of n a = IsWithin-corners_at (level_of a) (2 ^ n) a
 
+-- and within a wider one
 pub IsWithin-wider : (m k : ℕ) (c : Corners) → m ≤ k → IsWithin m c → IsWithin k c
 IsWithin-wider m k c le w = record {
   apex_x = omega arith;
@@ -103,6 +109,7 @@ bit_cases (suc (suc _)) low = absurd (omega arith)
 low_bit : (x : ℕ) → (if nat_eq (bit_and x 1) 1 then 1 else 0) ≡ x % 2
 low_bit x = let bit : bit_and x 1 ≡ x % 2 = and_mask x 1 in rw bit (bit_cases (x % 2) (omega arith))
 
+-- one step of the way down, from the corners so far to those of the child that the next bit names
 pub corners_at-next : (level below m number : ℕ) (c d : Corners) → 0 < below → below ≤ level → c ≡ corners_at
     (level - below) m (number / 2 ^ below) → d ≡ child
     (if nat_eq (bit_and (number / 2 ^ (below - 1)) 1) 1 then 1 else 0) c → d ≡ corners_at (level - (below - 1)) m
@@ -116,6 +123,7 @@ corners_at-next level below m number c d some fits reached next =
     (below - 1) % 2 = low_bit (number / 2 ^ (below - 1)) in
     next ∙ (rw (deeper, bit, half, ← reached) refl)
 
+-- the way begins at a base triangle
 pub corners_at-start : (level n number : ℕ) (c : Corners) → n ≤ 11 → c ≡ base_triangle (1 * 2 ^ n % 4294967296)
     (if nat_eq (bit_and (number / 2 ^ level) 1) 1 then 1 else 0) → c ≡ corners_at (level - level) (2 ^ n)
     (number / 2 ^ level)
@@ -124,6 +132,7 @@ corners_at-start level n number c small start =
     let side : 1 * 2 ^ n % 4294967296 ≡ 2 ^ n = one_shl n 32 (omega arith) in
     start ∙ rw (none, side, low_bit (number / 2 ^ level)) refl
 
+-- and ends at the triangle itself
 pub corners_at-end : (level below n number : ℕ) → below ≤ 0 → level ≡ level_of number → corners_at (level - below)
     (2 ^ n) (number / 2 ^ below) ≡ corners_of n number
 unfolding corners_of

@@ -13,12 +13,15 @@ use Rattle.mesh_defs.specs.Triangle.{level_of, base_triangle, child, corners_at,
 
 -- ---- points and corners by their coordinates
 
+-- the point with these coordinates
 abbrev pub at : ℕ → ℕ → Point
 at x y = record { x = x; y = y }
 
+-- the triangle with these corners
 abbrev pub three : Point → Point → Point → Corners
 three apex v0 v1 = record { apex = apex; v0 = v0; v1 = v1 }
 
+-- points are equal if their coordinates are
 pub same_point : (i j k l : ℕ) → i ≡ k → j ≡ l → at i j ≡ at k l
 same_point i j k l x y = rw (x, y) refl
 
@@ -34,12 +37,15 @@ same_by_coordinates c d ax ay px py qx qy =
 
 -- ---- lattice steps
 
+-- the sum of two points, by coordinates
 abbrev pub sum_of : Point → Point → Point
 sum_of p q = at (p.x + q.x) (p.y + q.y)
 
+-- a multiple of a point, by coordinates
 abbrev pub multiple : ℕ → Point → Point
 multiple step p = at (step * p.x) (step * p.y)
 
+-- a multiple of a triangle
 abbrev pub scaled : ℕ → Corners → Corners
 scaled step c = three (multiple step c.apex) (multiple step c.v0) (multiple step c.v1)
 
@@ -113,6 +119,7 @@ corners_at-lattice (suc (suc level)) step m a size =
     let four = child_of_child step (a / 2 % 2) (a % 2) (lattice level (a / 4)) (omega arith) (omega arith) in
     rw (quarter, above) (rw rest at four)
 
+-- a level is halved once for two levels, rounded up
 pub halved-half : (level : ℕ) → halved level ≡ (level + 1) / 2
 halved-half zero = refl
 halved-half (suc zero) = refl
@@ -159,14 +166,17 @@ HasEvenBase-doubled step c = record { x = omega arith; y = omega arith }
 pub step_of : ℕ → ℕ → ℕ
 step_of n level = 2 ^ (n - halved level)
 
+-- the step of a level is a power of 2
 pub step_of-power : (n level k : ℕ) → n - halved level ≡ k → step_of n level ≡ 2 ^ k
 unfolding step_of
 step_of-power n level k e = ap (λ j. 2 ^ j) e
 
+-- it is positive
 pub step_pos : (n level : ℕ) → 0 < step_of n level
 unfolding step_of
 step_pos n level = pow_pos (n - halved level)
 
+-- the side of the square in steps
 pub size_by_steps : (n level : ℕ) → level ≤ 2 * n → 2 ^ n ≡ step_of n level * 2 ^ halved level
 unfolding step_of
 size_by_steps n level fits =
@@ -174,6 +184,7 @@ size_by_steps n level fits =
     let all : n ≡ (n - halved level) + halved level = omega arith in
     ap (λ k. 2 ^ k) all ∙ pow-add 2 (n - halved level) (halved level)
 
+-- the corners of a triangle are its lattice corners times the step of its level
 pub corners_of-lattice : (n a : ℕ) → level_of a ≤ 2 * n → corners_of n a ≡ scaled (step_of n (level_of a))
     (lattice (level_of a) a)
 unfolding corners_of
@@ -197,4 +208,5 @@ HasEvenBase-corners_of n a coarse =
     (HasEvenBase-lattice (level_of a) a (omega arith)))
     (cases_lt (halved (level_of a)) n))
 
+-- all laws of corners and levels
 pub ruleset corner_facts = (levels, corners_of-left, corners_of-right, IsWithin-corners_of, HasEvenBase-corners_of)

@@ -18,6 +18,7 @@ pub record IsAtLevel (level a : ℕ) : Type 0 where
 pub pow_next : (k : ℕ) → 2 ^ (k + 1) ≡ 2 * 2 ^ k
 pow_next k = rw add-one (pow-succ' 2 k)
 
+-- two more in the exponent
 pub pow_after : (k : ℕ) → 2 ^ (k + 2) ≡ 2 * 2 ^ (k + 1)
 pow_after k = let e : k + 2 ≡ (k + 1) + 1 = omega arith in rw e (pow_next (k + 1))
 
@@ -63,18 +64,21 @@ level_of-at level a at =
 
 -- ---- children and parents
 
+-- a left child is a level deeper
 pub level_of-left : (a : ℕ) → 2 ≤ a → level_of (2 * a) ≡ level_of a + 1
 level_of-left a low =
     let half : 2 * a / 2 ≡ a = omega arith in
     let at : IsAtLevel (level_of a) (2 * a / 2) = rw half (IsAtLevel-level_of a low) in
     rw (add-one (level_of a)) (level_of-at (suc (level_of a)) (2 * a) (IsAtLevel-half (level_of a) (2 * a) at))
 
+-- and so is a right child
 pub level_of-right : (a : ℕ) → 2 ≤ a → level_of (2 * a + 1) ≡ level_of a + 1
 level_of-right a low =
     let half : (2 * a + 1) / 2 ≡ a = omega arith in
     let at : IsAtLevel (level_of a) ((2 * a + 1) / 2) = rw half (IsAtLevel-level_of a low) in
     rw (add-one (level_of a)) (level_of-at (suc (level_of a)) (2 * a + 1) (IsAtLevel-half (level_of a) (2 * a + 1) at))
 
+-- a triangle is a level deeper than its parent
 pub level_of-parent : (a : ℕ) → 4 ≤ a → level_of a ≡ level_of (a / 2) + 1
 level_of-parent a low =
     rw (add-one (level_of (a / 2))) (level_of-at (suc (level_of (a / 2))) a
@@ -133,14 +137,17 @@ level_of-leading a low high =
 
 -- ---- what the code asks; the first part of a conclusion shows `grind` the call to match
 
+-- the level by the leading zeros of a 32-bit number
 pub leading_read : (a : ℕ) → 2 ≤ a → a < 2 ^ 24 → (count_leading_zeros 32 a ≡ count_leading_zeros 32 a) ×
     (30 - count_leading_zeros 32 a ≡ level_of a) × (count_leading_zeros 32 a ≤ 30) × (level_of a < 23)
 leading_read a low high =
     let read : count_leading_zeros 32 a + (level_of a + 2) ≡ 32 = level_of-leading a low high in
     (refl, omega arith, omega arith, (level_of-below a 23 low).1 high)
 
+-- the children of a triangle above level 22 are addresses of 24 bits
 pub child_room : (a : ℕ) → 2 ≤ a → level_of a < 22 → (level_of a ≡ level_of a) × (2 * a + 1 < 2 ^ 24)
 child_room a low coarse =
     let below : a < 2 ^ 23 = (level_of-below a 22 low).0 coarse in (refl, omega arith)
 
+-- all laws of levels
 pub ruleset levels = (leading_read, child_room, level_of-left, level_of-right, level_of-parent)

@@ -27,11 +27,13 @@ pub record IsTurned (k : ℕ) (p q : Point) : Type 0 where
   pub across : p.x + k ≡ q.x + q.y
   pub along : p.y + q.y ≡ q.x + k
 
+-- the corners of a triangle and what they are in the turned frame
 pub record AllTurned (k : ℕ) (c d : Corners) : Type 0 where
   pub apex : IsTurned k c.apex d.apex
   pub v0 : IsTurned k c.v0 d.v0
   pub v1 : IsTurned k c.v1 d.v1
 
+-- at even levels the lattice is the frame
 pub lattice-frame : (level a : ℕ) → level % 2 ≡ 0 → lattice level a ≡ frame level a
 lattice-frame zero a even = refl
 lattice-frame (suc zero) a even = absurd (omega (arith, even))
@@ -91,6 +93,7 @@ AllTurned-grandchild (suc (suc (suc _))) k c d t =
       v1 = IsTurned-sum_of k c.v0 c.v1 d.v0 d.v1 t.v0 t.v1;
     }
 
+-- at odd levels the frame is the lattice turned
 pub AllTurned-frame : (level a : ℕ) → level % 2 ≡ 1 → AllTurned (spread level) (lattice level a) (frame level a)
 AllTurned-frame zero a odd = absurd (omega (arith, odd))
 AllTurned-frame (suc zero) a odd = AllTurned-quarter (a % 4) (a / 2 % 2) (a % 2) (omega arith) (omega arith)
@@ -99,6 +102,7 @@ AllTurned-frame (suc (suc level)) a odd =
     AllTurned-grandchild (a % 4) (spread level) (lattice level (a / 4)) (frame level (a / 4))
     (AllTurned-frame level (a / 4) (omega arith))
 
+-- a level is even or odd
 pub parity : (level : ℕ) → (level % 2 ≡ 0) ⊎ (level % 2 ≡ 1)
 parity level = ⊎_elim (λ e. inl e) (λ other. inr (omega arith)) (cases_eq (level % 2) 0)
 
@@ -236,6 +240,7 @@ inner_or_outer (suc zero) low = inr tt
 inner_or_outer (suc (suc zero)) low = inr tt
 inner_or_outer (suc (suc (suc _))) low = inl tt
 
+-- some address is in a pair with a
 abbrev pub HasPair : ℕ → ℕ → Type 0
 HasPair level a = (b : ℕ) × IsPair level a b
 
@@ -272,6 +277,7 @@ pair_off_border level a b pair side =
 
 -- ---- from the lattice to the grid
 
+-- a positive factor goes
 pub cancel : (step i j : ℕ) → 0 < step → step * i ≡ step * j → i ≡ j
 cancel step i j some e = sym (mul-div_cancel_left i some) ∙ ap (λ k. k / step) e ∙ mul-div_cancel_left j some
 
@@ -285,6 +291,7 @@ SameSum-unscaled step c d some same =
       y = cancel_sum step c.v0.y c.v1.y d.v0.y d.v1.y some same.y;
     }
 
+-- equal points have equal coordinates
 pub coordinates : (p q : Point) → p ≡ q → (p.x ≡ q.x) × (p.y ≡ q.y)
 coordinates p q e = (ap (λ (r : Point). r.x) e, ap (λ (r : Point). r.y) e)
 
@@ -329,6 +336,7 @@ IsMate-pair n a b low fits pair =
       base = inr (IsReversed-pair n a b low fits level pair);
     }
 
+-- two triangles of a level whose bases have one sum of ends are equal or a pair
 pub same_sum_cases : (n a b : ℕ) → 2 ≤ a → 2 ≤ b → level_of a ≤ 2 * n → level_of b ≡ level_of a → SameSum
     (corners_of n a) (corners_of n b) → (b ≡ a) ⊎ IsPair (level_of a) a b
 same_sum_cases n a b low least fits level same =
@@ -396,6 +404,7 @@ no_pair-HasBorderBase n a b fits border pair =
 
 -- ---- what `mate` answers
 
+-- the one answer where there is a pair
 pub mate_answer : (n a v : ℕ) → 2 ≤ a → level_of a ≤ 2 * n → IsPair (level_of a) a v → (c : ℕ) →
     (Some v ≡ Some c) ↔ IsMate n a c
 mate_answer n a v low fits pair c = (
@@ -403,13 +412,16 @@ mate_answer n a v low fits pair c = (
   (λ mate. (pair_answer a v pair c).1 (pair-IsMate n a c low fits mate)),
 )
 
+-- no answer where there is none
 pub mate_no_answer : (n a : ℕ) → 2 ≤ a → level_of a ≤ 2 * n → ((c : ℕ) → IsPair (level_of a) a c → ⊥) → (c : ℕ) →
     (◌≡◌ {A = Option ℕ} None (Some c)) ↔ IsMate n a c
 mate_no_answer n a low fits none c = ((λ e. cc), (λ mate. absurd (none c (pair-IsMate n a c low fits mate))))
 
+-- where there is a pair, the base is not on the border
 pub answer_off_border : (n a v : ℕ) → level_of a ≤ 2 * n → IsPair (level_of a) a v → (true ≡ false) ↔ HasBorderBase n a
 answer_off_border n a v fits pair = ((λ e. cc), (λ border. absurd (no_pair-HasBorderBase n a v fits border pair)))
 
+-- and where there is none, it is
 pub no_answer_on_border : (n a : ℕ) → 2 ≤ a → level_of a ≤ 2 * n → ((c : ℕ) → IsPair (level_of a) a c → ⊥) →
     (false ≡ false) ↔ HasBorderBase n a
 no_answer_on_border n a low fits none = ((λ e. HasBorderBase-no_pair n a low fits none), (λ border. refl))

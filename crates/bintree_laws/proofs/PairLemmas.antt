@@ -11,6 +11,7 @@ use Rattle.bintree_laws.proofs.UnitLemmas.{quarter, frame, IsHalf, IsSomeHalf, I
 
 -- ---- levels of grandchildren
 
+-- a quarter of an address is two levels higher
 pub IsAtLevel-quarter : (level a : ℕ) → IsAtLevel (suc (suc level)) a → IsAtLevel level (a / 4)
 IsAtLevel-quarter level a deep =
     let low : 2 ^ (suc (suc level) + 1) ≡ 4 * 2 ^ (level + 1) =
@@ -23,6 +24,7 @@ IsAtLevel-quarter level a deep =
     let g : 2 ^ ((level + 2) + 1) ≡ 2 * 2 ^ (level + 2) = pow_next (level + 2) in rw e (omega arith) in
     record { low = omega arith; high = omega arith }
 
+-- and back
 pub IsAtLevel-grandchild : (level a : ℕ) → IsAtLevel level (a / 4) → IsAtLevel (suc (suc level)) a
 IsAtLevel-grandchild level a at =
     let half : a / 2 / 2 ≡ a / 4 = omega arith in
@@ -31,6 +33,7 @@ IsAtLevel-grandchild level a at =
 
 -- ---- a pair is of one level, of two addresses, and the one determines the other
 
+-- a pair is of one level
 pub IsAtLevel-pair : (level a b : ℕ) → IsAtLevel level a → IsPair level a b → IsAtLevel level b
 IsAtLevel-pair zero a b at pair = let low = at.low in let high = at.high in
     record { low = omega arith; high = omega arith }
@@ -40,6 +43,7 @@ IsAtLevel-pair (suc (suc level)) a b at pair =
     IsAtLevel-grandchild level b
     (⊎_elim (λ inner. rw inner.1 at above) (λ outer. IsAtLevel-pair level (a / 4) (b / 4) above outer.1) pair.1)
 
+-- no address is in a pair with itself
 pub pair_differs : (level a b : ℕ) → IsPair level a b → b ≢ a
 pair_differs zero a b pair = omega arith
 pair_differs (suc zero) a b pair = absurd pair
@@ -54,6 +58,7 @@ never_both (suc (suc (suc _))) inner outer = outer
 same_from_parts : (a b : ℕ) → a / 4 ≡ b / 4 → a % 4 ≡ b % 4 → a ≡ b
 same_from_parts a b above last = omega arith
 
+-- an address is in one pair at most
 pub pair_unique : (level a b c : ℕ) → IsPair level a b → IsPair level a c → b ≡ c
 pair_unique zero a b c p q = omega arith
 pair_unique (suc zero) a b c p q = absurd p
@@ -127,6 +132,7 @@ AreHalves-outer (suc (suc zero)) other c d sum outer halves =
     })
 AreHalves-outer (suc (suc (suc _))) other c d sum outer halves = absurd outer
 
+-- a pair are the halves of one square of the frame
 pub AreHalves-pair : (level a b : ℕ) → IsPair level a b → AreHalves (frame level a) (frame level b)
 AreHalves-pair zero a b pair = AreHalves-base (a % 2) (b % 2) (omega arith)
 AreHalves-pair (suc zero) a b pair = absurd pair
@@ -211,6 +217,7 @@ pivot_across (suc (suc (suc zero))) (suc (suc (suc zero))) i j c d low less half
 pivot_across (suc (suc (suc (suc _)))) _ i j c d low less half halves x y = absurd (omega (arith, low))
 pivot_across _ (suc (suc (suc (suc _)))) i j c d low less half halves x y = absurd (omega (arith, less))
 
+-- two triangles of a level whose bases have one sum of ends are equal or a pair, in the frame
 pub same_base : (level a b : ℕ) → IsAtLevel level a → IsAtLevel level b → SameSum (frame level a) (frame level b) →
     (b ≡ a) ⊎ IsPair level a b
 same_base zero a b p q same = ⊎_elim (λ e. inl e) (λ differ. inr (let l = p.low in let h = p.high in let m = q.low in
@@ -251,16 +258,20 @@ level_of-root a low high = level_of-at 0 a (record { low = low; high = high })
 level_of-first : (a : ℕ) → 4 ≤ a → a < 8 → level_of a ≡ 1
 level_of-first a low high = level_of-at 1 a (record { low = low; high = high })
 
+-- 2 and 3 are a pair
 pub IsPair-root : (a : ℕ) → 2 ≤ a → a < 4 → IsPair (level_of a) a (5 - a)
 IsPair-root a low high = rw (level_of-root a low high) (omega arith)
 
+-- no triangle of level 1 is in a pair
 pub no_pair-first : (a c : ℕ) → 4 ≤ a → a < 8 → IsPair (level_of a) a c → ⊥
 no_pair-first a c low high pair = rw (level_of-first a low high) at pair
 
+-- the first grandchild is in a pair with the last
 pub IsPair-inner_first : (a : ℕ) → 8 ≤ a → a % 4 ≡ 0 → IsPair (level_of a) a (a + 3)
 IsPair-inner_first a low first =
     rw (level_of-deep a low) (omega arith, inl (rw first tt, omega arith))
 
+-- and the last with the first
 pub IsPair-inner_last : (a : ℕ) → 8 ≤ a → a % 4 ≡ 3 → IsPair (level_of a) a (a - 3)
 IsPair-inner_last a low last =
     rw (level_of-deep a low) (omega arith, inl (rw last tt, omega arith))
@@ -275,12 +286,14 @@ is_outer (suc (suc (suc (suc _)))) low first last = absurd (omega (arith, low))
 is_not_inner : (which : ℕ) → which < 4 → (which ≡ 0 → ⊥) → (which ≡ 3 → ⊥) → IsInner which → ⊥
 is_not_inner which low first last inner = never_both which inner (is_outer which low first last)
 
+-- the second and the third are in a pair with those across the base of their grandparent
 pub IsPair-outer : (a above : ℕ) → 8 ≤ a → (a % 4 ≡ 0 → ⊥) → (a % 4 ≡ 3 → ⊥) → IsPair (level_of (a / 4))
     (a / 4) above → IsPair (level_of a) a (4 * above + 3 - a % 4)
 IsPair-outer a above low first last pair =
     let up : (4 * above + 3 - a % 4) / 4 ≡ above = omega arith in
     rw (level_of-deep a low) (omega arith, inr (is_outer (a % 4) (omega arith) first last, rw up pair))
 
+-- where nothing lies across, they are in none
 pub no_pair-outer : (a c : ℕ) → 8 ≤ a → (a % 4 ≡ 0 → ⊥) → (a % 4 ≡ 3 → ⊥) →
     ((b : ℕ) → IsPair (level_of (a / 4)) (a / 4) b → ⊥) → IsPair (level_of a) a c → ⊥
 no_pair-outer a c low first last none pair =
@@ -295,6 +308,7 @@ pair_answer a v pair c = (
       (pair_unique (level_of a) a v c pair other)),
 )
 
+-- no answer where there is no pair
 pub pair_no_answer : (a : ℕ) → ((c : ℕ) → IsPair (level_of a) a c → ⊥) → (c : ℕ) →
     (◌≡◌ {A = Option ℕ} None (Some c)) ↔ IsPair (level_of a) a c
 pair_no_answer a none c = ((λ e. cc), (λ pair. absurd (none c pair)))

@@ -306,6 +306,7 @@ pub record SamePivot (which other : ℕ) (c d : Corners) : Type 0 where
   pub x : (pivot which c).x ≡ (pivot other d).x
   pub y : (pivot which c).y ≡ (pivot other d).y
 
+-- of two grandchildren with one sum of base ends the grandparents have one too, and the pivots are one point
 pub SamePivot-above : (which other : ℕ) (c d : Corners) → IsSomeHalf c → IsSomeHalf d → SameSum (grandchild which c)
     (grandchild other d) → SamePivot which other c d
 SamePivot-above which other c d h k same =

@@ -63,12 +63,14 @@ before_cases p a q b = ⊎_elim
 
 -- chains
 
+-- the order of ranks is transitive
 pub before_trans : {p a q b r c : ℕ} → IsBefore p a q b → IsBefore q b r c → IsBefore p a r c
 before_trans (inl h) (inl k) = inl (omega arith)
 before_trans (inl h) (inr k) = inl (omega arith)
 before_trans (inr h) (inl k) = inl (omega arith)
 before_trans (inr h) (inr k) = inr (omega arith, omega arith)
 
+-- and so is no later
 pub no_later_trans : {p a q b r c : ℕ} → IsNoLater p a q b → IsNoLater q b r c → IsNoLater p a r c
 no_later_trans (inl h) (inl k) = inl (omega arith)
 no_later_trans (inl h) (inr k) = inl (omega arith)

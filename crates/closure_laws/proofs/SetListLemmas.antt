@@ -49,6 +49,7 @@ filter-in p a (x ∷ xs) h passes =
 pub among-filter : (p : ℕ → Bool) (a : ℕ) (xs : List ℕ) → IsTrue (among (filter p xs) a) → IsTrue (among xs a) × (p a ≡ true)
 among-filter p a xs h = let r = in-filter p a xs (IsIn-among a (filter p xs) h) in (among-in a xs r.0, r.1)
 
+-- an entry that passes stays
 pub filter-among : (p : ℕ → Bool) (a : ℕ) (xs : List ℕ) → IsTrue (among xs a) → p a ≡ true → IsTrue (among (filter p xs) a)
 filter-among p a xs h passes = among-in a (filter p xs) (filter-in p a xs (IsIn-among a xs h) passes)
 
@@ -187,6 +188,7 @@ ascending-range low (suc count) = (
 pub list_of : ℕ → (ℕ → Bool) → List ℕ
 list_of n has = filter has (range_with_len 0 (4 * 2 ^ (2 * n)))
 
+-- the list of a set is ascending
 pub ascending-list_of : (n : ℕ) (has : ℕ → Bool) → IsAscending (list_of n has)
 unfolding list_of
 ascending-list_of n has = ascending-filter has (range_with_len 0 (4 * 2 ^ (2 * n))) (ascending-range 0 (4 * 2 ^ (2 * n)))

@@ -11,7 +11,9 @@ mod diamonds;
 mod laws;
 
 pub use diamonds::{existence_laws, forced_laws, merge_laws, split_laws};
-pub use laws::{base_mesh, closed_set_laws, frame_laws, greedy_laws, member_laws, rank_laws, set_leaf_laws};
+pub use laws::{
+    base_mesh, closed_set_laws, frame_laws, greedy_laws, member_laws, rank_laws, set_leaf_laws,
+};
 
 #[cfg(test)]
 mod tests;

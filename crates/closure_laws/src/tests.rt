@@ -1,6 +1,8 @@
 //! The laws can be called.
 
-use crate::{base_mesh, closed_set_laws, frame_laws, greedy_laws, member_laws, rank_laws, set_leaf_laws};
+use crate::{
+    base_mesh, closed_set_laws, frame_laws, greedy_laws, member_laws, rank_laws, set_leaf_laws,
+};
 
 #[test]
 fn laws_are_calls() {

@@ -22,6 +22,7 @@ IsRoot-root_by (suc steps) zero h = record { square_within = omega arith; next_s
 IsRoot-root_by (suc steps) (suc k) h =
     IsRoot-digit _ (suc k) (root_by steps (suc k / 4)) refl (IsRoot-root_by steps (suc k / 4) (omega arith))
 
+-- the root by digits is the root, rounded down
 pub root_of-IsRoot : (s : ℕ) → IsRoot s (root_of s)
 unfolding root_of
 root_of-IsRoot s = IsRoot-root_by s s (omega arith)
