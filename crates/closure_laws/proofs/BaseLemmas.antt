@@ -14,7 +14,7 @@ use Rattle.mesh_defs.proofs.ListLemmas.{IsIn, count-some, some-count, length-cou
 use Rattle.tiling_laws.specs.Ancestors.{ancestors_of}
 use Rattle.tiling_laws.proofs.ConformityLemmas.{IsConforming-leaves_of}
 use Rattle.tiling_laws.proofs.ConverseLemmas.{IsClosed-ancestors_of, AreLeaves-ancestors_of}
-use Rattle.closure_laws.proofs.ClosureLemmas.{leaves_of-same}
+use Rattle.closure_laws.proofs.ClosureLemmas.{nothing_closed, nothing_least, leaves_of-same}
 use Rattle.closure_laws.proofs.RankingLemmas.{ranking_of, IsRanking-of}
 
 -- the two base triangles are mates
@@ -116,11 +116,7 @@ leaves-empty n = ap₂ (λ (xs ys : List ℕ). xs ++ ys) (leaves-one (2 * n) 2) 
 
 -- the empty set is closed
 IsClosed-empty : (n : ℕ) → IsClosed n empty
-IsClosed-empty n = record {
-  splittable = λ a h. absurd (false≢true h);
-  parent = λ a h. absurd (false≢true h);
-  mate = λ a b h. absurd (false≢true h);
-}
+IsClosed-empty n = nothing_closed n
 
 -- so 2 and 3 are conforming
 pub base_conforming : (n : ℕ) → IsConforming n (2 ∷ (3 ∷ []))
@@ -173,11 +169,7 @@ only_base n low others conforming short =
 
 -- it is the closure of the empty front
 IsFrontClosure-empty : (n : ℕ) (ranking : List ℕ) → IsFrontClosure n ranking 0 empty
-IsFrontClosure-empty n ranking = record {
-  closed = IsClosed-empty n;
-  holds = λ a h. h;
-  least = λ other closed holds a h. absurd (false≢true h);
-}
+IsFrontClosure-empty n ranking = nothing_least n (among (take 0 ranking)) (λ a. refl)
 
 -- a front that is not empty has a first triangle
 among-first : (k : ℕ) (ranking : List ℕ) → 0 < k → k ≤ length ranking →

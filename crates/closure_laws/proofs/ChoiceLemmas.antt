@@ -12,32 +12,14 @@ use Rattle.mesh_defs.specs.Greedy.{IsFirstLeaf}
 use Rattle.bintree_laws.proofs.LevelLemmas.{level-le}
 use Rattle.mesh_defs.proofs.ListLemmas.{IsIn, IsIn-contains, Contains-in, among-in}
 use Rattle.mesh_defs.specs.Falling.{IsFalling}
+use Rattle.mesh_defs.proofs.WorstLemmas.{worst-le, le-worst, worst-zeros}
 use Rattle.closure_laws.proofs.ClosureLemmas.{IsOuter, IsOuter-leaves_of}
 use Rattle.closure_laws.proofs.RankLemmas.{IsGreedyEnd-closure, first_leaf-blocked}
-
--- the worst of a list, by its entries
-worst-le : (priority : ℕ → ℕ) (bound : ℕ) (xs : List ℕ) → ((a : ℕ) → IsIn a xs → priority a ≤ bound) → worst_of priority xs ≤ bound
-worst-le priority bound [] h = omega arith
-worst-le priority bound (x ∷ xs) h =
-    let first = h x (inl refl) in
-    let rest : worst_of priority xs ≤ bound = worst-le priority bound xs (λ a k. h a (inr k)) in omega arith
-
-le-worst : (priority : ℕ → ℕ) (a : ℕ) (xs : List ℕ) → IsIn a xs → priority a ≤ worst_of priority xs
-le-worst priority a [] h = absurd h
-le-worst priority a (x ∷ xs) (inl e) = let f : priority x ≡ priority a = ap priority e in omega arith
-le-worst priority a (x ∷ xs) (inr h) = let rest : priority a ≤ worst_of priority xs = le-worst priority a xs h in omega arith
 
 -- no lesser priority comes first
 before-le : (priority : ℕ → ℕ) (t a : ℕ) → RanksBefore priority t a → priority a ≤ priority t
 before-le priority t a (inl h) = omega arith
 before-le priority t a (inr h) = omega arith
-
--- the worst of a list of zeros
-pub worst-zeros : (priority : ℕ → ℕ) (xs : List ℕ) → All (λ a. priority a ≡ 0) xs → worst_of priority xs ≡ 0
-worst-zeros priority [] all = refl
-worst-zeros priority (x ∷ xs) all =
-    let first = All-head (λ a. priority a ≡ 0) x xs all in
-    let rest : worst_of priority xs ≡ 0 = worst-zeros priority xs (All-tail (λ a. priority a ≡ 0) x xs all) in omega arith
 
 module _ (n budget : ℕ) (priority : ℕ → ℕ) (ranking : List ℕ) (chosen : ℕ) (has : ℕ → Bool) (ranked : IsRanking n priority ranking) (falling : IsFalling n priority)
     (closure : IsRankClosure n budget ranking chosen has) where

@@ -46,6 +46,24 @@ IsLeastClosed-same n wanted has other same p = record {
   least = λ some c holds a h. p.least some c holds a (same a ∙ h);
 }
 
+-- the empty set
+
+-- it is closed
+pub nothing_closed : (n : ℕ) → IsClosed n (λ _. false)
+nothing_closed n = record {
+  splittable = λ a h. absurd (false≢true h);
+  parent = λ a h. absurd (false≢true h);
+  mate = λ a b h. absurd (false≢true h);
+}
+
+-- and the least closed set where nothing is wanted
+pub nothing_least : (n : ℕ) (wanted : ℕ → Bool) → ((a : ℕ) → wanted a ≡ false) → IsLeastClosed n wanted (λ _. false)
+nothing_least n wanted none = record {
+  closed = nothing_closed n;
+  holds = λ a h. absurd (false≢true (sym (none a) ∙ h));
+  least = λ other c holds a h. absurd (false≢true h);
+}
+
 -- existence
 
 -- what one forced split goes to

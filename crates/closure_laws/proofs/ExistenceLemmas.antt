@@ -9,7 +9,7 @@ use Rattle.mesh_defs.specs.Ranking.{IsRanking, IsFrontClosure, IsRankClosure, Is
 use Rattle.mesh_defs.proofs.ListLemmas.{IsIn, IsIn-among, among-in}
 use Rattle.mesh_defs.specs.GridSet.{IsAscending, IsForced}
 use Rattle.closure_laws.proofs.ForcingLemmas.{with-cases, with-old, with-new}
-use Rattle.closure_laws.proofs.ClosureLemmas.{IsLeastClosed-unique, IsLeastClosed-same, closure_of, leaves_of-none, leaves_of-same}
+use Rattle.closure_laws.proofs.ClosureLemmas.{nothing_least, IsLeastClosed-unique, IsLeastClosed-same, closure_of, leaves_of-none, leaves_of-same}
 use Rattle.closure_laws.proofs.RankLemmas.{in_front, at_place, slice_get-at}
 use Rattle.closure_laws.proofs.RankingLemmas.{ranking_of, IsRanking-of}
 use Rattle.bintree_addr.specs.declared.blocked.Blocked.{Blocked}
@@ -21,21 +21,9 @@ use Rattle.closure_laws.proofs.SetListLemmas.{list_of, ascending-list_of, among-
 
 -- least closed sets
 
--- with nothing: the empty set
-empty_closure : (n : ℕ) → IsLeastClosed n (among []) (λ _. false)
-empty_closure n = record {
-  closed = record {
-    splittable = λ a h. absurd (false≢true h);
-    parent = λ a h. absurd (false≢true h);
-    mate = λ a b h. absurd (false≢true h);
-  };
-  holds = λ a h. absurd (false≢true h);
-  least = λ other shut holds a h. absurd (false≢true h);
-}
-
 -- with a list of splittable triangles
 pub closure_of_list : (n : ℕ) (xs : List ℕ) → ((a : ℕ) → IsIn a xs → IsSplittable n a) → (has : ℕ → Bool) × IsLeastClosed n (among xs) has
-closure_of_list n [] splittable = ((λ _. false), empty_closure n)
+closure_of_list n [] splittable = ((λ _. false), nothing_least n (among []) (λ a. refl))
 closure_of_list n (x ∷ xs) splittable =
     let rest = closure_of_list n xs (λ a i. splittable a (inr i)) in
     let next = closure_of n rest.0 x rest.1.closed (splittable x (inl refl)) in (
@@ -99,7 +87,7 @@ module _ (n budget : ℕ) (priority : ℕ → ℕ) (ranking : List ℕ) (ranked 
     chosen = 0;
     front = omega arith;
     has = λ _. false;
-    closure = empty_closure n;
+    closure = nothing_least n (among []) (λ a. refl);
     fits = omega (arith, leaves_of-none n (λ _. false) (λ a. refl));
     longest = λ k other more within. absurd (omega arith);
   }

@@ -16,7 +16,8 @@ use Rattle.mesh_defs.proofs.OrderLemmas.{not_both_before}
 use Rattle.closure_laws.proofs.ClosureLemmas.{leaves_of-same, IsLeastClosed-same}
 use Rattle.closure_laws.proofs.RankLemmas.{IsRankClosure-unique, IsBlockedBy-unique, IsGreedyEnd-closure, IsBestMesh-end, IsRankClosure-greedy, IsBlockedBy-greedy, first_leaf-blocked}
 use Rattle.closure_laws.specs.Frame.{IsFrame}
-use Rattle.closure_laws.proofs.ChoiceLemmas.{worst-zeros, leaves-zero, blocking-over, blocking-first, blocking-worst}
+use Rattle.mesh_defs.proofs.WorstLemmas.{worst-zeros}
+use Rattle.closure_laws.proofs.ChoiceLemmas.{leaves-zero, blocking-over, blocking-first, blocking-worst}
 
 -- rankings are determined
 

@@ -19,7 +19,8 @@ use Rattle.mesh_defs.proofs.OrderLemmas.{not_both_before}
 use Rattle.mesh_defs.proofs.ListLemmas.{IsIn, Contains-in, IsIn-among, among-in, length-counts}
 use Rattle.tiling_laws.proofs.ConverseLemmas.{IsCovered, member_or_covered, IsClosed-ancestors_of, AreLeaves-ancestors_of, IsAddress-parent}
 use Rattle.closure_laws.proofs.ForcingLemmas.{with-cases, with-old, with-new}
-use Rattle.closure_laws.proofs.ClosureLemmas.{IsSubset-closures, IsLeastClosed-unique, IsLeastClosed-same, closure_of, leaves_of-same, leaves_of-more, leaves_of-none, IsOuter, IsOuter-leaves_of, leaf-outer}
+use Rattle.mesh_defs.proofs.WorstLemmas.{worst-le, le-worst}
+use Rattle.closure_laws.proofs.ClosureLemmas.{nothing_least, IsSubset-closures, IsLeastClosed-unique, IsLeastClosed-same, closure_of, leaves_of-same, leaves_of-more, leaves_of-none, IsOuter, IsOuter-leaves_of, leaf-outer}
 
 -- rank closures are unique
 
@@ -329,15 +330,7 @@ module _ (n : ℕ) (priority : ℕ → ℕ) (ranking : List ℕ) (ranked : IsRan
 
   -- the empty set is the closure of the empty front
   nothing_front : IsFrontClosure n ranking 0 (λ _. false)
-  nothing_front = record {
-    closed = record {
-      splittable = λ a h. absurd (false≢true h);
-      parent = λ a h. absurd (false≢true h);
-      mate = λ a b h. absurd (false≢true h);
-    };
-    holds = λ a h. absurd (false≢true h);
-    least = λ other c holds a h. absurd (false≢true h);
-  }
+  nothing_front = nothing_least n (among (take 0 ranking)) (λ a. refl)
 
   -- a front's entries are members of its closure
   front_holds : (k : ℕ) (has : ℕ → Bool) → IsFrontClosure n ranking k has → HoldsBelow has ranking k
@@ -441,18 +434,6 @@ module _ (n : ℕ) (priority : ℕ → ℕ) (ranking : List ℕ) (ranked : IsRan
       (λ some. let p = place_of a outer.address some in absurd (outer.outside (subst (λ z. IsTrue (has z)) p.2 (all p.0 p.1 p.1))))
       (cases_lt (priority a) 1)
 
-  -- the worst of a list, by its entries
-  worst-le : (bound : ℕ) (xs : List ℕ) → ((a : ℕ) → IsIn a xs → priority a ≤ bound) → worst_of priority xs ≤ bound
-  worst-le bound [] h = omega arith
-  worst-le bound (x ∷ xs) h =
-      let first = h x (inl refl) in
-      let rest : worst_of priority xs ≤ bound = worst-le bound xs (λ a k. h a (inr k)) in omega arith
-
-  le-worst : (a : ℕ) (xs : List ℕ) → IsIn a xs → priority a ≤ worst_of priority xs
-  le-worst a [] h = absurd h
-  le-worst a (x ∷ xs) (inl e) = let f : priority x ≡ priority a = ap priority e in omega arith
-  le-worst a (x ∷ xs) (inr h) = let rest : priority a ≤ worst_of priority xs = le-worst a xs h in omega arith
-
   -- a conforming list whose worst is less than an entry has all up to it split
   front_split : (others : List ℕ) → IsConforming n others → (j : ℕ) → j < length ranking → worst_of priority others < priority (get_or ranking j 0) →
       IsSubset (among (take (j + 1) ranking)) (ancestors_of others)
@@ -469,7 +450,7 @@ module _ (n : ℕ) (priority : ℕ → ℕ) (ranking : List ℕ) (ranked : IsRan
       (λ member. member)
       (λ (c : IsCovered n others conforming (get_or ranking r.0 0)).
       let over = priority-under c.entry (get_or ranking r.0 0) (IsAddress-splittable n (get_or ranking r.0 0) e.0) c.under in
-      let worst = le-worst c.entry others c.listed in absurd (omega arith))
+      let worst = le-worst priority c.entry others c.listed in absurd (omega arith))
       (member_or_covered n others conforming (get_or ranking r.0 0) (IsAddress-splittable n (get_or ranking r.0 0) e.0)))
     where
       no_less : (i : ℕ) → RanksBefore priority (get_or ranking i 0) (get_or ranking j 0) → priority (get_or ranking j 0) ≤ priority (get_or ranking i 0)
@@ -483,9 +464,9 @@ module _ (n : ℕ) (priority : ℕ → ℕ) (ranking : List ℕ) (ranked : IsRan
       let closure = IsRankClosure-greedy budget has low end in
       let closed : IsClosed n has = closure.1.closure.closed in
       ⊎_elim
-      (λ (all : HoldsBelow has ranking (length ranking)). let none = worst-le 0 (leaves_of n has) (leaf-none has closed all) in omega arith)
+      (λ (all : HoldsBelow has ranking (length ranking)). let none = worst-le priority 0 (leaves_of n has) (leaf-none has closed all) in omega arith)
       (λ (m : HasMissing has ranking).
-      let top = worst-le (priority (get_or ranking m.0 0)) (leaves_of n has) (leaf-le has closed m) in
+      let top = worst-le priority (priority (get_or ranking m.0 0)) (leaves_of n has) (leaf-le has closed m) in
       ⊎_elim
       (λ better.
       let at = closure-missing budget has low end m in

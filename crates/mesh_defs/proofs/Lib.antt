@@ -1,5 +1,6 @@
 pub mod ListLemmas
 pub mod OrderLemmas
+pub mod WorstLemmas
 pub mod TextLemmas
 pub mod RootLemmas
 mod ClosedLists

@@ -7,7 +7,7 @@ use Rattle.mesh_defs.specs.ClosedSet.{IsSubset, IsLeastClosed, leaves_of, among}
 use Rattle.mesh_defs.specs.Ranking.{IsFrontClosure, IsRankClosure, IsBlockedBy}
 use Rattle.mesh_defs.specs.Greedy.{with_triangle}
 use Rattle.closure_laws.proofs.ForcingLemmas.{with-cases, with-old, with-new}
-use Rattle.closure_laws.proofs.ClosureLemmas.{IsSubset-closures, leaves_of-more}
+use Rattle.closure_laws.proofs.ClosureLemmas.{nothing_least, IsSubset-closures, leaves_of-more}
 use Rattle.bintree_addr.specs.declared.blocked.Blocked.{Blocked}
 use Rattle.bintree_addr.specs.declared.rank.Rank.{Rank}
 use Rattle.mesh_defs.specs.GridSet.{IsForced}
@@ -50,15 +50,7 @@ front-longer (suc i) (suc k) (x ∷ xs) le a h = ⊎_elim
 
 -- the empty list is the closure of the empty front
 pub closure-nothing : (n : ℕ) (xs members : List ℕ) → members ≡ [] → IsFrontClosure n xs 0 (among members)
-closure-nothing n xs members e = subst (λ (l : List ℕ). IsFrontClosure n xs 0 (among l)) (sym e) record {
-  closed = record {
-    splittable = λ a h. absurd (false≢true h);
-    parent = λ a h. absurd (false≢true h);
-    mate = λ a b h. absurd (false≢true h);
-  };
-  holds = λ a h. absurd (false≢true h);
-  least = λ other c holds a h. absurd (false≢true h);
-}
+closure-nothing n xs members e = subst (λ (l : List ℕ). IsFrontClosure n xs 0 (among l)) (sym e) (nothing_least n (among (take 0 xs)) (λ a. refl))
 
 -- one entry more
 pub closure-more : (n : ℕ) (xs : List ℕ) (i t : ℕ) (has next : ℕ → Bool) → i < length xs → t ≡ get_or xs i 0 → IsFrontClosure n xs i has →

@@ -1,5 +1,5 @@
 -- Where forced splits along the ranking stop is the frame of the budget.
-use Rattle.std.proofs.Common.{◌≡◌, ℕ, zero, suc, ◌+◌, ◌<◌, ◌≤◌, inl, inr, Bool, List, [], ◌∷◌, length, slice_get, get_or, All, Option, None, Some, refl, sym, ◌∙◌, ap, subst, arith}
+use Rattle.std.proofs.Common.{◌≡◌, ℕ, zero, suc, ◌<◌, ◌≤◌, inl, inr, List, [], ◌∷◌, length, slice_get, get_or, All, Option, None, Some, refl, sym, ◌∙◌, ap, subst, arith}
 use Rattle.std.proofs.lemmas.List.{length-map}
 use Rattle.std.proofs.lemmas.Option.{slice_get_within, get_or_from_slice_get}
 use Rattle.mesh_defs.specs.Triangle.{IsSplittable}
@@ -11,7 +11,8 @@ use Rattle.mesh_defs.proofs.ListLemmas.{IsIn, Contains-in}
 use Rattle.bintree_addr.specs.declared.blocked.Blocked.{Blocked}
 use Rattle.bintree_addr.specs.declared.rank.Rank.{Rank}
 use Rattle.closure_laws.specs.Frame.{IsFrame}
-use Rattle.closure_laws.proofs.ChoiceLemmas.{worst-zeros, leaves-zero, blocking-worst}
+use Rattle.mesh_defs.proofs.WorstLemmas.{worst-zeros}
+use Rattle.closure_laws.proofs.ChoiceLemmas.{leaves-zero, blocking-worst}
 use Rattle.plain_mesh.specs.Ranks.{triangles_of, IsRanked}
 use Rattle.plain_mesh.specs.Stop.{IsStop}
 
