@@ -1,0 +1,89 @@
+-- The links of a leaf, in the words of geometry.
+use Rattle.std.proofs.Common.{◌≡◌, ◌≢◌, ap, sym, ◌∙◌, ◌⊎◌, Bool, true, false, ℕ, ◌+◌, ◌*◌, ◌/◌, ◌%◌, ◌^◌, ◌<◌, ◌≤◌, refl, arith, inl, inr, ⊎_elim, subst, List, length, get_or}
+use Rattle.std.proofs.lemmas.Bool.{cases_lt, cases_Bool, true≢false}
+use Rattle.mesh_defs.specs.declared.point.Point.{Point}
+use Rattle.mesh_defs.specs.declared.point.Corners.{Corners}
+use Rattle.mesh_defs.specs.Triangle.{level_of, corners_of, child, OnOneSide, IsCorner}
+use Rattle.bintree_laws.proofs.CornerLemmas.{corners_of-left, corners_of-right}
+use Rattle.closure_laws.proofs.ClosureLemmas.{same_tests}
+use Rattle.edge_laws.specs.Edge.{mate_of, owner, with_square, IsEdgeOf}
+use Rattle.edge_laws.specs.Net.{nowhere}
+use Rattle.edge_laws.specs.LeafAcross.{IsLeafOf, IsLeafAcross}
+use Rattle.edge_laws.proofs.MateLemmas.{mate_of-low}
+use Rattle.edge_laws.proofs.OwnerLemmas.{owner-same, owner-low}
+use Rattle.edge_laws.proofs.LeafLemmas.{with_square-root, with_square-deep, leaf_across, edge-low, edge-border}
+use Rattle.triangle_pool.specs.Slots.{address_at, has_children, IsLive, split_set, IsPool}
+use Rattle.triangle_pool.specs.Links.{IsAcross}
+use Rattle.triangle_pool.proofs.PairLemmas.{has_children_by}
+use Rattle.triangle_pool.proofs.SplitLemmas.{has_children-set, set-has_children}
+use Rattle.triangle_pool.proofs.JoinLemmas.{set_false}
+use Rattle.triangle_pool.proofs.MergeLemmas.{linked_small}
+
+-- a live slot's parent is split
+pub parent_has_children : (pairs : List ℕ) (r : ℕ) → IsLive pairs r → has_children pairs (address_at pairs r / 2) ≡ true
+parent_has_children pairs r live =
+    let half : address_at pairs r / 2 ≡ get_or pairs (r / 2) 0 = omega arith in
+    ap (has_children pairs) half ∙ has_children_by pairs (r / 2) (get_or pairs (r / 2) 0) (omega arith) refl
+
+-- a live slot without children has a leaf of the set
+pub IsLeafOf-slot : (pairs : List ℕ) (s : ℕ) → IsLive pairs s → has_children pairs (address_at pairs s) ≡ false → IsLeafOf (split_set pairs) (address_at pairs s)
+IsLeafOf-slot pairs s live leaf = record {
+  low = live;
+  above = λ deep. has_children-set pairs (address_at pairs s / 2) (omega arith) (parent_has_children pairs s live);
+  whole = set_false pairs (address_at pairs s) leaf;
+}
+
+-- whether a triangle has children is the same in the words of the pairs and in those of the set
+square-children : (n : ℕ) (pairs : List ℕ) (p : ℕ) → IsPool n pairs → 1 ≤ p → has_children pairs p ≡ with_square (split_set pairs) p
+square-children n pairs p pool low = ⊎_elim
+    (λ top. let is : p ≡ 1 = omega arith in ap (has_children pairs) is ∙ pool.root ∙ sym (with_square-root (split_set pairs)) ∙ sym (ap (with_square (split_set pairs)) is))
+    (λ deep. same_tests (has_children pairs p) (split_set pairs p) (λ h. has_children-set pairs p deep h) (λ h. set-has_children pairs p h) ∙ sym (with_square-deep (split_set pairs) p deep))
+    (cases_lt p 2)
+
+-- what a link across an edge says
+pub record IsLeafLink (n : ℕ) (pairs : List ℕ) (a : ℕ) (p q : Point) (link : ℕ) : Type 0 where
+  pub border : link ≡ nowhere → OnOneSide (2 ^ n) p q
+  pub none : OnOneSide (2 ^ n) p q → link ≡ nowhere
+  pub some : link ≢ nowhere → IsLeafAcross n (split_set pairs) a p q (address_at pairs link)
+
+edge_link_words : (n : ℕ) (pairs : List ℕ) (a e link : ℕ) → IsPool n pairs → length pairs < 2 ^ 31 → IsLeafOf (split_set pairs) a → IsEdgeOf a e → IsAcross pairs e link →
+    IsLeafLink n pairs a (corners_of n e).v0 (corners_of n e).v1 link
+edge_link_words n pairs a e link pool short leaf edge read =
+    let low = edge-low a e leaf.low edge in
+    let border = edge-border n (split_set pairs) a e pool.closed leaf edge in
+    let live : 1 ≤ mate_of e → address_at pairs link ≡ owner (has_children pairs) (mate_of e) → IsLive pairs link = λ some at.
+        let z = owner-low (has_children pairs) (mate_of e) pool.root (mate_of-low e low some) in omega arith in
+    record {
+      border = λ is. border.0 (⊎_elim (λ v. v.0) (λ v. absurd (linked_small pairs link short (live v.0 v.1) is)) read);
+      none = λ side. ⊎_elim (λ v. v.1) (λ v. absurd (let z = border.1 side in let y = v.0 in omega arith)) read;
+      some = λ given. ⊎_elim (λ v. absurd (given v.1))
+          (λ v. let two = mate_of-low e low v.0 in
+          let same : owner (has_children pairs) (mate_of e) ≡ owner (with_square (split_set pairs)) (mate_of e) =
+              owner-same (has_children pairs) (with_square (split_set pairs)) (mate_of e) (square-children n pairs (mate_of e / 2) pool (omega arith)) in
+          subst (IsLeafAcross n (split_set pairs) a (corners_of n e).v0 (corners_of n e).v1) (sym (v.1 ∙ same)) (leaf_across n (split_set pairs) a e pool.closed leaf edge v.0)) read;
+    }
+
+-- ---- the three edges of a leaf
+
+pub base_words : (n : ℕ) (pairs : List ℕ) (s link : ℕ) → IsPool n pairs → length pairs < 2 ^ 31 → IsLive pairs s → has_children pairs (address_at pairs s) ≡ false → IsAcross pairs (address_at pairs s) link →
+    IsLeafLink n pairs (address_at pairs s) (corners_of n (address_at pairs s)).v0 (corners_of n (address_at pairs s)).v1 link
+base_words n pairs s link pool short live leaf read =
+    edge_link_words n pairs (address_at pairs s) (address_at pairs s) link pool short (IsLeafOf-slot pairs s live leaf) (inl refl) read
+
+pub left_words : (n : ℕ) (pairs : List ℕ) (s link : ℕ) → IsPool n pairs → length pairs < 2 ^ 31 → IsLive pairs s → has_children pairs (address_at pairs s) ≡ false → IsAcross pairs (2 * address_at pairs s) link →
+    IsLeafLink n pairs (address_at pairs s) (corners_of n (address_at pairs s)).apex (corners_of n (address_at pairs s)).v0 link
+left_words n pairs s link pool short live leaf read =
+    let a : ℕ = address_at pairs s in
+    let half : 2 * a / 2 ≡ a = omega arith in
+    let ends : corners_of n (2 * a) ≡ child 0 (corners_of n a) = corners_of-left n a live in
+    subst (λ c. IsLeafLink n pairs a c.v0 c.v1 link) ends
+    (edge_link_words n pairs a (2 * a) link pool short (IsLeafOf-slot pairs s live leaf) (inr half) read)
+
+pub right_words : (n : ℕ) (pairs : List ℕ) (s link : ℕ) → IsPool n pairs → length pairs < 2 ^ 31 → IsLive pairs s → has_children pairs (address_at pairs s) ≡ false → IsAcross pairs (2 * address_at pairs s + 1) link →
+    IsLeafLink n pairs (address_at pairs s) (corners_of n (address_at pairs s)).v1 (corners_of n (address_at pairs s)).apex link
+right_words n pairs s link pool short live leaf read =
+    let a : ℕ = address_at pairs s in
+    let half : (2 * a + 1) / 2 ≡ a = omega arith in
+    let ends : corners_of n (2 * a + 1) ≡ child 1 (corners_of n a) = corners_of-right n a live in
+    subst (λ c. IsLeafLink n pairs a c.v0 c.v1 link) ends
+    (edge_link_words n pairs a (2 * a + 1) link pool short (IsLeafOf-slot pairs s live leaf) (inr half) read)

@@ -1,0 +1,37 @@
+-- What the pool's calls answer.
+use Rattle.std.specs.Prelude.{◌≡◌, ℕ, ◌+◌, ◌*◌, ◌<◌, ◌≤◌, ◌⊎◌, List, [], ◌∷◌, map, nat_lt, true, false, IsNone, IfSome, IsSomeAnd}
+use Rattle.bintree_addr.specs.declared.slot.Slot.{Slot}
+use Rattle.edge_laws.specs.Edge.{mate_of}
+use Rattle.triangle_pool.specs.declared.pool.Born.{Born}
+use Rattle.triangle_pool.specs.Slots.{address_at, IsLive}
+
+-- the numbers of slots
+abbrev pub numbers : List Slot → List ℕ
+numbers slots = map (λ s. s.0) slots
+
+-- the slots are those of the left and the right child of a
+abbrev pub AreChildren : List ℕ → ℕ → Slot × Slot → Type 0
+AreChildren pairs a pair = (address_at pairs pair.0.0 ≡ 2 * a) × (address_at pairs pair.1.0 ≡ 2 * a + 1)
+
+-- r is one of the two slots
+abbrev pub IsOfPair : Slot × Slot → ℕ → Type 0
+IsOfPair pair r = (r ≡ pair.0.0) ⊎ (r ≡ pair.1.0)
+
+-- r is one of the slots that a split gave out
+abbrev pub IsBorn : Born → ℕ → Type 0
+IsBorn born r = IsOfPair born.first r ⊎ IsSomeAnd born.second (λ pair. IsOfPair pair r)
+
+-- What the answer to a split of a says: the slots of its children, and those of its mate's children where it has a
+-- mate. No other slot became live.
+pub record IsBirth (before after : List ℕ) (a : ℕ) (born : Born) : Type 0 where
+  pub first : AreChildren after a born.first
+  pub second : IfSome born.second (λ pair. (1 ≤ mate_of a) × AreChildren after (mate_of a) pair)
+  pub alone : IsNone born.second → mate_of a ≡ 0
+  pub live : (r : ℕ) → IsLive after r → IsLive before r ⊎ IsBorn born r
+
+-- the addresses of the children of a and of its mate
+abbrev pub children_of : ℕ → List ℕ
+children_of a = elim (nat_lt 0 (mate_of a)) as (λ _. List ℕ) [
+  | true ↦ (2 * a) ∷ ((2 * a + 1) ∷ ((2 * mate_of a) ∷ ((2 * mate_of a + 1) ∷ [])))
+  | false ↦ (2 * a) ∷ ((2 * a + 1) ∷ [])
+]
