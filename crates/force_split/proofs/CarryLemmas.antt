@@ -7,10 +7,9 @@ use Rattle.bintree_addr.specs.declared.slot.Slot.{Slot}
 use Rattle.edge_laws.specs.Edge.{mate_of}
 use Rattle.edge_laws.proofs.MateLemmas.{mate_of-low}
 use Rattle.triangle_pool.specs.declared.pool.Born.{Born}
-use Rattle.triangle_pool.specs.Slots.{address_at, has_children, IsLive, split_set, IsPool, IsSplit, diamond_size}
+use Rattle.edge_laws.specs.Slots.{address_at, has_children, IsLive, split_set, IsPool, IsSplit, diamond_size}
 use Rattle.triangle_pool.specs.Answer.{numbers, AreChildren, IsBorn, IsBirth}
-use Rattle.triangle_pool.proofs.SplitLemmas.{has_children-set, set-has_children}
-use Rattle.triangle_pool.proofs.MergeLemmas.{size_one, size_two}
+use Rattle.edge_laws.proofs.SlotLemmas.{has_children-set, set-has_children, size_one, size_two}
 use Rattle.force_split.specs.Chain.{IsChain, IsChained, IsBornOf, IsAnswer, AreAnswers, chain_size}
 use Rattle.force_split.proofs.ChainLemmas.{chained_shut, chained_up, chained_step, next_coarse}
 

@@ -7,69 +7,33 @@ use Rattle.mesh_defs.specs.Greedy.{with_triangle}
 use Rattle.bintree_laws.proofs.LevelLemmas.{level_of-parent}
 use Rattle.edge_laws.specs.Edge.{mate_of, owner}
 use Rattle.edge_laws.proofs.MateLemmas.{mate_of-back, mate_of-low, mate_of-level}
-use Rattle.edge_laws.proofs.OwnerLemmas.{owner_cases}
 use Rattle.edge_laws.proofs.IsMateLemmas.{IsMate-mate_of, mate_of-IsMate}
-use Rattle.triangle_pool.specs.Slots.{address_at, has_children, IsLive, split_set, IsPool, IsSplit}
-use Rattle.triangle_pool.proofs.LeafLemmas.{parent_has_children}
-use Rattle.triangle_pool.proofs.SplitLemmas.{set-has_children, has_children-set}
-use Rattle.triangle_pool.proofs.JoinLemmas.{set_false}
+use Rattle.edge_laws.specs.Slots.{address_at, has_children, IsLive, split_set, IsPool, IsSplit, HasLeaf}
+use Rattle.edge_laws.proofs.SlotLemmas.{parent_has_children, set-has_children, has_children-set, set_false, member_mate, same_closed}
 use Rattle.edge_laws.specs.LeafAcross.{IsGrown}
-use Rattle.edge_laws.proofs.ChainLemmas.{with_old, with_new, with_only, least_step}
-use Rattle.triangle_pool.proofs.MergeLemmas.{member_mate}
-use Rattle.triangle_pool.proofs.CountLemmas.{same_closed}
-use Rattle.force_split.specs.Chain.{HasLeaf, IsNext, IsChain, IsForcedBy, IsLow, IsChained}
-
--- ---- the leaf across the base
-
--- what the link across the base says: it is coarser, or as fine
-pub record IsBaseLink (pairs : List ℕ) (s base : ℕ) : Type 0 where
-  pub some : 1 ≤ mate_of (address_at pairs s)
-  pub live : IsLive pairs base
-  pub coarser : level_of (address_at pairs base) < level_of (address_at pairs s) → (address_at pairs base ≡ mate_of (address_at pairs s) / 2) × HasLeaf pairs base
-  pub same : (level_of (address_at pairs base) < level_of (address_at pairs s) → ⊥) → has_children pairs (mate_of (address_at pairs s) / 2) ≡ true
-
-pub coarse_link : (n : ℕ) (pairs : List ℕ) (s base : ℕ) → IsPool n pairs → HasLeaf pairs s → (mate_of (address_at pairs s) ≡ 0 → ⊥) →
-    address_at pairs base ≡ owner (has_children pairs) (mate_of (address_at pairs s)) → IsBaseLink pairs s base
-coarse_link n pairs s base pool leaf given link =
-    let a : ℕ = address_at pairs s in
-    let low = leaf.live in
-    let some : 1 ≤ mate_of a = ⊎_elim (λ z. absurd (given (omega arith))) (λ h. h) (cases_lt (mate_of a) 1) in
-    let b = mate_of-low a low some in
-    let level : level_of (mate_of a) ≡ level_of a = mate_of-level a low some in
-    elim (owner_cases (has_children pairs) (mate_of a)) [
-      | inl fine ↦
-          let at : address_at pairs base ≡ mate_of a = link ∙ fine.1 in
-          let same : level_of (address_at pairs base) ≡ level_of (mate_of a) = ap level_of at in
-          record { some = some; live = omega arith; coarser = λ less. absurd (omega arith); same = λ _. fine.0 }
-      | inr coarse ↦
-          let at : address_at pairs base ≡ mate_of a / 2 = link ∙ coarse.1 in
-          let deep : 4 ≤ mate_of a = ⊎_elim
-              (λ top. absurd (let half : mate_of a / 2 ≡ 1 = omega arith in true≢false (sym pool.root ∙ ap (has_children pairs) (sym half) ∙ coarse.0)))
-              (λ deep. deep) (cases_lt (mate_of a) 4) in
-          let up : level_of (mate_of a) ≡ level_of (mate_of a / 2) + 1 = level_of-parent (mate_of a) deep in
-          let same : level_of (address_at pairs base) ≡ level_of (mate_of a / 2) = ap level_of at in
-          record { some = some; live = omega arith; coarser = λ _. (at, record { live = omega arith; leaf = ap (has_children pairs) at ∙ coarse.0 }); same = λ no. absurd (no (omega arith)) }
-    ]
+use Rattle.edge_laws.proofs.ChainLemmas.{least_step}
+use Rattle.closure_laws.proofs.ForcingLemmas.{with-old, with-new, with-cases}
+use Rattle.force_split.specs.Chain.{IsNext, IsChain, IsForcedBy, IsLow, IsChained}
 
 -- ---- the sets along a chain
 
 pub chained_closed : (n : ℕ) (pairs slots : List ℕ) (now : ℕ → Bool) → IsPool n pairs → IsChained n pairs slots now → IsClosed n now × IsSubset (split_set pairs) now
 chained_closed n pairs [] now pool h = (same_closed n (split_set pairs) now (λ p. sym (h.forced p)) pool.closed, (λ p m. h.forced p ∙ m))
-chained_closed n pairs (s ∷ rest) now pool h = (h.forced.closed, (λ p m. h.forced.holds p (with_old (split_set pairs) (address_at pairs s) p m)))
+chained_closed n pairs (s ∷ rest) now pool h = (h.forced.closed, (λ p m. h.forced.holds p (with-old (split_set pairs) (address_at pairs s) p m)))
 
 -- the parent of the mate is split by then
 pub chained_up : (n : ℕ) (pairs : List ℕ) (s : ℕ) (rest : List ℕ) (mid : ℕ → Bool) → IsNext pairs s rest → IsChained n pairs rest mid → 4 ≤ mate_of (address_at pairs s) →
     mid (mate_of (address_at pairs s) / 2) ≡ true
 chained_up n pairs s [] mid next h deep = h.forced (mate_of (address_at pairs s) / 2) ∙ has_children-set pairs (mate_of (address_at pairs s) / 2) (omega arith) (next (omega arith))
-chained_up n pairs s (t ∷ rest) mid next h deep = ap mid (sym next.1) ∙ h.forced.holds (address_at pairs t) (with_new (split_set pairs) (address_at pairs t))
+chained_up n pairs s (t ∷ rest) mid next h deep = ap mid (sym next.1) ∙ h.forced.holds (address_at pairs t) (with-new (split_set pairs) (address_at pairs t))
 
 chained_least : (n : ℕ) (pairs : List ℕ) (s : ℕ) (rest : List ℕ) (mid other : ℕ → Bool) → IsNext pairs s rest → IsChain pairs rest → IsChained n pairs rest mid → IsClosed n other →
     IsSubset (split_set pairs) other → (4 ≤ mate_of (address_at pairs s) → other (mate_of (address_at pairs s) / 2) ≡ true) → IsSubset mid other
 chained_least n pairs s [] mid other next chain h closed sub up = λ p m. sub p (sym (h.forced p) ∙ m)
 chained_least n pairs s (t ∷ rest) mid other next chain h closed sub up = h.forced.least other closed
-    (λ p w. elim (with_only (split_set pairs) (address_at pairs t) p w) [
+    (λ p w. elim (with-cases (split_set pairs) (address_at pairs t) p w) [
       | inl old ↦ sub p old
-      | inr e ↦ ap other (e ∙ next.1) ∙ up (let live = chain.0.live in let at = next.1 in omega arith)
+      | inr e ↦ ap other (sym e ∙ next.1) ∙ up (let live = chain.0.live in let at = next.1 in omega arith)
     ])
 
 -- what the rest of a chain adds is coarser than the first slot's triangle

@@ -4,16 +4,16 @@ use Rattle.std.specs.List.{count_by}
 use Rattle.std.proofs.lemmas.Bool.{cases_eq, cases_lt, cases_Bool, true≢false, or_cases, or_left, or_right, eq-eqb, eqb-true, ne_eqb}
 use Rattle.mesh_defs.specs.Triangle.{level_of}
 use Rattle.mesh_defs.specs.ClosedSet.{IsClosed, IsLeastClosed, leaves_of, among}
+use Rattle.mesh_defs.specs.GridSet.{IsAscending, IsForced}
 use Rattle.mesh_defs.specs.Greedy.{with_triangle}
 use Rattle.edge_laws.specs.Edge.{mate_of}
 use Rattle.edge_laws.specs.LeafAcross.{IsGrown}
 use Rattle.mesh_defs.proofs.ListLemmas.{among-in}
 use Rattle.closure_laws.proofs.ClosureLemmas.{leaves_of-same, IsLeastClosed-unique}
-use Rattle.closure_laws.proofs.SizeLemmas.{length-leaves_once}
+use Rattle.closure_laws.proofs.SizeLemmas.{length-leaves_once, length-leaves_of}
 use Rattle.edge_laws.proofs.MateLemmas.{mate_of-low, mate_of-other}
-use Rattle.triangle_pool.specs.Slots.{address_at, split_set, IsPool, diamond_size}
-use Rattle.triangle_pool.proofs.MergeLemmas.{size_one, size_two}
-use Rattle.triangle_pool.proofs.CountLemmas.{members_of, among-members, members_once, same_closed, counted_cons, none_counted}
+use Rattle.edge_laws.specs.Slots.{address_at, split_set, IsPool, diamond_size}
+use Rattle.edge_laws.proofs.SlotLemmas.{size_one, size_two, members_of, among-members, members_once, same_closed, counted_cons, none_counted}
 use Rattle.force_split.specs.Chain.{IsChain, IsChained, IsGainOf, chain_size}
 use Rattle.force_split.proofs.ChainLemmas.{chained_step, chained_shut, next_coarse}
 
@@ -120,3 +120,18 @@ chain_gain n pairs s rest pool chain coarse = λ next least.
     let old : length (leaves_of n (split_set pairs)) ≡ length (leaves_of n (among (members_of pairs))) = ap length (leaves_of-same n (split_set pairs) (among (members_of pairs)) (λ p. sym (among-members pairs p))) in
     let old_count = length-leaves_once n (members_of pairs) (λ a h. members_once n pairs a pool (among-in a (members_of pairs) h)) (same_closed n (split_set pairs) (among (members_of pairs)) (λ p. sym (among-members pairs p)) pool.closed) in
     let size = after.count in omega arith
+
+-- The gain in leaves is that in members, for any ascending list of the members.
+pub gain_members : (n : ℕ) (pairs members after : List ℕ) (a gain : ℕ) → IsPool n pairs → IsGainOf n pairs a gain → IsAscending members →
+    ((p : ℕ) → among members p ≡ split_set pairs p) → IsForced n members a after → length after ≡ length members + gain
+gain_members n pairs members after a gain pool grown ascending same forced =
+    let least : IsLeastClosed n (with_triangle (split_set pairs) a) (among after) = record {
+      closed = forced.least.closed;
+      holds = λ p h. forced.least.holds p (ap (λ b. b || nat_eq a p) (same p) ∙ h);
+      least = λ other closed wanted. forced.least.least other closed (λ p h. wanted p (ap (λ b. b || nat_eq a p) (sym (same p)) ∙ h));
+    } in
+    let closed : IsClosed n (among members) = same_closed n (split_set pairs) (among members) (λ p. sym (same p)) pool.closed in
+    let new = length-leaves_of n after forced.ascending forced.least.closed in
+    let old = length-leaves_of n members ascending closed in
+    let leaves : length (leaves_of n (among members)) ≡ length (leaves_of n (split_set pairs)) = ap length (leaves_of-same n (among members) (split_set pairs) same) in
+    let more = grown (among after) least in omega arith

@@ -5,13 +5,8 @@ use Rattle.mesh_defs.specs.ClosedSet.{IsLeastClosed, leaves_of}
 use Rattle.mesh_defs.specs.Greedy.{with_triangle}
 use Rattle.edge_laws.specs.Edge.{mate_of}
 use Rattle.triangle_pool.specs.declared.pool.Born.{Born}
-use Rattle.triangle_pool.specs.Slots.{address_at, has_children, IsLive, split_set, diamond_size}
+use Rattle.edge_laws.specs.Slots.{address_at, has_children, IsLive, split_set, diamond_size}
 use Rattle.triangle_pool.specs.Answer.{AreChildren, IsBorn}
-
--- the slot has a leaf
-pub record HasLeaf (pairs : List ℕ) (s : ℕ) : Type 0 where
-  pub live : IsLive pairs s
-  pub leaf : has_children pairs (address_at pairs s) ≡ false
 
 -- What follows a leaf in its chain: the coarser leaf across its base, and nothing where the leaf across is as fine as
 -- itself, or there is none.

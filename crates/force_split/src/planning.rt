@@ -3,10 +3,13 @@
 ghost use Rattle.std.specs.Prelude.{◌≡◌, ℕ, ◌+◌, ◌*◌, ◌/◌, ◌<◌, ◌≤◌, ◌++◌, ◌∷◌, List, length, slice_index, true, false, IsNone, IfSome};
 ghost use Rattle.arrayvec.specs.ArrayVec.{array_vec_len};
 ghost use Rattle.mesh_defs.specs.Triangle.{level_of};
+ghost use Rattle.mesh_defs.specs.ClosedSet.{among};
+ghost use Rattle.mesh_defs.specs.GridSet.{IsAscending, IsForced};
 ghost use Rattle.edge_laws.specs.Edge.{mate_of};
-ghost use Rattle.triangle_pool.specs.Slots.{address_at, has_children, IsLive, diamond_size};
+ghost use Rattle.edge_laws.specs.Slots.{IsMateLive, address_at, has_children, IsLive, diamond_size};
 ghost use Rattle.triangle_pool.specs.Answer.{numbers};
-ghost use Rattle.force_split.specs.Chain.{HasLeaf, IsChain, IsGainOf, chain_size};
+ghost use Rattle.edge_laws.specs.Slots.{IsMateLive, HasLeaf};
+ghost use Rattle.force_split.specs.Chain.{IsChain, IsGainOf, chain_size};
 
 use arrayvec::ArrayVec;
 use bintree_addr::Slot;
@@ -22,7 +25,7 @@ pub struct Chain {
 /// The leaf across the base, if it is coarser.
 fn coarser(pool: &Pool, s: Slot) -> Option<Slot>
     requires leaf { HasLeaf pool.now.pairs s.0 }
-    ensures none { IsNone result → 1 ≤ mate_of (address_at pool.now.pairs s.0) → has_children pool.now.pairs (mate_of (address_at pool.now.pairs s.0) / 2) ≡ true }
+    ensures none { IsNone result → IsMateLive pool.now.pairs (address_at pool.now.pairs s.0) }
     ensures some { IfSome result (λ t. (1 ≤ mate_of (address_at pool.now.pairs s.0)) × (address_at pool.now.pairs t.0 ≡ mate_of (address_at pool.now.pairs s.0) / 2)) }
     ensures leaf { IfSome result (λ t. HasLeaf pool.now.pairs t.0) }
     ensures level { IfSome result (λ t. level_of (address_at pool.now.pairs t.0) < level_of (address_at pool.now.pairs s.0)) }
@@ -69,6 +72,11 @@ pub fn plan(pool: &Pool, s: Slot) -> Chain
     ensures chain { IsChain pool.now.pairs (numbers result.slots.items) }
     ensures size { result.gain ≡ chain_size pool.now.pairs (numbers result.slots.items) }
     ensures gain { IsGainOf pool.now.n pool.now.pairs (address_at pool.now.pairs s.0) result.gain }
+    ensures members { (members after : List ℕ) → IsAscending members →
+        ((a : ℕ) → among members a ≡ split_set pool.now.pairs a) →
+        IsForced pool.now.n members (address_at pool.now.pairs s.0) after →
+        length after ≡ length members + result.gain }
+    ensures count { length result.slots.items ≤ 2 * pool.now.n }
 {
     let levels = pool.tri(s).level();
     let mut slots = ArrayVec::new();

@@ -6,12 +6,12 @@ use Rattle.bintree_addr.specs.declared.slot.Slot.{Slot}
 use Rattle.edge_laws.specs.Edge.{mate_of}
 use Rattle.edge_laws.proofs.MateLemmas.{mate_of-low}
 use Rattle.triangle_pool.specs.declared.pool.Born.{Born}
-use Rattle.triangle_pool.specs.Slots.{address_at, IsLive, room_of, diamond_size}
+use Rattle.edge_laws.specs.Slots.{address_at, IsLive, room_of, diamond_size}
 use Rattle.triangle_pool.specs.Answer.{AreChildren, IsOfPair, IsBirth}
 use Rattle.triangle_pool.specs.Links.{MaySplit, MaySplitMate}
 use Rattle.triangle_pool.proofs.HalveLemmas.{address-old, address-new, live_apart}
 use Rattle.triangle_pool.proofs.PoolLemmas.{room-set}
-use Rattle.triangle_pool.proofs.MergeLemmas.{size_one, size_two}
+use Rattle.edge_laws.proofs.SlotLemmas.{size_one, size_two}
 
 -- the slots of a pair that was given to a
 children_at : (pairs : List ℕ) (k a : ℕ) (pair : Slot × Slot) → k < length pairs → pair.0.0 ≡ 2 * k → pair.1.0 ≡ 2 * k + 1 → AreChildren (set pairs k a) a pair

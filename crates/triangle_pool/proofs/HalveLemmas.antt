@@ -10,9 +10,9 @@ use Rattle.edge_laws.proofs.MateLemmas.{mate_of-back, mate_of-low, mate_of-level
 use Rattle.edge_laws.proofs.OwnerLemmas.{owner_cases, owner-low, owner-whole}
 use Rattle.edge_laws.proofs.NetLemmas.{IsLinked-halving, IsTree-halving}
 use Rattle.triangle_pool.specs.declared.forest.Node.{Node}
-use Rattle.triangle_pool.specs.Slots.{address_at, has_children, IsLive}
+use Rattle.edge_laws.specs.Slots.{address_at, has_children, IsLive}
 use Rattle.triangle_pool.specs.Links.{blank, node_at, edge_link, net_of, ArePairs, AreChildrenAt, IsForest, IsAcross, IsRelinked, MayHalve, IsInner, IsPlaced, with_link}
-use Rattle.triangle_pool.proofs.PairLemmas.{has_children-added, has_children-kept, has_children_by, pair_of}
+use Rattle.edge_laws.proofs.SlotLemmas.{has_children-added, has_children-kept, has_children_by, pair_of}
 use Rattle.triangle_pool.proofs.RelinkLemmas.{edge-base, edge-left, edge-right, live_within, edge_low, relinked_turn}
 use Rattle.bintree_laws.proofs.LevelLemmas.{level_of-left, level_of-right}
 

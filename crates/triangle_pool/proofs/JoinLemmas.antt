@@ -12,12 +12,12 @@ use Rattle.edge_laws.proofs.NetLemmas.{read_link, read_less, IsLinked-joining, I
 use Rattle.mesh_defs.specs.Triangle.{level_of, IsSplittable, IsMate}
 use Rattle.mesh_defs.specs.ClosedSet.{IsClosed, among}
 use Rattle.bintree_laws.proofs.LevelLemmas.{level_of-below, level_of-parent}
-use Rattle.triangle_pool.proofs.SplitLemmas.{has_children-set, set-has_children, whole_of, slot_of}
+use Rattle.edge_laws.proofs.SlotLemmas.{has_children-set, set-has_children, slot_of, has_children-removed, has_children-left, has_children_by, set_kept, set_false, pair_in, child_at}
+use Rattle.triangle_pool.proofs.SplitLemmas.{whole_of}
 use Rattle.std.proofs.Common.{◌&&◌}
 use Rattle.triangle_pool.specs.declared.forest.Node.{Node}
-use Rattle.triangle_pool.specs.Slots.{address_at, has_children, IsLive, split_set}
+use Rattle.edge_laws.specs.Slots.{address_at, has_children, IsLive, split_set}
 use Rattle.triangle_pool.specs.Links.{node_at, edge_link, net_of, ArePairs, AreChildrenAt, IsForest, IsAcross, IsRelinked, MayJoin, IsLeafAgain, MayMerge}
-use Rattle.triangle_pool.proofs.PairLemmas.{has_children-removed, has_children-left, has_children_by}
 use Rattle.closure_laws.proofs.ClosureLemmas.{same_tests}
 use Rattle.triangle_pool.proofs.RelinkLemmas.{edge-base, edge-left, edge-right}
 use Rattle.triangle_pool.proofs.HalveLemmas.{tree_of, address-old, address-new}
@@ -160,11 +160,6 @@ bare_of n pairs s k a high closed h =
     let coarse = (closed.splittable a member).coarse in
     record { address = h.address; low = h.low; high = (level_of-below a 22 h.low).0 (omega arith); pair = h.pair; whole_left = h.whole_left; whole_right = h.whole_right }
 
-pub child_at : (pairs : List ℕ) (k a side : ℕ) → side < 2 → get_or pairs k 0 ≡ a → address_at pairs (2 * k + side) ≡ 2 * a + side
-child_at pairs k a side small is =
-    let half : (2 * k + side) / 2 ≡ k = omega arith in
-    let z : get_or pairs ((2 * k + side) / 2) 0 ≡ a = ap (λ t. get_or pairs t 0) half ∙ is in omega arith
-
 -- the link of a child's base
 pub base_across_child : (n : ℕ) (pairs parents : List ℕ) (nodes : List Node) (r e : ℕ) → IsForest pairs parents nodes → IsClosed n (split_set pairs) → 2 ≤ e →
     address_at pairs r ≡ e → IsAcross pairs e (node_at nodes r).base
@@ -199,20 +194,6 @@ closed_less n has less a b closed no_a no_b same childless mate_a mate_b =
           same q (λ e. n_p.1 (mate_a p (closed.splittable p (old p h)) (subst (IsMate n p) e m))) (λ e. n_p.0 (mate_b p (closed.splittable p (old p h)) (subst (IsMate n p) e m)))
           ∙ closed.mate p q (old p h) m;
     }
-
-pub set_kept : (pairs : List ℕ) (k a p : ℕ) → k < length pairs → get_or pairs k 0 ≡ a → p ≢ a → split_set (set pairs k 0) p ≡ split_set pairs p
-set_kept pairs k a p within is n = ⊎_elim
-    (λ low. same_tests (split_set (set pairs k 0) p) (split_set pairs p)
-    (λ y. has_children-set pairs p low (sym (has_children-left pairs k a p within is n) ∙ set-has_children (set pairs k 0) p y))
-    (λ y. has_children-set (set pairs k 0) p low (has_children-left pairs k a p within is n ∙ set-has_children pairs p y)))
-    (λ small. ap (λ t. t && among (set pairs k 0) p) (le-ltb 1 p (omega arith)) ∙ sym (ap (λ t. t && among pairs p) (le-ltb 1 p (omega arith))))
-    (⊎_elim (λ l. inr (let z : p < 2 = omega arith in z)) (λ g. inl g) (cases_lt p 2))
-
-pub set_false : (pairs : List ℕ) (p : ℕ) → has_children pairs p ≡ false → split_set pairs p ≡ false
-set_false pairs p h = ⊎_elim (λ y. absurd (true≢false (sym (set-has_children pairs p y) ∙ h))) (λ n. n) (cases_Bool (split_set pairs p))
-
-pub pair_in : (pairs : List ℕ) (k a : ℕ) → 2 ≤ a → get_or pairs k 0 ≡ a → k < length pairs
-pair_in pairs k a low is = ⊎_elim (λ w. w) (λ past. absurd (let z = get_or_past pairs k 0 past in omega arith)) (cases_lt k (length pairs))
 
 no_children : (pairs : List ℕ) (s k a p : ℕ) → MayMerge pairs s k a → split_set pairs p ≡ true → p / 2 ≢ a
 no_children pairs s k a p h member half = ⊎_elim

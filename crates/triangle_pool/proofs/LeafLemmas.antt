@@ -12,33 +12,10 @@ use Rattle.edge_laws.specs.LeafAcross.{IsLeafOf, IsLeafAcross}
 use Rattle.edge_laws.proofs.MateLemmas.{mate_of-low}
 use Rattle.edge_laws.proofs.OwnerLemmas.{owner-same, owner-low}
 use Rattle.edge_laws.proofs.LeafLemmas.{with_square-root, with_square-deep, leaf_across, edge-low, edge-border}
-use Rattle.triangle_pool.specs.Slots.{address_at, has_children, IsLive, split_set, IsPool}
+use Rattle.edge_laws.specs.Slots.{address_at, has_children, IsLive, split_set, IsPool}
 use Rattle.triangle_pool.specs.Links.{IsAcross}
-use Rattle.triangle_pool.proofs.PairLemmas.{has_children_by}
-use Rattle.triangle_pool.proofs.SplitLemmas.{has_children-set, set-has_children}
-use Rattle.triangle_pool.proofs.JoinLemmas.{set_false}
+use Rattle.edge_laws.proofs.SlotLemmas.{has_children_by, has_children-set, set-has_children, set_false, parent_has_children, IsLeafOf-slot, square-children}
 use Rattle.triangle_pool.proofs.MergeLemmas.{linked_small}
-
--- a live slot's parent is split
-pub parent_has_children : (pairs : List ℕ) (r : ℕ) → IsLive pairs r → has_children pairs (address_at pairs r / 2) ≡ true
-parent_has_children pairs r live =
-    let half : address_at pairs r / 2 ≡ get_or pairs (r / 2) 0 = omega arith in
-    ap (has_children pairs) half ∙ has_children_by pairs (r / 2) (get_or pairs (r / 2) 0) (omega arith) refl
-
--- a live slot without children has a leaf of the set
-pub IsLeafOf-slot : (pairs : List ℕ) (s : ℕ) → IsLive pairs s → has_children pairs (address_at pairs s) ≡ false → IsLeafOf (split_set pairs) (address_at pairs s)
-IsLeafOf-slot pairs s live leaf = record {
-  low = live;
-  above = λ deep. has_children-set pairs (address_at pairs s / 2) (omega arith) (parent_has_children pairs s live);
-  whole = set_false pairs (address_at pairs s) leaf;
-}
-
--- whether a triangle has children is the same in the words of the pairs and in those of the set
-square-children : (n : ℕ) (pairs : List ℕ) (p : ℕ) → IsPool n pairs → 1 ≤ p → has_children pairs p ≡ with_square (split_set pairs) p
-square-children n pairs p pool low = ⊎_elim
-    (λ top. let is : p ≡ 1 = omega arith in ap (has_children pairs) is ∙ pool.root ∙ sym (with_square-root (split_set pairs)) ∙ sym (ap (with_square (split_set pairs)) is))
-    (λ deep. same_tests (has_children pairs p) (split_set pairs p) (λ h. has_children-set pairs p deep h) (λ h. set-has_children pairs p h) ∙ sym (with_square-deep (split_set pairs) p deep))
-    (cases_lt p 2)
 
 -- what a link across an edge says
 pub record IsLeafLink (n : ℕ) (pairs : List ℕ) (a : ℕ) (p q : Point) (link : ℕ) : Type 0 where

@@ -1,4 +1,3 @@
-pub mod PairLemmas
 pub mod RelinkLemmas
 pub mod HalveLemmas
 pub mod SplitLemmas
@@ -7,5 +6,4 @@ pub mod NewLemmas
 pub mod JoinLemmas
 pub mod MergeLemmas
 pub mod BirthLemmas
-pub mod CountLemmas
 pub mod LeafLemmas

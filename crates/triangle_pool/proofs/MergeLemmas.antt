@@ -9,12 +9,12 @@ use Rattle.edge_laws.specs.Net.{nowhere}
 use Rattle.edge_laws.proofs.OwnerLemmas.{owner-split}
 use Rattle.edge_laws.proofs.MateLemmas.{mate_of-low, mate_of-other}
 use Rattle.edge_laws.proofs.IsMateLemmas.{IsMate-mate_of}
-use Rattle.triangle_pool.specs.Slots.{address_at, has_children, IsLive, split_set, room_of, IsFree, IsPool, HasTwoLeaves, IsMergeReady, IsUnder, IsMerge, diamond_size}
+use Rattle.edge_laws.specs.Slots.{address_at, has_children, IsLive, split_set, room_of, IsPool, HasTwoLeaves, IsMergeReady, IsUnder, IsMerge, diamond_size}
+use Rattle.triangle_pool.specs.Slots.{IsFree}
 use Rattle.triangle_pool.specs.Links.{HasPairs, AreChildrenAt, MayMerge}
-use Rattle.triangle_pool.proofs.PairLemmas.{has_children-removed, has_children_by, pair_of}
-use Rattle.triangle_pool.proofs.SplitLemmas.{has_children-set, set-has_children}
+use Rattle.edge_laws.proofs.SlotLemmas.{has_children-removed, has_children_by, pair_of, has_children-set, set-has_children, set_kept, set_false, pair_in, child_at, member_mate, member_parent, pair_one, size_one, size_two}
 use Rattle.triangle_pool.proofs.HalveLemmas.{address-old}
-use Rattle.triangle_pool.proofs.JoinLemmas.{child_at, gone_low, set_kept, set_false, pair_in}
+use Rattle.triangle_pool.proofs.JoinLemmas.{gone_low}
 use Rattle.triangle_pool.proofs.PoolLemmas.{free_more, room-free}
 
 -- ---- readers
@@ -32,18 +32,6 @@ children_none pairs a k low children =
 pub linked_small : (pairs : List ℕ) (link : ℕ) → length pairs < 2 ^ 31 → IsLive pairs link → link ≢ nowhere
 linked_small pairs link short live is =
     let past : get_or pairs (link / 2) 0 ≡ 0 = get_or_past pairs (link / 2) 0 (omega arith) in omega arith
-
--- the mate of a member is a member, and so is its parent
-pub member_mate : (n : ℕ) (pairs : List ℕ) (a : ℕ) → IsPool n pairs → 2 ≤ a → has_children pairs a ≡ true → 1 ≤ mate_of a → has_children pairs (mate_of a) ≡ true
-member_mate n pairs a pool low is_split some =
-    let member = has_children-set pairs a low is_split in
-    let coarse = (pool.closed.splittable a member).coarse in
-    set-has_children pairs (mate_of a) (pool.closed.mate a (mate_of a) member (IsMate-mate_of n a low (omega arith) some))
-
-pub member_parent : (n : ℕ) (pairs : List ℕ) (a : ℕ) → IsPool n pairs → 2 ≤ a → has_children pairs a ≡ true → has_children pairs (a / 2) ≡ true
-member_parent n pairs a pool low is_split = ⊎_elim
-    (λ top. ap (has_children pairs) (let z : a / 2 ≡ 1 = omega arith in z) ∙ pool.root)
-    (λ deep. set-has_children pairs (a / 2) (pool.closed.parent a (has_children-set pairs a low is_split) deep)) (cases_lt a 4)
 
 -- the link across the base of a triangle that is split is its mate's slot
 pub partner_link : (n : ℕ) (pairs : List ℕ) (a link : ℕ) → IsPool n pairs → 2 ≤ a → has_children pairs a ≡ true → length pairs < 2 ^ 31 →
@@ -99,13 +87,6 @@ freed pairs k a low pair once =
         | inr apart ↦ let z = address-old pairs k 0 r apart in omega arith
       ];
     }
-
--- the pair of a's children is one
-pub pair_one : (n : ℕ) (pairs : List ℕ) (i k a : ℕ) → IsPool n pairs → 1 ≤ a → get_or pairs i 0 ≡ a → get_or pairs k 0 ≡ a → i ≡ k
-pair_one n pairs i k a pool low at_i at_k =
-    let x : address_at pairs (2 * i + 0) ≡ 2 * a + 0 = child_at pairs i a 0 (omega arith) at_i in
-    let y : address_at pairs (2 * k + 0) ≡ 2 * a + 0 = child_at pairs k a 0 (omega arith) at_k in
-    let same : 2 * i + 0 ≡ 2 * k + 0 = pool.once (2 * i + 0) (2 * k + 0) (omega arith) (x ∙ sym y) in omega arith
 
 pub IsMerge-alone : (n : ℕ) (pairs after : List ℕ) (s k a : ℕ) → IsPool n pairs → MayMerge pairs s k a → mate_of a ≡ 0 → after ≡ set pairs k 0 → IsMerge pairs after a
 IsMerge-alone n pairs after s k a pool h none is =
@@ -175,12 +156,6 @@ pairs_back_two n most m pairs free spare s t k j a h pool c some g =
     ((let z = two.0 in omega arith), subst (HasPairs m most (set (set pairs k 0) j 0) (set (set free spare k) (spare + 1) j)) sum two.1)
 
 -- ---- sizes
-
-pub size_one : (a : ℕ) → mate_of a ≡ 0 → diamond_size a ≡ 1
-size_one a none = rw (none, diamond_size) refl
-
-pub size_two : (a : ℕ) → 1 ≤ mate_of a → diamond_size a ≡ 2
-size_two a some = rw (lt-ltb 0 (mate_of a) some, diamond_size) refl
 
 -- ---- what is read at a slot
 

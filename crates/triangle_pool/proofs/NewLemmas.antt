@@ -13,11 +13,11 @@ use Rattle.edge_laws.specs.Net.{nowhere, IsTree, IsJoined, IsLinked}
 use Rattle.edge_laws.proofs.MateLemmas.{mate_of-root, mate_of-first}
 use Rattle.edge_laws.proofs.OwnerLemmas.{owner_cases, owner-split}
 use Rattle.triangle_pool.specs.declared.forest.Node.{Node}
-use Rattle.triangle_pool.specs.Slots.{address_at, has_children, IsLive, split_set, room_of, IsFree}
+use Rattle.edge_laws.specs.Slots.{address_at, has_children, IsLive, split_set, room_of}
+use Rattle.triangle_pool.specs.Slots.{IsFree}
 use Rattle.triangle_pool.specs.Links.{blank, node_at, edge_link, net_of, ArePairs, IsForest, IsMesh, HasPairs}
-use Rattle.triangle_pool.proofs.PairLemmas.{has_children_by, pair_of}
+use Rattle.edge_laws.proofs.SlotLemmas.{has_children_by, pair_of, set-has_children}
 use Rattle.triangle_pool.proofs.RelinkLemmas.{edge-base, edge-left, edge-right}
-use Rattle.triangle_pool.proofs.SplitLemmas.{set-has_children}
 
 -- the first nodes
 pub record IsFirst (pairs parents : List ℕ) (nodes : List Node) : Type 0 where

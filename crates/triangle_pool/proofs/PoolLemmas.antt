@@ -15,11 +15,12 @@ use Rattle.edge_laws.proofs.OwnerLemmas.{owner-split, owner-low}
 use Rattle.edge_laws.proofs.NetLemmas.{read_link}
 use Rattle.edge_laws.proofs.MateLemmas.{mate_of-low}
 use Rattle.triangle_pool.specs.declared.forest.Node.{Node}
-use Rattle.triangle_pool.specs.Slots.{address_at, has_children, IsLive, split_set, room_of, IsFree, IsSplit}
+use Rattle.edge_laws.specs.Slots.{address_at, has_children, IsLive, split_set, room_of, IsSplit}
+use Rattle.triangle_pool.specs.Slots.{IsFree}
 use Rattle.triangle_pool.specs.Links.{node_at, edge_link, net_of, ArePairs, IsForest, IsAcross, MayHalve, MaySplit, MaySplitMate, IsMesh, HasPairs, AreChildrenAt}
 use Rattle.triangle_pool.proofs.RelinkLemmas.{edge-base, live_within}
-use Rattle.triangle_pool.proofs.PairLemmas.{has_children_by, has_children-added}
-use Rattle.triangle_pool.proofs.SplitLemmas.{whole_of, set_more, set_only, has_children-set}
+use Rattle.edge_laws.proofs.SlotLemmas.{has_children_by, has_children-added, set_more, set_only, has_children-set}
+use Rattle.triangle_pool.proofs.SplitLemmas.{whole_of}
 use Rattle.triangle_pool.proofs.HalveLemmas.{address-old, live_apart}
 
 -- ---- free pairs

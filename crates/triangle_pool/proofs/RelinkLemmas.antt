@@ -9,7 +9,7 @@ use Rattle.edge_laws.specs.Net.{nowhere, IsTree}
 use Rattle.edge_laws.proofs.MateLemmas.{mate_of-back, mate_of-low, mate_of-level, mate_of-parity, mate_of-root}
 use Rattle.edge_laws.proofs.OwnerLemmas.{owner_cases, owner-low}
 use Rattle.triangle_pool.specs.declared.forest.Node.{Node}
-use Rattle.triangle_pool.specs.Slots.{address_at, has_children, IsLive}
+use Rattle.edge_laws.specs.Slots.{address_at, has_children, IsLive}
 use Rattle.triangle_pool.specs.Links.{blank, node_at, edge_link, with_link, ArePairs, IsAcross, IsRelinked}
 
 -- ---- edges of a node

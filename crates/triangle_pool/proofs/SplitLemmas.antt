@@ -15,29 +15,13 @@ use Rattle.edge_laws.proofs.ChainLemmas.{closed_more}
 use Rattle.edge_laws.proofs.OwnerLemmas.{owner-whole, owner-split}
 use Rattle.edge_laws.proofs.IsMateLemmas.{IsMate-mate_of, mate_of-IsMate}
 use Rattle.triangle_pool.specs.declared.forest.Node.{Node}
-use Rattle.triangle_pool.specs.Slots.{address_at, has_children, IsLive, split_set}
+use Rattle.edge_laws.specs.Slots.{address_at, has_children, IsLive, split_set}
 use Rattle.triangle_pool.specs.Links.{node_at, edge_link, net_of, ArePairs, IsForest, IsAcross, MayHalve, MaySplit, MaySplitMate}
-use Rattle.triangle_pool.proofs.PairLemmas.{has_children-added, has_children-kept, has_children_by, pair_of, has_children_low}
+use Rattle.edge_laws.proofs.SlotLemmas.{has_children-added, has_children-kept, has_children_by, pair_of, has_children_low, set-has_children, has_children-set, slot_of, set_more, set_only}
 use Rattle.triangle_pool.proofs.RelinkLemmas.{edge-left, edge-right}
 use Rattle.triangle_pool.proofs.HalveLemmas.{tree_of, child_shut, address-old, address-new, live_apart}
 
 -- ---- the set of split triangles
-
-pub set-has_children : (pairs : List ℕ) (p : ℕ) → split_set pairs p ≡ true → has_children pairs p ≡ true
-set-has_children pairs p h =
-    let parts = and_parts (nat_lt 1 p) (among pairs p) h in
-    let low = ltb-true 1 p parts.0 in
-    and_from (nat_lt 0 p) (among pairs p) (lt-ltb 0 p (omega arith)) parts.1
-
-pub has_children-set : (pairs : List ℕ) (p : ℕ) → 2 ≤ p → has_children pairs p ≡ true → split_set pairs p ≡ true
-has_children-set pairs p low h =
-    and_from (nat_lt 1 p) (among pairs p) (lt-ltb 1 p (omega arith)) (and_parts (nat_lt 0 p) (among pairs p) h).1
-
-pub slot_of : (pairs : List ℕ) (c : ℕ) → 2 ≤ c → has_children pairs (c / 2) ≡ true → (q : ℕ) × (address_at pairs q ≡ c)
-slot_of pairs c low up =
-    let pair = pair_of pairs (c / 2) up in
-    (2 * pair.0 + c % 2, (let half : (2 * pair.0 + c % 2) / 2 ≡ pair.0 = omega arith in
-    let top : get_or pairs ((2 * pair.0 + c % 2) / 2) 0 ≡ c / 2 = ap (λ t. get_or pairs t 0) half ∙ pair.2 in omega arith))
 
 pub whole_of : (n : ℕ) (pairs parents : List ℕ) (nodes : List Node) → IsForest pairs parents nodes → IsClosed n (split_set pairs) → IsWhole (net_of pairs nodes)
 whole_of n pairs parents nodes forest closed = record {
@@ -49,23 +33,6 @@ whole_of n pairs parents nodes forest closed = record {
 }
 
 -- ---- the set with one pair more
-
--- the set after the pair k is given to a
-pub set_more : (pairs : List ℕ) (k a p : ℕ) → k < length pairs → get_or pairs k 0 ≡ 0 → split_set pairs p ≡ true → split_set (set pairs k a) p ≡ true
-set_more pairs k a p within free h =
-    let low = ltb-true 1 p (and_parts (nat_lt 1 p) (among pairs p) h).0 in
-    has_children-set (set pairs k a) p (omega arith) (elim (cases_eq p a) [
-      | inl e ↦ ap (has_children (set pairs k a)) e ∙ has_children-added pairs k a within (omega arith)
-      | inr other ↦ has_children-kept pairs k a p within free other ∙ set-has_children pairs p h
-    ])
-
-pub set_only : (pairs : List ℕ) (k a p : ℕ) → k < length pairs → get_or pairs k 0 ≡ 0 → split_set (set pairs k a) p ≡ true → (split_set pairs p ≡ true) ⊎ (p ≡ a)
-set_only pairs k a p within free h =
-    let low = ltb-true 1 p (and_parts (nat_lt 1 p) (among (set pairs k a) p) h).0 in
-    elim (cases_eq p a) [
-      | inl e ↦ inr e
-      | inr other ↦ inl (has_children-set pairs p (omega arith) (sym (has_children-kept pairs k a p within free other) ∙ set-has_children (set pairs k a) p h))
-    ]
 
 -- ---- the links of a leaf's legs
 

@@ -1,9 +1,26 @@
 -- What the pool's calls answer.
 use Rattle.std.specs.Prelude.{◌≡◌, ℕ, ◌+◌, ◌*◌, ◌<◌, ◌≤◌, ◌⊎◌, List, [], ◌∷◌, map, nat_lt, true, false, IsNone, IfSome, IsSomeAnd}
 use Rattle.bintree_addr.specs.declared.slot.Slot.{Slot}
+use Rattle.mesh_defs.specs.declared.point.Point.{Point}
+use Rattle.mesh_defs.specs.declared.point.Corners.{Corners}
+use Rattle.mesh_defs.specs.Triangle.{corners_of}
 use Rattle.edge_laws.specs.Edge.{mate_of}
+use Rattle.edge_laws.specs.LeafAcross.{IsLeafAcross}
+use Rattle.triangle_pool.specs.Slots.{PoolState}
 use Rattle.triangle_pool.specs.declared.pool.Born.{Born}
-use Rattle.triangle_pool.specs.Slots.{address_at, IsLive}
+use Rattle.edge_laws.specs.Slots.{address_at, IsLive, split_set}
+
+-- the triangle at a slot
+abbrev pub triangle_at : PoolState → Slot → ℕ
+triangle_at pool s = address_at pool.pairs s.0
+
+-- its corners
+abbrev pub corners_at : PoolState → Slot → Corners
+corners_at pool s = corners_of pool.n (triangle_at pool s)
+
+-- t has the leaf across the edge from p to q of the leaf at s
+abbrev pub IsSlotAcross : PoolState → Slot → Point → Point → Slot → Type 0
+IsSlotAcross pool s p q t = IsLeafAcross pool.n (split_set pool.pairs) (triangle_at pool s) p q (triangle_at pool t)
 
 -- the numbers of slots
 abbrev pub numbers : List Slot → List ℕ

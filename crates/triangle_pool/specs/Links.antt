@@ -3,7 +3,8 @@ use Rattle.std.specs.Prelude.{◌≡◌, ◌≢◌, ◌⊎◌, ℕ, ◌+◌, ◌
 use Rattle.edge_laws.specs.Edge.{mate_of, owner}
 use Rattle.edge_laws.specs.Net.{nowhere, Net, IsLinked, IsTree}
 use Rattle.triangle_pool.specs.declared.forest.Node.{Node}
-use Rattle.triangle_pool.specs.Slots.{address_at, has_children, IsLive, split_set, IsFree}
+use Rattle.edge_laws.specs.Slots.{address_at, has_children, IsLive, split_set}
+use Rattle.triangle_pool.specs.Slots.{IsFree}
 use Rattle.mesh_defs.specs.ClosedSet.{IsClosed}
 use Rattle.mesh_defs.specs.Triangle.{level_of}
 

@@ -1,21 +1,6 @@
--- What a pool holds: pairs of slots, each pair with the address whose children it has.
-use Rattle.std.specs.Prelude.{◌≡◌, ◌≢◌, ℕ, ◌+◌, ◌*◌, ◌/◌, ◌%◌, ◌<◌, ◌≤◌, Bool, ◌&&◌, nat_lt, List, slice_index, length, count_by, nat_eq, true, false, ◌⊎◌}
-use Rattle.edge_laws.specs.Edge.{mate_of}
-use Rattle.edge_laws.specs.LeafAcross.{IsGrown}
-use Rattle.mesh_defs.specs.ClosedSet.{among, IsClosed}
-
--- The address at slot s. pairs has for each pair of slots 2k and 2k + 1 the address whose children they are: 1 for
--- the halves of the square, 0 for a free pair. So an address below 2 says that the slot is free.
-abbrev pub address_at : List ℕ → ℕ → ℕ
-address_at pairs s = 2 * slice_index pairs (s / 2) + s % 2
-
--- p has children in some pair of slots
-abbrev pub has_children : List ℕ → ℕ → Bool
-has_children pairs p = nat_lt 0 p && among pairs p
-
--- the slot is live
-abbrev pub IsLive : List ℕ → ℕ → Type 0
-IsLive pairs s = 2 ≤ address_at pairs s
+-- What a contract sees of a pool, and its free pairs.
+use Rattle.std.specs.Prelude.{◌≡◌, ℕ, ◌<◌, List, slice_index, length}
+use Rattle.edge_laws.specs.Slots.{room_of}
 
 -- What a contract sees of a pool: the grid, the greatest number of leaves, the pairs of slots, and how many triangles were
 -- split and merged so far.
@@ -25,14 +10,6 @@ pub record PoolState : Type 0 where
   pub pairs : List ℕ
   pub splits : ℕ
   pub merges : ℕ
-
--- the set of split triangles
-abbrev pub split_set : List ℕ → ℕ → Bool
-split_set pairs p = nat_lt 1 p && among pairs p
-
--- the pairs that are free
-abbrev pub room_of : List ℕ → ℕ
-room_of pairs = count_by (λ t. nat_eq t 0) pairs
 
 -- free has the free pairs in its first places, each once
 pub record IsFree (pairs free : List ℕ) (spare : ℕ) : Type 0 where
@@ -45,46 +22,3 @@ pub record IsFree (pairs free : List ℕ) (spare : ℕ) : Type 0 where
 pub record NodesState : Type 0 where
   pub n : ℕ
   pub pairs : List ℕ
-
--- What a split of a does to the pairs: a and its mate are added to the set, and live slots keep their triangles.
-pub record IsSplit (before after : List ℕ) (a : ℕ) : Type 0 where
-  pub grown : IsGrown (split_set before) (split_set after) a
-  pub slots : (r : ℕ) → IsLive before r → address_at after r ≡ address_at before r
-
--- What holds of the pairs of every pool: the set is closed, and no address has two slots. That each child of a member
--- has a slot needs no saying: it stands in the pair of its parent.
-pub record IsPool (n : ℕ) (pairs : List ℕ) : Type 0 where
-  pub n_low : 1 ≤ n
-  pub n_high : n ≤ 11
-  pub closed : IsClosed n (split_set pairs)
-  pub root : has_children pairs 1 ≡ true
-  pub once : (q r : ℕ) → IsLive pairs q → address_at pairs q ≡ address_at pairs r → q ≡ r
-
--- a is split, and its children are leaves
-pub record HasTwoLeaves (pairs : List ℕ) (a : ℕ) : Type 0 where
-  pub split : has_children pairs a ≡ true
-  pub left : has_children pairs (2 * a) ≡ false
-  pub right : has_children pairs (2 * a + 1) ≡ false
-
--- The diamond of a can be merged.
-pub record IsMergeReady (pairs : List ℕ) (a : ℕ) : Type 0 where
-  pub own : HasTwoLeaves pairs a
-  pub mate : 1 ≤ mate_of a → HasTwoLeaves pairs (mate_of a)
-
--- how many triangles the diamond of a has
-abbrev pub diamond_size : ℕ → ℕ
-diamond_size a = elim (nat_lt 0 (mate_of a)) as (λ _. ℕ) [ true ↦ 2 | false ↦ 1 ]
-
--- p is a child of a member of the diamond of a
-abbrev pub IsUnder : ℕ → ℕ → Type 0
-IsUnder a p = (p / 2 ≡ a) ⊎ ((1 ≤ mate_of a) × (p / 2 ≡ mate_of a))
-
--- What a merge of a does to the pairs: a and its mate leave the set, their children's slots become free, and the other
--- live slots keep their triangles.
-pub record IsMerge (before after : List ℕ) (a : ℕ) : Type 0 where
-  pub removed : split_set after a ≡ false
-  pub mate : 1 ≤ mate_of a → split_set after (mate_of a) ≡ false
-  pub others : (p : ℕ) → p ≢ a → (1 ≤ mate_of a → p ≢ mate_of a) → split_set after p ≡ split_set before p
-  pub slots : (r : ℕ) → IsLive before r → (IsUnder a (address_at before r) → ⊥) → address_at after r ≡ address_at before r
-  pub free : (r : ℕ) → IsLive before r → IsUnder a (address_at before r) → address_at after r < 2
-  pub empty : (r : ℕ) → address_at before r < 2 → address_at after r < 2

@@ -2,7 +2,7 @@
 
 ghost use Rattle.std.specs.Prelude.{◌≡◌, ℕ, ◌+◌, ◌*◌, ◌/◌, ◌%◌, ◌^◌, ◌<◌, ◌≤◌, ◌==◌, slice_index, slice_set, length};
 ghost use Rattle.mesh_defs.specs.Triangle.{level_of};
-ghost use Rattle.triangle_pool.specs.Slots.{address_at, IsLive, split_set};
+ghost use Rattle.edge_laws.specs.Slots.{address_at, IsLive, split_set};
 ghost use Rattle.triangle_pool.specs.Links.{node_at, with_link, ArePairs, IsAcross, IsRelinked, IsForest, MayHalve, IsInner, IsPlaced, MaySplit, MaySplitMate, MayJoin, IsLeafAgain, MayMerge};
 ghost use Rattle.mesh_defs.specs.ClosedSet.{IsClosed};
 ghost use Rattle.std.specs.Prelude.{◌≢◌};

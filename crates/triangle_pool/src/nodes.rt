@@ -3,7 +3,7 @@
 ghost use Rattle.std.specs.Prelude.{◌≡◌, ◌≢◌, ◌⊎◌, ◌↔◌, ℕ, ◌+◌, ◌-◌, ◌*◌, ◌/◌, ◌%◌, ◌^◌, ◌<◌, ◌≤◌, IfOk, IsTrue, false, true, length, slice_index, slice_set};
 ghost use Rattle.edge_laws.specs.Edge.{mate_of, owner};
 ghost use Rattle.edge_laws.specs.Net.{nowhere};
-ghost use Rattle.triangle_pool.specs.Slots.{address_at, has_children, IsLive};
+ghost use Rattle.edge_laws.specs.Slots.{address_at, has_children, IsLive};
 
 use crate::forest::{NOWHERE, Node, address};
 use crate::links::{merge_border, merge_diamond, split_border, split_diamond};
@@ -69,7 +69,7 @@ impl Nodes {
     }
 
     ghost use Rattle.triangle_pool.specs.Links.{MaySplit, MaySplitMate, MayMerge, AreChildrenAt, IsAcross};
-    ghost use Rattle.triangle_pool.specs.Slots.{IsPool, HasTwoLeaves};
+    ghost use Rattle.edge_laws.specs.Slots.{IsPool, HasTwoLeaves};
 
     /// The address at a slot.
     pub fn tri(&self, s: u32) -> Tri

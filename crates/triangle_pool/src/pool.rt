@@ -7,8 +7,8 @@ ghost use Rattle.arrayvec.specs.ArrayVec.{array_vec_len};
 ghost use Rattle.edge_laws.specs.Edge.{mate_of, owner};
 ghost use Rattle.edge_laws.specs.Net.{nowhere};
 ghost use Rattle.edge_laws.specs.LeafAcross.{IsLeafAcross};
-ghost use Rattle.triangle_pool.specs.Slots.{address_at, has_children, IsLive, split_set, room_of, IsPool, IsSplit, IsMergeReady, IsMerge, diamond_size};
-ghost use Rattle.triangle_pool.specs.Answer.{numbers, AreChildren, IsBirth, children_of};
+ghost use Rattle.edge_laws.specs.Slots.{address_at, has_children, IsLive, split_set, room_of, IsPool, IsSplit, IsMergeReady, IsMerge, HasLeaf, IsMateLive, diamond_size};
+ghost use Rattle.triangle_pool.specs.Answer.{triangle_at, corners_at, IsSlotAcross, numbers, AreChildren, IsBirth, children_of};
 
 use crate::forest::NOWHERE;
 use crate::nodes::Nodes;
@@ -92,12 +92,31 @@ impl Pool {
     /// The triangle at the slot.
     pub fn tri(&self, s: Slot) -> Tri
         requires live { IsLive self.now.pairs s.0 }
-        ensures value { result ≡ address_at self.now.pairs s.0 }
+        ensures value { result ≡ triangle_at self.now s }
         ensures number { s.0 + 2 < 2 * self.now.most }
         ensures valid { IsPool self.now.n self.now.pairs }
     {
         let _n = self.nodes.n();
         self.nodes.tri(s.0)
+    }
+
+    /// The grid has the side `2 ^ n`.
+    pub fn n(&self) -> u32
+        ensures value { result ≡ self.now.n }
+        ensures valid { IsPool self.now.n self.now.pairs }
+    {
+        self.nodes.n()
+    }
+
+    /// Whether the leaf can be split at once: the leaf across its base is of the same level, or there is none.
+    pub fn may_split(&self, s: Slot) -> bool
+        requires leaf { HasLeaf self.now.pairs s.0 }
+        ensures { IsTrue result ↔ IsMateLive self.now.pairs (triangle_at self.now s) }
+    {
+        match self.base(s) {
+            Some(across) => self.tri(across).level() == self.tri(s).level(),
+            None => true,
+        }
     }
 
     /// How many leaves may still be added.
@@ -109,19 +128,18 @@ impl Pool {
 
     /// Splits the leaf, and with it its mate.
     pub fn split(&mut self, s: Slot) -> Born
-        requires live { IsLive self.old.pairs s.0 }
-        requires leaf { has_children self.old.pairs (address_at self.old.pairs s.0) ≡ false }
-        requires coarse { level_of (address_at self.old.pairs s.0) < 2 * self.old.n }
-        requires level { 1 ≤ mate_of (address_at self.old.pairs s.0) → has_children self.old.pairs (mate_of (address_at self.old.pairs s.0) / 2) ≡ true }
+        requires leaf { HasLeaf self.old.pairs s.0 }
+        requires coarse { level_of (triangle_at self.old s) < 2 * self.old.n }
+        requires level { IsMateLive self.old.pairs (triangle_at self.old s) }
         requires room_1 { 1 ≤ room_of self.old.pairs }
-        requires room_2 { 1 ≤ mate_of (address_at self.old.pairs s.0) → 2 ≤ room_of self.old.pairs }
+        requires room_2 { 1 ≤ mate_of (triangle_at self.old s) → 2 ≤ room_of self.old.pairs }
         requires count { self.old.splits < 2 ^ 62 }
         ensures n { self.new.n ≡ self.old.n }
         ensures most { self.new.most ≡ self.old.most }
-        ensures split { IsSplit self.old.pairs self.new.pairs (address_at self.old.pairs s.0) }
-        ensures born { IsBirth self.old.pairs self.new.pairs (address_at self.old.pairs s.0) result }
-        ensures room { room_of self.new.pairs + diamond_size (address_at self.old.pairs s.0) ≡ room_of self.old.pairs }
-        ensures splits { self.new.splits ≡ self.old.splits + diamond_size (address_at self.old.pairs s.0) }
+        ensures split { IsSplit self.old.pairs self.new.pairs (triangle_at self.old s) }
+        ensures born { IsBirth self.old.pairs self.new.pairs (triangle_at self.old s) result }
+        ensures room { room_of self.new.pairs + diamond_size (triangle_at self.old s) ≡ room_of self.old.pairs }
+        ensures splits { self.new.splits ≡ self.old.splits + diamond_size (triangle_at self.old s) }
         ensures merges { self.new.merges ≡ self.old.merges }
         ensures valid { IsPool self.new.n self.new.pairs }
     {
@@ -154,18 +172,19 @@ impl Pool {
     /// Makes the triangle and its mate leaves again, and frees their children.
     pub fn merge(&mut self, s: Slot) -> Gone
         requires live { IsLive self.old.pairs s.0 }
-        requires ready { IsMergeReady self.old.pairs (address_at self.old.pairs s.0) }
+        requires ready { IsMergeReady self.old.pairs (triangle_at self.old s) }
         requires count { self.old.merges < 2 ^ 62 }
         ensures n { self.new.n ≡ self.old.n }
         ensures most { self.new.most ≡ self.old.most }
-        ensures merge { IsMerge self.old.pairs self.new.pairs (address_at self.old.pairs s.0) }
+        ensures merge { IsMerge self.old.pairs self.new.pairs (triangle_at self.old s) }
         ensures kept { result.kept ≡ s }
-        ensures other { IfSome result.other (λ t. address_at self.old.pairs t.0 ≡ mate_of (address_at self.old.pairs s.0)) }
-        ensures alone { IsNone result.other ↔ mate_of (address_at self.old.pairs s.0) ≡ 0 }
-        ensures freed { map (address_at self.old.pairs) (numbers result.freed.items) ≡ children_of (address_at self.old.pairs s.0) }
-        ensures room { room_of self.new.pairs ≡ room_of self.old.pairs + diamond_size (address_at self.old.pairs s.0) }
+        ensures other { IfSome result.other (λ t. triangle_at self.old t ≡ mate_of (triangle_at self.old s)) }
+        ensures alone { IsNone result.other ↔ mate_of (triangle_at self.old s) ≡ 0 }
+        ensures freed { map (address_at self.old.pairs) (numbers result.freed.items) ≡ children_of (triangle_at self.old s) }
+        ensures room { room_of self.new.pairs ≡ room_of self.old.pairs + diamond_size (triangle_at self.old s) }
         ensures splits { self.new.splits ≡ self.old.splits }
-        ensures merges { self.new.merges ≡ self.old.merges + diamond_size (address_at self.old.pairs s.0) }
+        ensures merges { self.new.merges ≡ self.old.merges + diamond_size (triangle_at self.old s) }
+        ensures valid { IsPool self.new.n self.new.pairs }
     {
         let _n = self.nodes.n();
         let partner = self.nodes.partner(s.0);
@@ -174,6 +193,7 @@ impl Pool {
         push_pair(&mut freed, k);
         if partner == NOWHERE {
             self.nodes.merge_alone(s.0, k);
+            let _n = self.nodes.n();
             self.free[self.spare as usize] = k;
             self.spare += 1;
             self.merges += 1;
@@ -186,6 +206,7 @@ impl Pool {
             let j = self.nodes.children(partner);
             push_pair(&mut freed, j);
             self.nodes.merge_both(s.0, partner, k, j);
+            let _n = self.nodes.n();
             self.free[self.spare as usize] = k;
             self.free[self.spare as usize + 1] = j;
             self.spare += 2;
@@ -201,7 +222,7 @@ impl Pool {
     /// Whether the triangle's diamond can be merged: it is split, and its children are leaves.
     pub fn merge_ready(&self, s: Slot) -> bool
         requires live { IsLive self.now.pairs s.0 }
-        ensures { IsTrue result ↔ IsMergeReady self.now.pairs (address_at self.now.pairs s.0) }
+        ensures { IsTrue result ↔ IsMergeReady self.now.pairs (triangle_at self.now s) }
     {
         if !self.nodes.has_two_leaves(s.0) {
             return false;
@@ -213,9 +234,9 @@ impl Pool {
     /// The slot of the mate of a triangle that is split.
     pub fn partner(&self, s: Slot) -> Option<Slot>
         requires live { IsLive self.now.pairs s.0 }
-        requires split { has_children self.now.pairs (address_at self.now.pairs s.0) ≡ true }
-        ensures none { IsNone result ↔ mate_of (address_at self.now.pairs s.0) ≡ 0 }
-        ensures some { IfSome result (λ t. address_at self.now.pairs t.0 ≡ mate_of (address_at self.now.pairs s.0)) }
+        requires split { has_children self.now.pairs (triangle_at self.now s) ≡ true }
+        ensures none { IsNone result ↔ mate_of (triangle_at self.now s) ≡ 0 }
+        ensures some { IfSome result (λ t. triangle_at self.now t ≡ mate_of (triangle_at self.now s)) }
     {
         linked(self.nodes.partner(s.0))
     }
@@ -223,8 +244,8 @@ impl Pool {
     /// The slot of the parent.
     pub fn parent(&self, s: Slot) -> Option<Slot>
         requires live { IsLive self.now.pairs s.0 }
-        ensures none { IsNone result ↔ address_at self.now.pairs s.0 < 4 }
-        ensures some { IfSome result (λ t. address_at self.now.pairs t.0 ≡ address_at self.now.pairs s.0 / 2) }
+        ensures none { IsNone result ↔ triangle_at self.now s < 4 }
+        ensures some { IfSome result (λ t. triangle_at self.now t ≡ triangle_at self.now s / 2) }
     {
         linked(self.nodes.parent(s.0))
     }
@@ -232,8 +253,8 @@ impl Pool {
     /// The slots of the left and the right child.
     pub fn children(&self, s: Slot) -> Option<(Slot, Slot)>
         requires live { IsLive self.now.pairs s.0 }
-        ensures none { IsNone result ↔ has_children self.now.pairs (address_at self.now.pairs s.0) ≡ false }
-        ensures some { IfSome result (λ p. AreChildren self.now.pairs (address_at self.now.pairs s.0) p) }
+        ensures none { IsNone result ↔ has_children self.now.pairs (triangle_at self.now s) ≡ false }
+        ensures some { IfSome result (λ p. AreChildren self.now.pairs (triangle_at self.now s) p) }
     {
         let k = self.nodes.children(s.0);
         if k == NOWHERE { None } else { Some(pair(k)) }
@@ -242,7 +263,7 @@ impl Pool {
     /// Whether the triangle is a leaf.
     pub fn is_leaf(&self, s: Slot) -> bool
         requires live { IsLive self.now.pairs s.0 }
-        ensures { IsTrue result ↔ has_children self.now.pairs (address_at self.now.pairs s.0) ≡ false }
+        ensures { IsTrue result ↔ has_children self.now.pairs (triangle_at self.now s) ≡ false }
     {
         self.nodes.children(s.0) == NOWHERE
     }
@@ -259,12 +280,11 @@ impl Pool {
 
     /// The slot of the leaf across the base.
     pub fn base(&self, s: Slot) -> Option<Slot>
-        requires live { IsLive self.now.pairs s.0 }
-        requires leaf { has_children self.now.pairs (address_at self.now.pairs s.0) ≡ false }
-        ensures none { IsNone result ↔ OnOneSide (2 ^ self.now.n) (corners_of self.now.n (address_at self.now.pairs s.0)).v0 (corners_of self.now.n (address_at self.now.pairs s.0)).v1 }
-        ensures some { IfSome result (λ t. IsLeafAcross self.now.n (split_set self.now.pairs) (address_at self.now.pairs s.0) (corners_of self.now.n (address_at self.now.pairs s.0)).v0 (corners_of self.now.n (address_at self.now.pairs s.0)).v1 (address_at self.now.pairs t.0)) }
-        ensures border { IsNone result ↔ mate_of (address_at self.now.pairs s.0) ≡ 0 }
-        ensures owner { IfSome result (λ t. address_at self.now.pairs t.0 ≡ owner (has_children self.now.pairs) (mate_of (address_at self.now.pairs s.0))) }
+        requires leaf { HasLeaf self.now.pairs s.0 }
+        ensures none { IsNone result ↔ OnOneSide (2 ^ self.now.n) (corners_at self.now s).v0 (corners_at self.now s).v1 }
+        ensures some { IfSome result (IsSlotAcross self.now s (corners_at self.now s).v0 (corners_at self.now s).v1) }
+        ensures border { IsNone result ↔ mate_of (triangle_at self.now s) ≡ 0 }
+        ensures owner { IfSome result (λ t. triangle_at self.now t ≡ owner (has_children self.now.pairs) (mate_of (triangle_at self.now s))) }
         ensures valid { IsPool self.now.n self.now.pairs }
     {
         let _n = self.nodes.n();
@@ -273,10 +293,9 @@ impl Pool {
 
     /// The slot of the leaf across the left leg.
     pub fn left(&self, s: Slot) -> Option<Slot>
-        requires live { IsLive self.now.pairs s.0 }
-        requires leaf { has_children self.now.pairs (address_at self.now.pairs s.0) ≡ false }
-        ensures none { IsNone result ↔ OnOneSide (2 ^ self.now.n) (corners_of self.now.n (address_at self.now.pairs s.0)).apex (corners_of self.now.n (address_at self.now.pairs s.0)).v0 }
-        ensures some { IfSome result (λ t. IsLeafAcross self.now.n (split_set self.now.pairs) (address_at self.now.pairs s.0) (corners_of self.now.n (address_at self.now.pairs s.0)).apex (corners_of self.now.n (address_at self.now.pairs s.0)).v0 (address_at self.now.pairs t.0)) }
+        requires leaf { HasLeaf self.now.pairs s.0 }
+        ensures none { IsNone result ↔ OnOneSide (2 ^ self.now.n) (corners_at self.now s).apex (corners_at self.now s).v0 }
+        ensures some { IfSome result (IsSlotAcross self.now s (corners_at self.now s).apex (corners_at self.now s).v0) }
         ensures valid { IsPool self.now.n self.now.pairs }
     {
         let _n = self.nodes.n();
@@ -285,10 +304,9 @@ impl Pool {
 
     /// The slot of the leaf across the right leg.
     pub fn right(&self, s: Slot) -> Option<Slot>
-        requires live { IsLive self.now.pairs s.0 }
-        requires leaf { has_children self.now.pairs (address_at self.now.pairs s.0) ≡ false }
-        ensures none { IsNone result ↔ OnOneSide (2 ^ self.now.n) (corners_of self.now.n (address_at self.now.pairs s.0)).v1 (corners_of self.now.n (address_at self.now.pairs s.0)).apex }
-        ensures some { IfSome result (λ t. IsLeafAcross self.now.n (split_set self.now.pairs) (address_at self.now.pairs s.0) (corners_of self.now.n (address_at self.now.pairs s.0)).v1 (corners_of self.now.n (address_at self.now.pairs s.0)).apex (address_at self.now.pairs t.0)) }
+        requires leaf { HasLeaf self.now.pairs s.0 }
+        ensures none { IsNone result ↔ OnOneSide (2 ^ self.now.n) (corners_at self.now s).v1 (corners_at self.now s).apex }
+        ensures some { IfSome result (IsSlotAcross self.now s (corners_at self.now s).v1 (corners_at self.now s).apex) }
         ensures valid { IsPool self.now.n self.now.pairs }
     {
         let _n = self.nodes.n();

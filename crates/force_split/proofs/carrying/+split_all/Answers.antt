@@ -1,5 +1,5 @@
 use Rattle.std.proofs.Common.{◌≡◌, ap, sym, ◌∙◌, subst, ℕ, ◌+◌, ◌*◌, ◌/◌, ◌<◌, ◌≤◌, ◌⊎◌, inl, inr, ⊎_elim, List, ◌∷◌, ◌++◌, [], length, arith}
-use Rattle.triangle_pool.specs.Slots.{address_at, has_children, IsLive, split_set, IsSplit, room_of}
+use Rattle.edge_laws.specs.Slots.{address_at, has_children, IsLive, split_set, IsSplit, room_of}
 use Rattle.triangle_pool.specs.Answer.{numbers, IsBorn}
 use Rattle.force_split.specs.Chain.{IsChain, IsChained, IsBornOf}
 use Rattle.std.proofs.lemmas.List.{append_assoc}

@@ -1,8 +1,8 @@
 use Rattle.std.proofs.Common.{◌≡◌, sym, ◌∙◌, ℕ, ◌<◌, ◌≤◌, arith, subst, true, false, ap}
 use Rattle.std.proofs.lemmas.Bool.{true≢false}
 use Rattle.mesh_defs.specs.Triangle.{level_of}
-use Rattle.triangle_pool.specs.Slots.{address_at}
-use Rattle.force_split.proofs.ChainLemmas.{coarse_link}
+use Rattle.edge_laws.specs.Slots.{address_at}
+use Rattle.edge_laws.proofs.SlotLemmas.{coarse_link}
 use Rattle.force_split.proofs.planning.coarser.Goals as goal
 
 pub tri-requires : goal.tri-requires

@@ -1,5 +1,5 @@
 use Rattle.std.proofs.Common.{◌≡◌, ◌≢◌}
-use Rattle.triangle_pool.specs.Slots.{address_at}
+use Rattle.edge_laws.specs.Slots.{address_at}
 use Rattle.triangle_pool.proofs.MergeLemmas.{partner_link}
 use Rattle.triangle_pool.proofs.nodes.Nodes.partner.Goals as goal
 

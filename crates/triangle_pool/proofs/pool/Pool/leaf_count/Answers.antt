@@ -1,7 +1,7 @@
 use Rattle.std.proofs.Common.{◌≡◌, ◌-◌, ap, sym, ◌∙◌, ℕ, ◌+◌, ◌≤◌, List, length, arith}
 use Rattle.mesh_defs.specs.ClosedSet.{leaves_of}
-use Rattle.triangle_pool.specs.Slots.{split_set, room_of}
-use Rattle.triangle_pool.proofs.CountLemmas.{leaves_count}
+use Rattle.edge_laws.specs.Slots.{split_set, room_of}
+use Rattle.edge_laws.proofs.SlotLemmas.{leaves_count}
 use Rattle.triangle_pool.proofs.pool.Pool.leaf_count.Goals as goal
 
 pub returns-clause-leaves : goal.returns-clause-leaves

@@ -2,7 +2,7 @@ use Rattle.std.proofs.Common.{◌≡◌, ◌≢◌, ◌↔◌, ap, sym, subst, �
 use Rattle.std.proofs.lemmas.Bool.{cases_lt}
 use Rattle.edge_laws.specs.Edge.{mate_of}
 use Rattle.edge_laws.proofs.MateLemmas.{mate_of-low}
-use Rattle.triangle_pool.specs.Slots.{address_at, IsLive}
+use Rattle.edge_laws.specs.Slots.{address_at, IsLive}
 use Rattle.triangle_pool.proofs.MergeLemmas.{partner_live}
 use Rattle.triangle_pool.proofs.pool.Pool.merge_ready.Goals as goal
 
