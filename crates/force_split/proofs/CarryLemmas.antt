@@ -7,7 +7,7 @@ use Rattle.bintree_addr.specs.declared.slot.Slot.{Slot}
 use Rattle.edge_laws.specs.Edge.{mate_of}
 use Rattle.edge_laws.proofs.MateLemmas.{mate_of-low}
 use Rattle.triangle_pool.specs.declared.pool.Born.{Born}
-use Rattle.edge_laws.specs.Slots.{address_at, has_children, IsLive, split_set, IsPool, IsSplit, diamond_size}
+use Rattle.edge_laws.specs.Slots.{address_at, has_children, IsLive, split_set, IsPool, IsSplit, diamond_size, HasLeaf}
 use Rattle.triangle_pool.specs.Answer.{numbers, AreChildren, IsBorn, IsBirth}
 use Rattle.edge_laws.proofs.SlotLemmas.{has_children-set, set-has_children, size_one, size_two}
 use Rattle.force_split.specs.Chain.{IsChain, IsChained, IsBornOf, IsAnswer, AreAnswers, chain_size}
@@ -39,7 +39,7 @@ rest_task n pairs room splits slots first rest is task =
 -- the first slot's triangle when its turn comes
 pub record IsTurn (n : ℕ) (old mid : List ℕ) (s : ℕ) : Type 0 where
   pub same : address_at mid s ≡ address_at old s
-  pub leaf : has_children mid (address_at mid s) ≡ false
+  pub leaf : HasLeaf mid s
   pub level : 1 ≤ mate_of (address_at mid s) → has_children mid (mate_of (address_at mid s) / 2) ≡ true
 
 pub turn : (n : ℕ) (old mid : List ℕ) (s : ℕ) (rest : List ℕ) → IsPool n old → has_children mid 1 ≡ true → IsChain old (s ∷ rest) → IsChained n old rest (split_set mid) →
@@ -50,7 +50,7 @@ turn n old mid s rest pool root chain h kept =
     let same : address_at mid s ≡ a = kept s low in
     record {
       same = same;
-      leaf = ap (has_children mid) same ∙ ⊎_elim (λ is_split. absurd (true≢false (sym (has_children-set mid a low is_split) ∙ (chained_shut n old s rest (split_set mid) pool chain h).0))) (λ shut. shut) (cases_Bool (has_children mid a));
+      leaf = record { live = omega arith; leaf = ap (has_children mid) same ∙ ⊎_elim (λ is_split. absurd (true≢false (sym (has_children-set mid a low is_split) ∙ (chained_shut n old s rest (split_set mid) pool chain h).0))) (λ shut. shut) (cases_Bool (has_children mid a)) };
       level = λ some.
           let b = mate_of-low (address_at mid s) (omega arith) some in
           ⊎_elim

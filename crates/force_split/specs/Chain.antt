@@ -5,13 +5,13 @@ use Rattle.mesh_defs.specs.ClosedSet.{IsLeastClosed, leaves_of}
 use Rattle.mesh_defs.specs.Greedy.{with_triangle}
 use Rattle.edge_laws.specs.Edge.{mate_of}
 use Rattle.triangle_pool.specs.declared.pool.Born.{Born}
-use Rattle.edge_laws.specs.Slots.{address_at, has_children, IsLive, split_set, diamond_size}
+use Rattle.edge_laws.specs.Slots.{address_at, has_children, IsLive, split_set, diamond_size, HasLeaf, IsMateLive}
 use Rattle.triangle_pool.specs.Answer.{AreChildren, IsBorn}
 
 -- What follows a leaf in its chain: the coarser leaf across its base, and nothing where the leaf across is as fine as
 -- itself, or there is none.
 abbrev pub IsNext : List ℕ → ℕ → List ℕ → Type 0
-IsNext pairs s [] = 1 ≤ mate_of (address_at pairs s) → has_children pairs (mate_of (address_at pairs s) / 2) ≡ true
+IsNext pairs s [] = IsMateLive pairs (address_at pairs s)
 IsNext pairs s (t ∷ _) = (1 ≤ mate_of (address_at pairs s)) × (address_at pairs t ≡ mate_of (address_at pairs s) / 2)
 
 -- a chain: leaves, each followed by the one that must be split before it

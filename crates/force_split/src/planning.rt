@@ -6,9 +6,8 @@ ghost use Rattle.mesh_defs.specs.Triangle.{level_of};
 ghost use Rattle.mesh_defs.specs.ClosedSet.{among};
 ghost use Rattle.mesh_defs.specs.GridSet.{IsAscending, IsForced};
 ghost use Rattle.edge_laws.specs.Edge.{mate_of};
-ghost use Rattle.edge_laws.specs.Slots.{IsMateLive, address_at, has_children, IsLive, diamond_size};
 ghost use Rattle.triangle_pool.specs.Answer.{numbers};
-ghost use Rattle.edge_laws.specs.Slots.{IsMateLive, HasLeaf};
+ghost use Rattle.edge_laws.specs.Slots.{address_at, split_set, HasLeaf, IsMateLive, diamond_size};
 ghost use Rattle.force_split.specs.Chain.{IsChain, IsGainOf, chain_size};
 
 use arrayvec::ArrayVec;
