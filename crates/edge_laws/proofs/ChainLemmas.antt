@@ -1,31 +1,18 @@
 -- What the split of one leaf forces: the least closed set with it, and the chain of leaves that must be split first.
-use Rattle.std.proofs.Common.{◌≡◌, ap, sym, ◌∙◌, ◌⊎◌, Bool, true, false, nat_eq, ℕ, ◌+◌, ◌*◌, ◌/◌, ◌<◌, ◌≤◌, refl, arith, inl, inr, ⊎_elim, subst, List, [], ◌∷◌, length}
-use Rattle.std.proofs.lemmas.Bool.{cases_lt, cases_Bool, or_cases, or_left, or_right, eq-eqb, eqb-true}
+use Rattle.std.proofs.Common.{◌≡◌, ◌≢◌, ap, sym, ◌∙◌, ◌⊎◌, Bool, true, false, ◌||◌, nat_eq, ℕ, ◌+◌, ◌*◌, ◌/◌, ◌%◌, ◌<◌, ◌≤◌, refl, arith, inl, inr, ⊎_elim, subst, List, [], ◌∷◌, length}
+use Rattle.std.proofs.lemmas.Bool.{cases_eq, cases_lt, cases_Bool, true≢false, or_cases, or_left, or_right, eq-eqb, eqb-true}
 use Rattle.mesh_defs.specs.Triangle.{level_of, IsSplittable, IsMate}
 use Rattle.mesh_defs.specs.ClosedSet.{IsClosed, IsSubset, IsLeastClosed}
 use Rattle.mesh_defs.specs.Greedy.{with_triangle}
 use Rattle.bintree_laws.proofs.LevelLemmas.{level_of-parent}
-use Rattle.edge_laws.specs.Edge.{mate_of, with_square}
+use Rattle.closure_laws.proofs.ForcingLemmas.{with-old, with-new, with-cases}
+use Rattle.edge_laws.specs.Edge.{mate_of, owner, with_square}
 use Rattle.edge_laws.specs.LeafAcross.{IsLeafOf, IsGrown}
 use Rattle.edge_laws.specs.Chain.{IsForcedFirst, IsForcedChain}
-use Rattle.edge_laws.proofs.MateLemmas.{mate_of-back, mate_of-low, mate_of-level}
+use Rattle.edge_laws.proofs.MateLemmas.{mate_of-back, mate_of-low, mate_of-level, level_of-root}
 use Rattle.edge_laws.proofs.IsMateLemmas.{IsMate-mate_of, mate_of-IsMate}
 use Rattle.edge_laws.proofs.OwnerLemmas.{never, owner-whole}
-use Rattle.edge_laws.proofs.LeafLemmas.{with_square-deep, with_square-root, leaf-up, leaf-shut, IsLeafOf-shut, across-shut, owner-leaf}
-
--- ---- a set with one triangle more
-
--- what was a member is one
-pub with_old : (has : ℕ → Bool) (f p : ℕ) → has p ≡ true → with_triangle has f p ≡ true
-with_old has f p h = or_left (has p) (nat_eq f p) h
-
--- the triangle is a member
-pub with_new : (has : ℕ → Bool) (f : ℕ) → with_triangle has f f ≡ true
-with_new has f = or_right (has f) (nat_eq f f) (eq-eqb f f refl)
-
--- there are no others
-pub with_only : (has : ℕ → Bool) (f p : ℕ) → with_triangle has f p ≡ true → (has p ≡ true) ⊎ (p ≡ f)
-with_only has f p h = ⊎_elim (λ l. inl l) (λ r. inr (sym (eqb-true f p r))) (or_cases (has p) (nat_eq f p) h)
+use Rattle.edge_laws.proofs.LeafLemmas.{with_square-deep, with_square-root, leaf-up, leaf-shut, leaf-level, IsLeafOf-shut, across-shut, owner-leaf}
 
 -- ---- a closed set with one diamond more
 
@@ -82,12 +69,12 @@ least_step n has mid now a split up closed sub mate_up grown least =
     let low = split.low in let coarse = split.coarse in
     record {
       closed = grown_closed n mid now a split closed (λ deep. sub (a / 2) (up deep)) mate_up grown;
-      holds = λ p h. elim (with_only has a p h) [ inl old ↦ grown.kept p (sub p old) | inr e ↦ ap now e ∙ grown.added ];
+      holds = λ p h. elim (with-cases has a p h) [ inl old ↦ grown.kept p (sub p old) | inr e ↦ ap now (sym e) ∙ grown.added ];
       least = λ other c wanted p h.
-          let at_a : other a ≡ true = wanted a (with_new has a) in
+          let at_a : other a ≡ true = wanted a (with-new has a) in
           let at_mate : 1 ≤ mate_of a → other (mate_of a) ≡ true = λ some. c.mate a (mate_of a) at_a (IsMate-mate_of n a low (omega arith) some) in
           elim (grown.only p h) [
-            | inl old ↦ least other c (λ q m. wanted q (with_old has a q m)) (λ deep. c.parent (mate_of a) (at_mate (omega arith)) deep) p old
+            | inl old ↦ least other c (λ q m. wanted q (with-old has a q m)) (λ deep. c.parent (mate_of a) (at_mate (omega arith)) deep) p old
             | inr (inl e) ↦ ap other e ∙ at_a
             | inr (inr v) ↦ ap other v.1 ∙ at_mate v.0
           ];
@@ -131,11 +118,11 @@ mate_or_parent n has a closed leaf some =
 pub forced_step : (n : ℕ) (has mid now : ℕ → Bool) (a b : ℕ) → IsClosed n has → IsLeafOf has a → level_of a < 2 * n → IsForcedFirst has a b →
     IsLeastClosed n (with_triangle has b) mid → IsGrown mid now a → IsLeastClosed n (with_triangle has a) now
 forced_step n has mid now a b closed leaf coarse first forced grown =
-    least_step n has mid now a (record { low = leaf.low; coarse = coarse }) leaf.above forced.closed (λ p h. forced.holds p (with_old has b p h))
-    (λ deep. ap mid (sym first.parent) ∙ forced.holds b (with_new has b)) grown
-    (λ other c sub up. forced.least other c (λ p h. elim (with_only has b p h) [
+    least_step n has mid now a (record { low = leaf.low; coarse = coarse }) leaf.above forced.closed (λ p h. forced.holds p (with-old has b p h))
+    (λ deep. ap mid (sym first.parent) ∙ forced.holds b (with-new has b)) grown
+    (λ other c sub up. forced.least other c (λ p h. elim (with-cases has b p h) [
       | inl old ↦ sub p old
-      | inr e ↦ ap other (e ∙ first.parent) ∙ up (let l = (forced_leaf n has a b closed leaf first).0.low in let is = first.parent in omega arith)
+      | inr e ↦ ap other (sym e ∙ first.parent) ∙ up (let l = (forced_leaf n has a b closed leaf first).0.low in let is = first.parent in omega arith)
     ]))
 
 -- Where the mate is a leaf, or there is none, it is the set with the diamond.

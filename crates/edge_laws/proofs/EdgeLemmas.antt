@@ -1,21 +1,23 @@
 -- The ends of an edge, and the two triangles that have them.
-use Rattle.std.proofs.Common.{◌≡◌, ◌≢◌, ◌-◌, ap, sym, ◌∙◌, ◌⊎◌, ℕ, ◌+◌, ◌*◌, ◌/◌, ◌%◌, ◌^◌, ◌<◌, ◌≤◌, refl, arith, inl, inr, ⊎_elim, subst}
-use Rattle.std.proofs.lemmas.Bool.{cases_lt}
+use Rattle.std.proofs.Common.{◌≡◌, ◌≢◌, ◌↔◌, ◌-◌, ap, sym, ◌∙◌, ◌⊎◌, ℕ, zero, suc, ◌+◌, ◌*◌, ◌/◌, ◌%◌, ◌^◌, ◌<◌, ◌≤◌, refl, arith, inl, inr, ⊎_elim, subst}
+use Rattle.std.proofs.lemmas.Bool.{cases_eq, cases_lt}
+use Rattle.std.proofs.Math.Nat.{pow-succ'}
 use Rattle.mesh_defs.specs.declared.point.Point.{Point}
 use Rattle.mesh_defs.specs.declared.point.Corners.{Corners}
-use Rattle.mesh_defs.specs.Triangle.{level_of, corners_of, child, IsCorner, SameEnds, IsMate, midpoint, HasBorderBase, OnOneSide}
+use Rattle.mesh_defs.specs.Triangle.{level_of, corners_of, child, IsCorner, SameEnds, IsMate, IsAddress, IsSplittable, midpoint, HasBorderBase, OnOneSide}
 use Rattle.bintree_laws.proofs.LevelLemmas.{level_of-parent, pow_next}
 use Rattle.bintree_laws.proofs.CornerLemmas.{corners_of-left, corners_of-right}
-use Rattle.bintree_laws.proofs.LatticeLemmas.{scaled, multiple, lattice, halved, halved-half, step_of, step_of-power, corners_of-lattice, same_by_coordinates}
+use Rattle.bintree_laws.proofs.LatticeLemmas.{at, three, scaled, multiple, lattice, halved, halved-half, step_of, step_of-power, step_pos, corners_of-lattice, same_by_coordinates}
 use Rattle.bintree_laws.proofs.CentreLemmas.{same_centre}
-use Rattle.bintree_laws.proofs.MateLemmas.{coordinates, no_pair-HasBorderBase, border_or_has_pair, IsMate-pair, pair-IsMate, IsReversed-mate}
+use Rattle.bintree_laws.proofs.UnitLemmas.{frame, IsHalf-frame}
+use Rattle.bintree_laws.proofs.MateLemmas.{coordinates, HasBorderBase-no_pair, no_pair-HasBorderBase, border_or_has_pair, IsMate-pair, pair-IsMate, IsReversed-mate, lattice-frame, AllTurned-frame, parity, cancel}
 use Rattle.edge_laws.specs.Edge.{mate_of, owner}
 use Rattle.bintree_laws.specs.Corners.{IsReversed}
 use Rattle.tiling_laws.proofs.OrientationLemmas.{apart}
 use Rattle.tiling_laws.proofs.DescentLemmas.{IsAddress-splittable}
 use Rattle.edge_laws.proofs.OwnerLemmas.{owner_cases, owner-low, owner-split, owner-whole}
-use Rattle.std.proofs.Common.{Bool, true, false}
-use Rattle.edge_laws.proofs.MateLemmas.{mate_of-low, mate_of-level, level_of-root}
+use Rattle.std.proofs.Common.{Bool, true, false, nat_lt, ◌||◌}
+use Rattle.edge_laws.proofs.MateLemmas.{mate_of-low, mate_of-level, mate_of-root, mate_of-first, IsStep-mate_of, four_cases, level_of-root, no_sibling}
 use Rattle.edge_laws.proofs.IsMateLemmas.{IsMate-mate_of, mate_of-IsMate}
 
 step_of-double : (n level : ℕ) → level ≤ 2 * n → step_of (n + 1) level ≡ 2 * step_of n level
@@ -84,9 +86,9 @@ same_ends n e g low deep fits room ends =
     let d = ends_double n e low fits in
     let f = ends_double n g deep room in
     let middle : midpoint (corners_of (n + 1) e).v0 (corners_of (n + 1) e).v1 ≡ midpoint (corners_of (n + 1) g).v0 (corners_of (n + 1) g).v1 = ⊎_elim
-    (λ v. same_middle (d.0 ∙ ap (multiple 2) v.0 ∙ sym f.0) (d.1 ∙ ap (multiple 2) v.1 ∙ sym f.1))
-    (λ v. same_middle (d.0 ∙ ap (multiple 2) v.0 ∙ sym f.1) (d.1 ∙ ap (multiple 2) v.1 ∙ sym f.0)
-    ∙ swapped_middle (corners_of (n + 1) g).v1 (corners_of (n + 1) g).v0) ends in
+        (λ v. same_middle (d.0 ∙ ap (multiple 2) v.0 ∙ sym f.0) (d.1 ∙ ap (multiple 2) v.1 ∙ sym f.1))
+        (λ v. same_middle (d.0 ∙ ap (multiple 2) v.0 ∙ sym f.1) (d.1 ∙ ap (multiple 2) v.1 ∙ sym f.0)
+        ∙ swapped_middle (corners_of (n + 1) g).v1 (corners_of (n + 1) g).v0) ends in
     ⊎_elim (λ v. inl v) (λ m. inr (mate_of-IsMate (n + 1) e g low (omega arith) m))
     (same_centre (n + 1) e g (record { low = low; coarse = omega arith }) (record { low = deep; coarse = omega arith }) middle)
 
@@ -152,7 +154,7 @@ only_across n split a e c low fits own apart c_low c_fits live whole other at_p 
     let g : ℕ = edge.0 in
     let g_low : 2 ≤ g = ⊎_elim (λ v. omega arith) (λ v. omega arith) edge.1 in
     let g_fits : level_of g ≤ 2 * n + 1 = ⊎_elim (λ v. let z : level_of g ≡ level_of c = ap level_of v in omega arith)
-    (λ v. let z : level_of (g / 2) ≡ level_of c = ap level_of v in let up : level_of g ≡ level_of (g / 2) + 1 = level_of-parent g (omega arith) in omega arith) edge.1 in
+        (λ v. let z : level_of (g / 2) ≡ level_of c = ap level_of v in let up : level_of g ≡ level_of (g / 2) + 1 = level_of-parent g (omega arith) in omega arith) edge.1 in
     let g_own : owner split g ≡ c = ⊎_elim (λ v. owner-split split g (ap (λ t. split (t / 2)) v ∙ live) ∙ v) (λ v. owner-whole split g (ap split v ∙ whole) ∙ v) edge.1 in
     let ends : SameEnds (corners_of n e) (corners_of n g) = edge.2 in
     ⊎_elim (λ same. absurd (other (sym g_own ∙ ap (owner split) same ∙ own)))
@@ -198,17 +200,16 @@ pub border_ends : (n e : ℕ) → 2 ≤ e → level_of e ≤ 2 * n + 1 →
     (mate_of e ≡ 0 → OnOneSide (2 ^ n) (corners_of n e).v0 (corners_of n e).v1) × (OnOneSide (2 ^ n) (corners_of n e).v0 (corners_of n e).v1 → mate_of e ≡ 0)
 border_ends n e low fits =
     let d = ends_double n e low fits in
-    let next : 2 ^ (n + 1) ≡ 2 * 2 ^ n = pow_next n in (
-      (λ none.
-          let doubled : OnOneSide (2 * 2 ^ n) (multiple 2 (corners_of n e).v0) (multiple 2 (corners_of n e).v1) =
-          subst (λ m. OnOneSide m (multiple 2 (corners_of n e).v0) (multiple 2 (corners_of n e).v1)) next
-          (subst (λ t. OnOneSide (2 ^ (n + 1)) (multiple 2 (corners_of n e).v0) t) d.1 (subst (λ t. OnOneSide (2 ^ (n + 1)) t (corners_of (n + 1) e).v1) d.0 (border_edge n e low fits none))) in
-          one_side_half (2 ^ n) (corners_of n e).v0 (corners_of n e).v1 doubled),
-      (λ side. ⊎_elim (λ few. omega arith)
-          (λ some.
-          let twice : OnOneSide (2 ^ (n + 1)) (multiple 2 (corners_of n e).v0) (multiple 2 (corners_of n e).v1) =
-          subst (λ m. OnOneSide m (multiple 2 (corners_of n e).v0) (multiple 2 (corners_of n e).v1)) (sym next) (one_side_twice (2 ^ n) (corners_of n e).v0 (corners_of n e).v1 side) in
-          let border : HasBorderBase (n + 1) e = subst (λ t. OnOneSide (2 ^ (n + 1)) t (corners_of (n + 1) e).v1) (sym d.0) (subst (λ t. OnOneSide (2 ^ (n + 1)) (multiple 2 (corners_of n e).v0) t) (sym d.1) twice) in
-          absurd (no_pair-HasBorderBase (n + 1) e (mate_of e) (omega arith) border (pair-IsMate (n + 1) e (mate_of e) low (omega arith) (IsMate-mate_of (n + 1) e low (omega arith) some))))
-          (cases_lt (mate_of e) 1)),
-    )
+    let next : 2 ^ (n + 1) ≡ 2 * 2 ^ n = pow_next n in
+    ((λ none.
+    let doubled : OnOneSide (2 * 2 ^ n) (multiple 2 (corners_of n e).v0) (multiple 2 (corners_of n e).v1) =
+    subst (λ m. OnOneSide m (multiple 2 (corners_of n e).v0) (multiple 2 (corners_of n e).v1)) next
+    (subst (λ t. OnOneSide (2 ^ (n + 1)) (multiple 2 (corners_of n e).v0) t) d.1 (subst (λ t. OnOneSide (2 ^ (n + 1)) t (corners_of (n + 1) e).v1) d.0 (border_edge n e low fits none))) in
+    one_side_half (2 ^ n) (corners_of n e).v0 (corners_of n e).v1 doubled),
+    (λ side. ⊎_elim (λ few. omega arith)
+    (λ some.
+    let twice : OnOneSide (2 ^ (n + 1)) (multiple 2 (corners_of n e).v0) (multiple 2 (corners_of n e).v1) =
+    subst (λ m. OnOneSide m (multiple 2 (corners_of n e).v0) (multiple 2 (corners_of n e).v1)) (sym next) (one_side_twice (2 ^ n) (corners_of n e).v0 (corners_of n e).v1 side) in
+    let border : HasBorderBase (n + 1) e = subst (λ t. OnOneSide (2 ^ (n + 1)) t (corners_of (n + 1) e).v1) (sym d.0) (subst (λ t. OnOneSide (2 ^ (n + 1)) (multiple 2 (corners_of n e).v0) t) (sym d.1) twice) in
+    absurd (no_pair-HasBorderBase (n + 1) e (mate_of e) (omega arith) border (pair-IsMate (n + 1) e (mate_of e) low (omega arith) (IsMate-mate_of (n + 1) e low (omega arith) some))))
+    (cases_lt (mate_of e) 1)))

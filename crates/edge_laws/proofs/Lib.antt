@@ -6,3 +6,4 @@ pub mod LeafLemmas
 pub mod DiamondEdgeLemmas
 pub mod ChainLemmas
 pub mod NetLemmas
+pub mod SlotLemmas

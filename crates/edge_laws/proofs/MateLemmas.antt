@@ -1,8 +1,9 @@
-use Rattle.std.proofs.Common.{◌≡◌, ◌≢◌, ◌-◌, ap, sym, ◌∙◌, ◌⊎◌, ℕ, zero, suc, ◌+◌, ◌*◌, ◌/◌, ◌%◌, ◌<◌, ◌≤◌, refl, arith, inl, inr, ⊎_elim}
+use Rattle.std.proofs.Common.{◌≡◌, ◌≢◌, ◌↔◌, ◌-◌, ap, sym, ◌∙◌, ◌⊎◌, ℕ, zero, suc, ◌+◌, ◌*◌, ◌/◌, ◌%◌, ◌^◌, ◌<◌, ◌≤◌, refl, arith, inl, inr, ⊎_elim, add-one}
 use Rattle.std.proofs.lemmas.Bool.{cases_eq, cases_lt}
 use Rattle.mesh_defs.specs.Triangle.{level_of}
-use Rattle.bintree_laws.proofs.LevelLemmas.{level_of-at, level_of-parent, level_of-left, level_of-right}
-use Rattle.edge_laws.specs.Edge.{grandchild_mate, mate_of}
+use Rattle.bintree_laws.specs.Pair.{IsPair}
+use Rattle.bintree_laws.proofs.LevelLemmas.{IsAtLevel, level_of-at, level_of-parent, level_of-below, level_of-left, level_of-right}
+use Rattle.edge_laws.specs.Edge.{grandchild_mate, mate_at, mate_of}
 
 level_of-deep : (e : ℕ) → 8 ≤ e → level_of e ≡ suc (suc (level_of (e / 4)))
 level_of-deep e low =

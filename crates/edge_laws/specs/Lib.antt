@@ -2,3 +2,4 @@ pub mod Edge
 pub mod LeafAcross
 pub mod Chain
 pub mod Net
+pub mod Slots

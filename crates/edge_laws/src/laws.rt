@@ -1,13 +1,14 @@
 //! Laws of the definitions, each a clause of a function with an empty body.
 
-ghost use Rattle.std.specs.Prelude.{◌≡◌, ◌≢◌, ◌⊎◌, ◌↔◌, ℕ, ◌+◌, ◌*◌, ◌/◌, ◌^◌, ◌<◌, ◌≤◌, Bool, List, ◌∷◌, length};
+ghost use Rattle.std.specs.Prelude.{◌≡◌, ◌≢◌, ◌⊎◌, ◌↔◌, ℕ, ◌+◌, ◌*◌, ◌/◌, ◌^◌, ◌<◌, ◌≤◌, Bool, true, false, List, ◌∷◌, length};
 ghost use Rattle.mesh_defs.specs.declared.point.Point.{Point};
 ghost use Rattle.mesh_defs.specs.Triangle.{level_of, corners_of, IsMate, IsEdge, OnOneSide};
-ghost use Rattle.mesh_defs.specs.ClosedSet.{IsClosed, IsLeastClosed};
+ghost use Rattle.mesh_defs.specs.ClosedSet.{IsClosed, IsLeastClosed, leaves_of};
 ghost use Rattle.mesh_defs.specs.Greedy.{with_triangle};
 ghost use Rattle.bintree_laws.specs.Corners.{IsReversed};
 ghost use Rattle.edge_laws.specs.Edge.{mate_of, owner, with_square, IsEdgeOf};
 ghost use Rattle.edge_laws.specs.LeafAcross.{IsLeafOf, IsLeafAcross, IsAcrossEdge, IsGrown, AreAcrossChildren, AreAcrossMerged};
+ghost use Rattle.edge_laws.specs.Slots.{address_at, has_children, IsLive, split_set, room_of, IsPool, HasLeaf, IsSplit, IsMerge};
 ghost use Rattle.edge_laws.specs.Chain.{IsForcedFirst, IsForcedChain};
 
 /// The mate of a triangle, as arithmetic on addresses. An edge and its mate are one line in its two directions.
@@ -34,7 +35,7 @@ pub fn leaf_laws()
         IsEdge (corners_of n b) q p → ⊥ }
     ensures across { (n : ℕ) (has : ℕ → Bool) (a e : ℕ) → IsClosed n has → IsLeafOf has a →
         IsEdgeOf a e → 1 ≤ mate_of e → IsLeafAcross n has a (corners_of n e).v0 (corners_of n e).v1
-        (owner (with_square has) (mate_of e)) }
+            (owner (with_square has) (mate_of e)) }
     ensures none { (n : ℕ) (has : ℕ → Bool) (a e : ℕ) → IsClosed n has → IsLeafOf has a → IsEdgeOf a e →
         (mate_of e ≡ 0 ↔ OnOneSide (2 ^ n) (corners_of n e).v0 (corners_of n e).v1) }
 
@@ -72,4 +73,28 @@ pub fn chain_laws()
     // For a leaf below the finest level of the largest grid, at most 22 links.
     ensures short { (n : ℕ) (has : ℕ → Bool) (a : ℕ) (rest : List ℕ) → IsClosed n has →
         IsForcedChain has (a ∷ rest) → length rest ≤ level_of a }
+{}
+
+/// Pairs of slots as a set of split triangles and its leaves.
+pub fn slot_laws()
+    // Each member but for the square has children, and nothing else has; each leaf has a slot.
+    ensures members { (n : ℕ) (pairs : List ℕ) (p : ℕ) → IsPool n pairs → 1 ≤ p →
+        has_children pairs p ≡ with_square (split_set pairs) p }
+    ensures slot { (pairs : List ℕ) (c : ℕ) → 2 ≤ c → has_children pairs (c / 2) ≡ true →
+        ((s : ℕ) × (address_at pairs s ≡ c)) }
+    ensures live { (pairs : List ℕ) (s : ℕ) → IsLive pairs s →
+        has_children pairs (address_at pairs s / 2) ≡ true }
+    ensures leaf { (pairs : List ℕ) (s : ℕ) → HasLeaf pairs s → IsLeafOf (split_set pairs) (address_at pairs s) }
+    ensures leaf_slot { (n : ℕ) (pairs : List ℕ) (a : ℕ) → IsPool n pairs → IsLeafOf (split_set pairs) a →
+        (((s : ℕ) × (address_at pairs s ≡ a)) × (has_children pairs a ≡ false)) }
+    ensures count { (n : ℕ) (pairs : List ℕ) → IsPool n pairs →
+        length (leaves_of n (split_set pairs)) + room_of pairs ≡ length pairs + 1 }
+
+    // Split and merge undo each other on the set.
+    ensures merged { (before middle after : List ℕ) (a : ℕ) → split_set before a ≡ false →
+        (1 ≤ mate_of a → split_set before (mate_of a) ≡ false) → IsSplit before middle a →
+        IsMerge middle after a → (p : ℕ) → split_set after p ≡ split_set before p }
+    ensures split { (before middle after : List ℕ) (a : ℕ) → split_set before a ≡ true →
+        (1 ≤ mate_of a → split_set before (mate_of a) ≡ true) → IsMerge before middle a →
+        IsSplit middle after a → (p : ℕ) → split_set after p ≡ split_set before p }
 {}

@@ -1,0 +1,9 @@
+pub mod RelinkLemmas
+pub mod HalveLemmas
+pub mod SplitLemmas
+pub mod PoolLemmas
+pub mod NewLemmas
+pub mod JoinLemmas
+pub mod MergeLemmas
+pub mod BirthLemmas
+pub mod LeafLemmas
