@@ -13,3 +13,4 @@ pub mod SetListLemmas
 pub mod DiamondLemmas
 pub mod ChangeLemmas
 pub mod ExistenceLemmas
+pub mod FirstLeafLemmas
