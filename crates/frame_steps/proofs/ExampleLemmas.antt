@@ -296,9 +296,12 @@ first_leaf n priority members f h =
           (IsIn-contains a (leaves_of n (among members)) leaf)));
     }
 
+-- two tables agree at each entry
+pub same_at_each : (f g : ℕ → ℕ) (xs : List ℕ) → list_all (λ a. nat_eq (f a) (g a)) xs ≡ true → All (λ a. f a ≡ g a) xs
+same_at_each f g xs h = All-in (λ a. f a ≡ g a) xs (λ a i. eqb-true (f a) (g a) (every-in (λ a. nat_eq (f a) (g a)) xs h a i))
+
 pub zero_leaves : (priority : ℕ → ℕ) (leaves : List ℕ) → list_all (λ a. nat_eq (priority a) 0) leaves ≡ true → All (λ a. priority a ≡ 0) leaves
-zero_leaves priority leaves h =
-    All-in (λ a. priority a ≡ 0) leaves (λ a i. eqb-true (priority a) 0 (every-in (λ a. nat_eq (priority a) 0) leaves h a i))
+zero_leaves priority leaves h = same_at_each priority (λ a. 0) leaves h
 
 -- forced splits
 

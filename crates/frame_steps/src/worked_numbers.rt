@@ -2,8 +2,11 @@
 //!
 //! A function's clauses are the facts that its name tells; its body has nothing to do.
 
-ghost use Rattle.std.specs.Prelude.{◌≡◌, ℕ, ◌+◌, ◌<◌, List, [], ◌∷◌, false, true, length, Some, None};
+ghost use Rattle.std.specs.Prelude.{◌≡◌, ℕ, ◌+◌, ◌<◌, List, [], ◌∷◌, false, true, length, All, Some, None, pos};
 ghost use Rattle.mesh_defs.specs.ClosedSet.{among};
+ghost use Rattle.mesh_defs.specs.BoundingBox.{CameraAt};
+ghost use Rattle.mesh_defs.specs.View.{View};
+ghost use Rattle.mesh_defs.specs.Priority.{priority_of};
 ghost use Rattle.closure_laws.specs.Diamond.{CanMerge};
 ghost use Rattle.frame_steps.specs.Lead.{IsLead, IsLastLead};
 ghost use Rattle.frame_steps.specs.Steps.{leaf_count, DoesNotFit, IsSplitStep, IsMergeStep, IsFrameRun, AreLoose};
@@ -11,12 +14,16 @@ ghost use Rattle.frame_steps.specs.Deferred.{LeafStraddles, DiamondStraddles};
 ghost use Rattle.frame_steps.specs.Stamps.{Stamp, Readings, is_due, counted_stamp};
 ghost use Rattle.frame_steps.specs.Table.{told_by};
 
-/// Heights 10 at (1, 0) and (3, 4) of a flat grid, seen from (0, 0, 0): the priority of each splittable triangle.
-const FROM_LOWER_LEFT: [u32; 26] = [
-    0, 0, 1310720, 1310720, 1310720, 0, 436906, 0, 1310720, 0, 0, 0, 436906, 0, 0, 0, 0, 1310720,
-    0, 0, 0, 0, 0, 0, 0, 327680,
+/// Two peaks in file order, the first row the uppermost: height 10 at (3, 4) and at (1, 0).
+const TWO_PEAKS: [u16; 25] = [
+    0, 0, 0, 10, 0, 0, 0, 0, 0, 0, 0, 0, 0, 0, 0, 0, 0, 0, 0, 0, 0, 10, 0, 0, 0,
 ];
-/// The same seen from (4, 4, 0).
+/// The splittable triangles of the grid.
+const SPLITTABLE: [u32; 30] = [
+    2, 3, 4, 5, 6, 7, 8, 9, 10, 11, 12, 13, 14, 15, 16, 17, 18, 19, 20, 21, 22, 23, 24, 25, 26, 27,
+    28, 29, 30, 31,
+];
+/// The peaks seen from (4, 4, 0): the priority of each address below 26; the others have none.
 const FROM_UPPER_RIGHT: [u32; 26] = [
     0, 0, 1310720, 1310720, 436906, 0, 1310720, 0, 436906, 0, 0, 0, 1310720, 0, 0, 0, 0, 327680, 0,
     0, 0, 0, 0, 0, 0, 1310720,
@@ -65,6 +72,13 @@ const SECOND_MERGES: u32 = 5;
 const FORCED_SPLITS: u32 = 4;
 
 const FORCED_MERGES: u32 = 2;
+
+/// The second frame's priorities are those of the peaks seen from (4, 4, 0), with spacing 1 and no plane.
+fn the_priorities_are_those_of_two_peaks()
+    ensures { let camera : CameraAt = record { x = pos 4; y = pos 4; z = pos 0 } in
+        let view : View = record { camera = camera; spacing = 1; planes = [] } in
+        All (λ a. told_by FROM_UPPER_RIGHT a ≡ priority_of 2 TWO_PEAKS view a) SPLITTABLE }
+{}
 
 fn the_second_frame_of_two_peaks_takes_these_steps()
     ensures merge_17 { (step : IsMergeStep 2 9 (told_by FROM_UPPER_RIGHT) FIRST WITHOUT_17) × (step.diamond ≡ 17) }
@@ -140,6 +154,7 @@ fn what_straddles_in_the_frames_of_two_peaks()
 
 #[test]
 fn steps_are_as_worked_by_hand() {
+    the_priorities_are_those_of_two_peaks();
     the_second_frame_of_two_peaks_takes_these_steps();
     a_merged_diamond_may_come_back_by_force();
     a_frame_over_the_budget_merges_the_last_diamond();
