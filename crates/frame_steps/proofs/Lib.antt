@@ -1,0 +1,14 @@
+pub mod LeadLemmas
+pub mod FinishLemmas
+pub mod ChosenLemmas
+pub mod RunLemmas
+pub mod NextLemmas
+pub mod SingleLemmas
+pub mod EndingLemmas
+pub mod MeasureLemmas
+pub mod FrameLemmas
+pub mod StraddleLemmas
+pub mod KeyLemmas
+pub mod StampLemmas
+pub mod ExampleLemmas
+pub mod StepExamples
