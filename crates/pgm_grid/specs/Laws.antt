@@ -1,7 +1,7 @@
 -- What the whole bytes of a file mean, in the words of the format. Places are counted from 0. A file of
 -- any length is refused by the first byte that is wrong; in plain files a byte at place 2 ^ 28 is wrong itself.
 -- Words: AreBytes, and a law a word.
-use Rattle.std.specs.Prelude.{◌≡◌, ◌≢◌, ◌↔◌, ◌⊎◌, ℕ, ◌+◌, ◌-◌, ◌<◌, ◌≤◌, true, List, ◌++◌, length, take, All, Ok, Err, IfErr}
+use Rattle.std.specs.Prelude.{◌≡◌, ◌≢◌, ◌↔◌, ◌⊎◌, ℕ, ◌+◌, ◌-◌, ◌<◌, ◌≤◌, true, List, length, take, All, Ok, Err, IfErr}
 use Rattle.mesh_defs.specs.HeightField.{HeightField, IsHeightField, side_of}
 use Rattle.pgm_header.specs.declared.accepted.Header.{Header}
 use Rattle.pgm_header.specs.declared.machine.HeaderValues.{HeaderValues}

@@ -1,5 +1,5 @@
 -- Refusals of rasters of any length: in plain ones each has its place before the most bytes of a file.
-use Rattle.std.proofs.Common.{◌≡◌, ℕ, suc, ◌+◌, ◌-◌, ◌<◌, ◌≤◌, ◌⊎◌, inl, inr, true, false, ◌&&◌, nat_lt, List, [], ◌∷◌, ◌++◌, length, Ok, Err, refl, sym, ap, ◌∙◌, subst, arith, All, append_assoc, append-nil, length-append}
+use Rattle.std.proofs.Common.{◌≡◌, ℕ, suc, ◌+◌, ◌<◌, ◌≤◌, ◌⊎◌, inl, inr, true, false, ◌&&◌, nat_lt, List, [], ◌∷◌, ◌++◌, length, Ok, Err, refl, sym, ap, ◌∙◌, subst, arith, All, append_assoc, append-nil, length-append}
 use Rattle.std.specs.Char.{is_ascii_digit}
 use Rattle.std.specs.Prelude.{⊤}
 use Rattle.std.proofs.lemmas.List.{length_push}
@@ -15,9 +15,9 @@ use Rattle.pgm_raster.specs.RasterText.{IsSpace, IsDigit, IsCutShort, IsTrailing
 use Rattle.pgm_raster.specs.Progress.{most_bytes, Answer, after, sample_then, end_at, is_space, no_digits, with_digit, ended_then, plain_from, rest_of, nothing_of, raster_of}
 use Rattle.pgm_raster.specs.Laws.{IsWithin, ending, IsAboveWithin, CutRastersAreRefused, TrailingBytesAreRefused, GreatSamplesAreRefused, BadSamplesAreRefused}
 use Rattle.pgm_raster.proofs.RasterLemmas.{sample-passed, sample-refused, after-nil}
-use Rattle.pgm_raster.proofs.PlainLemmas.{by_test, space-yes, space-is, plain-space, plain-full, plain-digit, plain-bad, plain-long, digit-no_space}
-use Rattle.pgm_raster.proofs.UnlimitedLemmas.{plain_unlimited, plain-within, Agrees, plain-agrees, rest-within}
-use Rattle.pgm_raster.proofs.LongLemmas.{Front, front-cases}
+use Rattle.pgm_raster.proofs.PlainLemmas.{by_test, space-yes, space-is, plain-space, plain-full, plain-digit, plain-bad, digit-no_space}
+use Rattle.pgm_raster.proofs.UnlimitedLemmas.{plain_unlimited, plain-within, plain-agrees}
+use Rattle.pgm_raster.proofs.LongLemmas.{front-cases}
 use Rattle.pgm_raster.proofs.LawLemmas.{Told, told-by, cut-read, trailing-read, above-read, bad-read, no_fewer, All-front, All-back}
 
 -- ---- where a refusal of a plain raster is told
