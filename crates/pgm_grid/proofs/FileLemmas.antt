@@ -1,14 +1,12 @@
 -- What an answer for a whole file tells of its header and its raster.
-use Rattle.std.proofs.Common.{◌≡◌, ◌≢◌, ℕ, ◌+◌, ◌-◌, ◌*◌, ◌^◌, ◌<◌, ◌≤◌, ◌⊎◌, ◌↔◌, Bool, true, false, nat_lt, if◌then◌else◌, List, [], ◌∷◌, ◌++◌, length, take, Result, Ok, Err, IfErr, refl, sym, ap, ◌∙◌, inl, inr, subst, arith, length-append}
+use Rattle.std.proofs.Common.{◌≡◌, ◌≢◌, ℕ, ◌+◌, ◌-◌, ◌*◌, ◌<◌, ◌≤◌, ◌⊎◌, ◌↔◌, Bool, true, false, nat_lt, if◌then◌else◌, List, [], ◌∷◌, ◌++◌, length, take, Result, Ok, Err, IfErr, refl, sym, ap, ◌∙◌, inl, inr, subst, arith, length-append}
 use Rattle.std.specs.List.{flat_map}
 use Rattle.std.specs.List.{AllByRecursion}
 use Rattle.std.proofs.lemmas.List.Elements.{recursion_from_All, All-from_recursion}
 use Rattle.mesh_defs.specs.HeightField.{HeightField, IsHeightField}
 use Rattle.pgm_header.specs.declared.accepted.Header.{Header}
-use Rattle.pgm_header.specs.declared.machine.HeaderValues.{HeaderValues}
 use Rattle.pgm_header.specs.declared.fault.HeaderFault.{HeaderFault}
 use Rattle.pgm_header.specs.declared.fault.HeaderFault.TheVariants as header
-use Rattle.pgm_header.specs.HeaderText.{IsHeaderText}
 use Rattle.pgm_header.specs.Accepted.{IsHeader, Accepts, HeaderAnswer, Part, Whole, Bad}
 use Rattle.pgm_header.specs.Reading as reading
 use Rattle.pgm_header.specs.Laws as head
@@ -16,7 +14,7 @@ use Rattle.pgm_raster.specs.declared.fault.RasterFault.{RasterFault}
 use Rattle.pgm_raster.specs.declared.fault.RasterFault.TheVariants as raster
 use Rattle.pgm_raster.specs.declared.form.RasterForm.{RasterForm}
 use Rattle.pgm_raster.specs.declared.form.RasterForm.TheVariants as form
-use Rattle.pgm_raster.specs.RasterText.{IsRaster, two_bytes, IsCutShort, IsTrailingAt, IsAboveAt, IsBadSampleAt}
+use Rattle.pgm_raster.specs.RasterText.{IsRaster, two_bytes, IsCutShort, IsTrailingAt, IsBadSampleAt}
 use Rattle.pgm_raster.specs.Laws as laws
 use Rattle.pgm_raster.specs.Progress as samples
 use Rattle.pgm_grid.specs.declared.fault.PgmFault.{PgmFault}
@@ -328,32 +326,32 @@ law-others bytes = no-memory (grid_of bytes) (file-memory (length bytes) (readin
     no-memory (Err fault) other = λ is. other (ap Err is)
 
 module _ (texts : head.TextsAreRead) (read : head.ReadTextsAreHeaders) where
-  -- a file that is not too long has a raster that is not
-  within-file : (bytes : List ℕ) (h : Header) (at : ℕ) (rest : List ℕ) → HasHeader bytes h at rest → length bytes ≤ most_bytes → at + length rest ≤ 2 ^ 28
-  within-file bytes h at rest has short = omega (arith, has-length bytes h at rest has, short)
+  -- an accepted header ends before the limit
+  raster-place : (bytes : List ℕ) (h : Header) (at : ℕ) (rest : List ℕ) → HasHeader bytes h at rest → at ≤ 268435456
+  raster-place bytes h at rest has = omega (arith, has.place, has.short)
 
   pub law-truncated : head.PartsAreFronts → laws.CutRastersAreRefused → CutTextsAreRefused
-  law-truncated parts cut bytes all short = truncated-law texts read bytes _
-      (λ h at rest. IsCutShort (form_of h.plain h.maxval) (points_of h.n) h.maxval rest) (parts bytes)
-      (λ h at rest has. cut (form_of h.plain h.maxval) (points_of h.n) h.maxval at rest (within-file bytes h at rest has short) (has-bytes bytes h at rest has all))
+  law-truncated parts cut bytes all = truncated-law texts read bytes _
+      (λ h at rest. IsCutShort (form_of h.plain h.maxval) (points_of h.n) h.maxval rest × laws.IsWithin (form_of h.plain h.maxval) (at + length rest)) (parts bytes)
+      (λ h at rest has. cut (form_of h.plain h.maxval) (points_of h.n) h.maxval at rest (raster-place bytes h at rest has) (has-bytes bytes h at rest has all))
 
   pub law-trailing : laws.TrailingBytesAreRefused → TrailingBytesAreRefused
-  law-trailing law bytes p all short = raster-law texts read bytes (raster.Trailing p)
-      (λ h at rest. (place : ℕ) × (p ≡ at + place) × IsTrailingAt (form_of h.plain h.maxval) (points_of h.n) h.maxval rest place) (λ e. cc)
-      (λ h at rest has. law (form_of h.plain h.maxval) (points_of h.n) h.maxval at rest p (within-file bytes h at rest has short) (has-bytes bytes h at rest has all))
+  law-trailing law bytes p all = raster-law texts read bytes (raster.Trailing p)
+      (λ h at rest. (place : ℕ) × (p ≡ at + place) × IsTrailingAt (form_of h.plain h.maxval) (points_of h.n) h.maxval rest place × laws.IsWithin (form_of h.plain h.maxval) (p + 1)) (λ e. cc)
+      (λ h at rest has. law (form_of h.plain h.maxval) (points_of h.n) h.maxval at rest p (raster-place bytes h at rest has) (has-bytes bytes h at rest has all))
 
   pub law-above : laws.GreatSamplesAreRefused → GreatSamplesAreRefused
-  law-above law bytes index all short = raster-law texts read bytes (raster.AboveMaxval index)
-      (λ h at rest. IsAboveAt (form_of h.plain h.maxval) (points_of h.n) h.maxval rest index) (λ e. cc)
-      (λ h at rest has. law (form_of h.plain h.maxval) (points_of h.n) h.maxval at rest index (within-file bytes h at rest has short) (has-bytes bytes h at rest has all))
+  law-above law bytes index all = raster-law texts read bytes (raster.AboveMaxval index)
+      (λ h at rest. laws.IsAboveWithin (form_of h.plain h.maxval) (points_of h.n) h.maxval at rest index) (λ e. cc)
+      (λ h at rest has. law (form_of h.plain h.maxval) (points_of h.n) h.maxval at rest index (raster-place bytes h at rest has) (has-bytes bytes h at rest has all))
 
   pub law-bad_sample : laws.BadSamplesAreRefused → BadSamplesAreRefused
-  law-bad_sample law bytes p all short = raster-law texts read bytes (raster.BadSample p)
-      (λ h at rest. (h.plain ≡ true) × (place : ℕ) × (p ≡ at + place) × IsBadSampleAt (points_of h.n) h.maxval rest place) (λ e. cc)
+  law-bad_sample law bytes p all = raster-law texts read bytes (raster.BadSample p)
+      (λ h at rest. (h.plain ≡ true) × (place : ℕ) × (p ≡ at + place) × IsBadSampleAt (points_of h.n) h.maxval rest place × (p < most_bytes)) (λ e. cc)
       (λ h at rest has.
-      let there = law (form_of h.plain h.maxval) (points_of h.n) h.maxval at rest p (within-file bytes h at rest has short) (has-bytes bytes h at rest has all) in (
-        λ e. (let x = there.0 e in ((plain-form h.plain h.maxval).0 x.0, x.1, x.2, x.3)),
-        λ x. there.1 ((plain-form h.plain h.maxval).1 x.0, x.1, x.2, x.3),
+      let there = law (form_of h.plain h.maxval) (points_of h.n) h.maxval at rest p (raster-place bytes h at rest has) (has-bytes bytes h at rest has all) in (
+        λ e. (let x = there.0 e in ((plain-form h.plain h.maxval).0 x.0, x.1, x.2, x.3, x.4)),
+        λ x. there.1 ((plain-form h.plain h.maxval).1 x.0, x.1, x.2, x.3, x.4),
       ))
 
   pub law-too_long : laws.LongRastersAreRefused → LongFilesAreRefused

@@ -1,6 +1,5 @@
 -- What a reader answers: the header's answer, and behind it the raster's.
-use Rattle.std.proofs.Common.{◌≡◌, ◌≢◌, ℕ, ◌+◌, ◌-◌, ◌^◌, ◌<◌, ◌≤◌, List, [], ◌∷◌, ◌++◌, length, take, drop, get_or, All, Result, Ok, Err, IfOk, IfErr, refl, sym, ap, ◌∙◌, inl, inr, subst, arith, length-append, append_assoc}
-use Rattle.std.proofs.Math.Seq.{take-append_seam}
+use Rattle.std.proofs.Common.{◌≡◌, ℕ, ◌+◌, ◌-◌, ◌^◌, ◌<◌, ◌≤◌, List, [], ◌∷◌, ◌++◌, length, take, drop, get_or, All, Result, Ok, Err, IfOk, IfErr, refl, sym, ap, ◌∙◌, inl, subst, arith, length-append, append_assoc}
 use Rattle.std.proofs.lemmas.Result.{IfOk-at_ok}
 use Rattle.std.proofs.lemmas.List.{take_more, take-append-drop}
 use Rattle.mesh_defs.specs.HeightField.{IsHeightField}
@@ -12,7 +11,7 @@ use Rattle.pgm_header.specs.Reading as reading
 use Rattle.pgm_raster.specs.declared.fault.RasterFault.{RasterFault}
 use Rattle.pgm_raster.specs.declared.form.RasterForm.{RasterForm}
 use Rattle.pgm_raster.specs.declared.fault.RasterFault.TheVariants as raster
-use Rattle.pgm_raster.specs.Laws.{RastersAreRead, OnlyWantedSamplesAreRead}
+use Rattle.pgm_raster.specs.Laws.{OnlyWantedSamplesAreRead}
 use Rattle.pgm_raster.specs.Progress as samples
 use Rattle.pgm_grid.specs.declared.fault.PgmFault.{PgmFault}
 use Rattle.pgm_grid.specs.declared.fault.PgmFault.TheVariants.{Truncated, NoMemory}

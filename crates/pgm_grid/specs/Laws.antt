@@ -1,14 +1,14 @@
--- What the whole bytes of a file mean, in the words of the format. Places are counted from 0. The laws of
--- rasters speak of files of at most 2 ^ 28 bytes; a longer one is refused, by its header, its raster or its length.
+-- What the whole bytes of a file mean, in the words of the format. Places are counted from 0. A file of
+-- any length is refused by the first byte that is wrong; in plain files a byte at place 2 ^ 28 is wrong itself.
 -- Words: AreBytes, and a law a word.
-use Rattle.std.specs.Prelude.{◌≡◌, ◌≢◌, ◌↔◌, ◌⊎◌, ℕ, ◌+◌, ◌-◌, ◌<◌, ◌≤◌, true, List, ◌++◌, length, take, All, Ok, Err, IfErr}
+use Rattle.std.specs.Prelude.{◌≡◌, ◌≢◌, ◌↔◌, ◌⊎◌, ℕ, ◌+◌, ◌-◌, ◌<◌, ◌≤◌, true, List, length, take, All, Ok, Err, IfErr}
 use Rattle.mesh_defs.specs.HeightField.{HeightField, IsHeightField, side_of}
 use Rattle.pgm_header.specs.declared.accepted.Header.{Header}
 use Rattle.pgm_header.specs.declared.machine.HeaderValues.{HeaderValues}
 use Rattle.pgm_header.specs.HeaderText.{IsProperFront, IsUnfitAt, BeginsWithHeader}
 use Rattle.pgm_header.specs.Accepted.{IsLevel, IsMaxval}
-use Rattle.pgm_raster.specs.RasterText.{IsCutShort, IsTrailingAt, IsAboveAt, IsBadSampleAt}
-use Rattle.pgm_raster.specs.Laws.{NoneIsRefused}
+use Rattle.pgm_raster.specs.RasterText.{IsCutShort, IsTrailingAt, IsBadSampleAt}
+use Rattle.pgm_raster.specs.Laws.{IsWithin, IsAboveWithin, NoneIsRefused}
 use Rattle.pgm_grid.specs.declared.fault.PgmFault.TheVariants.{BadMagic, BadHeader, HeaderTooLong, BadMaxval, NotSquare, BadSide, Truncated, BadSample, AboveMaxval, Trailing, NoMemory, TooLong}
 use Rattle.pgm_grid.specs.PgmText.{points_of, form_of, most_bytes, IsFileText, HasHeader}
 use Rattle.pgm_grid.specs.Progress.{grid_of}
@@ -59,27 +59,30 @@ BadSidesAreRefused = (bytes : List ℕ) → (grid_of bytes ≡ Err BadSide)
 
 -- truncated exactly where the bytes end before their header does, or before their samples do
 abbrev pub CutTextsAreRefused : Type 0
-CutTextsAreRefused = (bytes : List ℕ) → AreBytes bytes → length bytes ≤ most_bytes → (grid_of bytes ≡ Err Truncated)
+CutTextsAreRefused = (bytes : List ℕ) → AreBytes bytes → (grid_of bytes ≡ Err Truncated)
     ↔ ((IsProperFront bytes × (length bytes < 65536))
-    ⊎ ((header : Header) × (at : ℕ) × (rest : List ℕ) × HasHeader bytes header at rest × IsCutShort (form_of header.plain header.maxval) (points_of header.n) header.maxval rest))
+    ⊎ ((header : Header) × (at : ℕ) × (rest : List ℕ) × HasHeader bytes header at rest
+    × (IsCutShort (form_of header.plain header.maxval) (points_of header.n) header.maxval rest × IsWithin (form_of header.plain header.maxval) (at + length rest))))
 
 -- a trailing byte exactly at the place of the first that may not stand behind the last sample
 abbrev pub TrailingBytesAreRefused : Type 0
-TrailingBytesAreRefused = (bytes : List ℕ) (p : ℕ) → AreBytes bytes → length bytes ≤ most_bytes → (grid_of bytes ≡ Err (Trailing p))
+TrailingBytesAreRefused = (bytes : List ℕ) (p : ℕ) → AreBytes bytes → (grid_of bytes ≡ Err (Trailing p))
     ↔ ((header : Header) × (at : ℕ) × (rest : List ℕ) × HasHeader bytes header at rest
-    × ((place : ℕ) × (p ≡ at + place) × IsTrailingAt (form_of header.plain header.maxval) (points_of header.n) header.maxval rest place))
+    × ((place : ℕ) × (p ≡ at + place) × IsTrailingAt (form_of header.plain header.maxval) (points_of header.n) header.maxval rest place
+    × IsWithin (form_of header.plain header.maxval) (p + 1)))
 
 -- above maxval exactly at the index of the first sample that is
 abbrev pub GreatSamplesAreRefused : Type 0
-GreatSamplesAreRefused = (bytes : List ℕ) (index : ℕ) → AreBytes bytes → length bytes ≤ most_bytes → (grid_of bytes ≡ Err (AboveMaxval index))
+GreatSamplesAreRefused = (bytes : List ℕ) (index : ℕ) → AreBytes bytes → (grid_of bytes ≡ Err (AboveMaxval index))
     ↔ ((header : Header) × (at : ℕ) × (rest : List ℕ) × HasHeader bytes header at rest
-    × IsAboveAt (form_of header.plain header.maxval) (points_of header.n) header.maxval rest index)
+    × IsAboveWithin (form_of header.plain header.maxval) (points_of header.n) header.maxval at rest index)
 
 -- a bad sample exactly at the place of the byte that continues none, in plain rasters alone
 abbrev pub BadSamplesAreRefused : Type 0
-BadSamplesAreRefused = (bytes : List ℕ) (p : ℕ) → AreBytes bytes → length bytes ≤ most_bytes → (grid_of bytes ≡ Err (BadSample p))
+BadSamplesAreRefused = (bytes : List ℕ) (p : ℕ) → AreBytes bytes → (grid_of bytes ≡ Err (BadSample p))
     ↔ ((header : Header) × (at : ℕ) × (rest : List ℕ) × HasHeader bytes header at rest
-    × ((header.plain ≡ true) × (place : ℕ) × (p ≡ at + place) × IsBadSampleAt (points_of header.n) header.maxval rest place))
+    × ((header.plain ≡ true) × (place : ℕ) × (p ≡ at + place) × IsBadSampleAt (points_of header.n) header.maxval rest place
+    × (p < most_bytes)))
 
 -- too long exactly where a plain file has more than 2 ^ 28 bytes, of whose first 2 ^ 28 none is refused
 abbrev pub LongFilesAreRefused : Type 0

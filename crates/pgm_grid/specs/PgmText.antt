@@ -10,6 +10,7 @@ use Rattle.pgm_header.specs.HeaderText.{IsHeaderText}
 use Rattle.pgm_header.specs.Accepted.{Accepts}
 use Rattle.pgm_raster.specs.declared.form.RasterForm.{RasterForm}
 use Rattle.pgm_raster.specs.declared.form.RasterForm.TheVariants as form
+use Rattle.pgm_raster.specs.Progress as raster
 use Rattle.pgm_raster.specs.RasterText.{IsRaster}
 
 -- the number of points of a grid with this n
@@ -23,7 +24,7 @@ form_of false maxval = if nat_lt maxval 256 then form.Bytes else form.Words
 
 -- the greatest number of bytes of a file, 2 ^ 28
 abbrev pub most_bytes : ℕ
-most_bytes = 268435456
+most_bytes = raster.most_bytes
 
 -- The bytes are a file text of the grid: a header of at most 65,536 bytes with its side and its maxval, and
 -- a raster of its heights; and they are not too many.

@@ -10,7 +10,7 @@ use Rattle.pgm_header.specs.declared.machine.State.TheVariants.{Start, Letter, N
 use Rattle.pgm_header.specs.declared.machine.Step.{Step}
 use Rattle.pgm_header.specs.declared.machine.Step.TheVariants.{Goes, Ends, Fails}
 use Rattle.std.proofs.lemmas.Bool.{cases_eq}
-use Rattle.pgm_header.specs.Accepted.{HeaderAnswer, Part, Whole, Bad, judged}
+use Rattle.pgm_header.specs.Accepted.{Part, Whole, Bad, judged}
 use Rattle.pgm_header.specs.Machine.{step_of}
 use Rattle.pgm_header.specs.Reading.{Progress, unfit, whole_answer, run, resume, header_of, taken}
 use Rattle.pgm_header.specs.Laws.{PartsAreRefusable}

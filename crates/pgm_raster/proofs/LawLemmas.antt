@@ -15,7 +15,7 @@ use Rattle.pgm_raster.specs.declared.part.Limits.{Limits}
 use Rattle.pgm_raster.specs.declared.part.Digits.{Digits}
 use Rattle.pgm_raster.specs.RasterText.{two_bytes, IsSpace, IsDigit, value_of, IsSampleText, IsSample, AreEndedTexts, AreEnded, IsRaster, IsCut, IsCutShort, IsStray, IsTrailingAt, EndsThere, IsAboveAt, IsBadSampleAt}
 use Rattle.pgm_raster.specs.Progress.{Answer, after, sample_then, end_at, bytes_from, words_from, is_space, no_digits, with_digit, ended_then, rest_of, nothing_of, raster_of}
-use Rattle.pgm_raster.specs.Laws.{RastersAreRead, ReadBytesAreRasters, CutRastersAreRefused, TrailingBytesAreRefused, GreatSamplesAreRefused, BadSamplesAreRefused}
+use Rattle.pgm_raster.specs.Laws.{RastersAreRead, ReadBytesAreRasters}
 use Rattle.pgm_raster.proofs.RasterLemmas.{after-append, after-nil, sample-passed, sample-refused, samples-passed, bytes-samples, words-samples}
 use Rattle.pgm_raster.proofs.PlainLemmas.{by_test, space-yes, space-no, space-is, space-isnt, digit-yes, digit-no, digit-is, digit-isnt, digit-no_space}
 use Rattle.pgm_raster.proofs.UnlimitedLemmas.{plain_unlimited, rest_unlimited, unlimited-space, unlimited-full, unlimited-digit, rest-within, agreed}
@@ -467,10 +467,10 @@ front-read Words l samples front index at more e room all =
 front-read Plain l samples front index at more e room all = plain-read l samples front index at more e room all
 
 -- the elements of two lists
-All-front : (P : ℕ → Type 0) (xs ys : List ℕ) → All P (xs ++ ys) → All P xs
+pub All-front : (P : ℕ → Type 0) (xs ys : List ℕ) → All P (xs ++ ys) → All P xs
 All-front P xs ys all = subst (All P) (take_at xs ys (length xs) refl) (All-take P (length xs) (xs ++ ys) all)
 
-All-back : (P : ℕ → Type 0) (xs ys : List ℕ) → All P (xs ++ ys) → All P ys
+pub All-back : (P : ℕ → Type 0) (xs ys : List ℕ) → All P (xs ++ ys) → All P ys
 All-back P xs ys all = subst (All P) (drop_at xs ys (length xs) refl) (All-drop P (length xs) (xs ++ ys) all)
 
 -- the end of the file
@@ -510,7 +510,7 @@ end-whole : (l : Limits) (samples : List ℕ) (index : ℕ) → l.count ≤ inde
 end-whole l samples index full =
     ap (after samples) (cond-false _ _ _ (le-ltb index l.count full)) ∙ ap (λ (s : List ℕ). let r : Answer = Ok s in r) (append-nil samples)
 
-cut-read : (f : RasterForm) (l : Limits) (bytes : List ℕ) (at : ℕ) → IsCutShort f l.count l.maxval bytes → rest_unlimited l 0 (nothing_of f) at bytes ≡ Err Truncated
+pub cut-read : (f : RasterForm) (l : Limits) (bytes : List ℕ) (at : ℕ) → IsCutShort f l.count l.maxval bytes → rest_unlimited l 0 (nothing_of f) at bytes ≡ Err Truncated
 cut-read Bytes l bytes at w =
     ap (bytes_from l 0 at) (w.whole ∙ ap (λ (t : List ℕ). w.text ++ t) w.part ∙ append-nil w.text)
     ∙ raster-read Bytes l w.samples w.text 0 at w.raster (omega (arith, w.fewer)) w.bound ∙ end-short l w.samples (0 + length w.samples) (omega (arith, w.fewer))
@@ -531,7 +531,7 @@ stray-read Bytes l index at byte more full stray = cond-false _ _ _ (le-ltb inde
 stray-read Words l index at byte more full stray = cond-false _ _ _ (le-ltb index l.count full)
 stray-read Plain l index at byte more full stray = unlimited-full l index no_digits at byte more (space-isnt byte stray) full
 
-trailing-read : (f : RasterForm) (l : Limits) (bytes : List ℕ) (at place p : ℕ) → p ≡ at + place → IsTrailingAt f l.count l.maxval bytes place → rest_unlimited l 0 (nothing_of f) at bytes ≡ Err (Trailing p)
+pub trailing-read : (f : RasterForm) (l : Limits) (bytes : List ℕ) (at place p : ℕ) → p ≡ at + place → IsTrailingAt f l.count l.maxval bytes place → rest_unlimited l 0 (nothing_of f) at bytes ≡ Err (Trailing p)
 trailing-read f l bytes at place p e w =
     let here : at + length w.front ≡ p = omega (arith, w.at) in
     ap (rest_unlimited l 0 (nothing_of f) at) w.whole ∙ front-read f l w.samples w.front 0 at (w.byte ∷ w.more) w.ended (omega (arith, w.all)) w.bound
@@ -555,7 +555,7 @@ above-text Plain l index at sample text (byte ∷ more) is ends wanted above =
     digits-read l text [] index at (byte ∷ more) wanted is.digits (omega (arith, is.short)) ∙ text-ended l text sample index (at + length text) byte more is ends
     ∙ sample-refused l index sample (plain_unlimited l (index + 1) no_digits (at + length text + 1) more) above
 
-above-read : (f : RasterForm) (l : Limits) (bytes : List ℕ) (at index : ℕ) → IsAboveAt f l.count l.maxval bytes index → rest_unlimited l 0 (nothing_of f) at bytes ≡ Err (AboveMaxval index)
+pub above-read : (f : RasterForm) (l : Limits) (bytes : List ℕ) (at index : ℕ) → IsAboveAt f l.count l.maxval bytes index → rest_unlimited l 0 (nothing_of f) at bytes ≡ Err (AboveMaxval index)
 above-read f l bytes at index w =
     let here : 0 + length w.samples ≡ index = omega (arith, w.at) in
     ap (rest_unlimited l 0 (nothing_of f) at) w.whole ∙ front-read f l w.samples w.front 0 at (w.text ++ w.more) w.ended (omega (arith, w.wanted)) w.bound
@@ -565,7 +565,7 @@ above-read f l bytes at index w =
     err_at : ℕ → Answer
     err_at k = Err (AboveMaxval k)
 
-bad-read : (l : Limits) (bytes : List ℕ) (at place p : ℕ) → p ≡ at + place → IsBadSampleAt l.count l.maxval bytes place → plain_unlimited l 0 no_digits at bytes ≡ Err (BadSample p)
+pub bad-read : (l : Limits) (bytes : List ℕ) (at place p : ℕ) → p ≡ at + place → IsBadSampleAt l.count l.maxval bytes place → plain_unlimited l 0 no_digits at bytes ≡ Err (BadSample p)
 bad-read l bytes at place p e w =
     let here : at + length w.front + length w.digits ≡ p = omega (arith, w.at) in
     ap (plain_unlimited l 0 no_digits at) w.whole ∙ plain-read l w.samples w.front 0 at (w.digits ++ w.byte ∷ w.more) w.ended (omega (arith, w.wanted)) w.bound
@@ -592,7 +592,7 @@ all-told Plain l at bytes all =
     subst (λ (p : ℕ). Told Plain l 0 at bytes (plain_unlimited l 0 no_digits p bytes)) e (plain-told l bytes 0 at [] (omega arith) (All-nil IsDigit) (omega arith) (λ some. absurd (omega arith)))
 
 -- what an answer tells, whatever the number of bytes is
-told-by : (f : RasterForm) (l : Limits) (at : ℕ) (bytes : List ℕ) (r : Answer) → All (λ b. b < 256) bytes → rest_of l 0 (nothing_of f) at bytes ≡ r → (r ≡ Err TooLong → ⊥) → Told f l 0 at bytes r
+pub told-by : (f : RasterForm) (l : Limits) (at : ℕ) (bytes : List ℕ) (r : Answer) → All (λ b. b < 256) bytes → rest_of l 0 (nothing_of f) at bytes ≡ r → (r ≡ Err TooLong → ⊥) → Told f l 0 at bytes r
 told-by f l at bytes r all e short =
     agreed f l at bytes (λ s. s ≡ r → Told f l 0 at bytes r) (λ long. absurd (short (sym long))) (λ same. subst (Told f l 0 at bytes) same (all-told f l at bytes all)) e
 
@@ -609,44 +609,5 @@ samples_back f count maxval at samples bytes all e =
     let told : Told f l 0 at bytes (Ok samples) = told-by f l at bytes (Ok samples) all e (λ long. absurd (cc)) in
     (told.0, omega (arith, told.1), told.2)
 
-no_fewer : (count : ℕ) → count - 0 ≡ count
+pub no_fewer : (count : ℕ) → count - 0 ≡ count
 no_fewer count = omega arith
-
-pub truncated : CutRastersAreRefused
-unfolding raster_of
-truncated f count maxval at bytes within all =
-    let l : Limits = record { count = count; maxval = maxval } in (
-      (λ e. let told : Told f l 0 at bytes (Err Truncated) = told-by f l at bytes (Err Truncated) all e (λ long. absurd (cc)) in subst (λ (n : ℕ). IsCutShort f n maxval bytes) (no_fewer count) told),
-      (λ w. rest-within f l at bytes within ∙ cut-read f l bytes at w),
-    )
-
-pub trailing : TrailingBytesAreRefused
-unfolding raster_of
-trailing f count maxval at bytes p within all =
-    let l : Limits = record { count = count; maxval = maxval } in (
-      (λ e.
-          let told : Told f l 0 at bytes (Err (Trailing p)) = told-by f l at bytes (Err (Trailing p)) all e (λ long. absurd (cc)) in
-          (told.0, told.1, subst (λ (n : ℕ). IsTrailingAt f n maxval bytes told.0) (no_fewer count) told.2)),
-      (λ w. rest-within f l at bytes within ∙ trailing-read f l bytes at w.0 p w.1 w.2),
-    )
-
-pub above : GreatSamplesAreRefused
-unfolding raster_of
-above f count maxval at bytes index within all =
-    let l : Limits = record { count = count; maxval = maxval } in (
-      (λ e.
-          let told : Told f l 0 at bytes (Err (AboveMaxval index)) = told-by f l at bytes (Err (AboveMaxval index)) all e (λ long. absurd (cc)) in
-          let same : told.0 ≡ index = omega (arith, told.1) in
-          subst (λ (k : ℕ). IsAboveAt f count maxval bytes k) same (subst (λ (n : ℕ). IsAboveAt f n maxval bytes told.0) (no_fewer count) told.2)),
-      (λ w. rest-within f l at bytes within ∙ above-read f l bytes at index w),
-    )
-
-pub bad_sample : BadSamplesAreRefused
-unfolding raster_of
-bad_sample f count maxval at bytes p within all =
-    let l : Limits = record { count = count; maxval = maxval } in (
-      (λ e.
-          let told : Told f l 0 at bytes (Err (BadSample p)) = told-by f l at bytes (Err (BadSample p)) all e (λ long. absurd (cc)) in
-          (told.0, told.1, told.2, subst (λ (n : ℕ). IsBadSampleAt n maxval bytes told.1) (no_fewer count) told.3)),
-      (λ w. rest-within f l at bytes within ∙ subst (λ (k : RasterForm). rest_unlimited l 0 (nothing_of k) at bytes ≡ Err (BadSample p)) (sym w.0) (bad-read l bytes at w.1 p w.2 w.3)),
-    )

@@ -7,3 +7,4 @@ pub mod ReaderLemmas
 pub mod LawLemmas
 pub mod OpenLemmas
 pub mod WantedLemmas
+pub mod LimitLemmas

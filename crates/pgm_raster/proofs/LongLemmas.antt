@@ -82,7 +82,7 @@ unlimited-short l (byte ∷ more) index digits at =
 -- ---- the bytes before the limit
 
 -- one of them is refused, or what follows decides
-abbrev Front : Limits → ℕ → Digits → ℕ → List ℕ → Type 0
+abbrev pub Front : Limits → ℕ → Digits → ℕ → List ℕ → Type 0
 Front l index digits at front =
     ((fault : RasterFault) × (fault ≡ TooLong → ⊥) × ((more : List ℕ) → plain_from l index digits at (front ++ more) ≡ Err fault))
     ⊎ ((samples : List ℕ) × (i : ℕ) × (next : Digits) × ((more : List ℕ) → plain_from l index digits at (front ++ more) ≡ after samples (plain_from l i next (at + length front) more)))
@@ -105,7 +105,7 @@ front-none : (l : Limits) (index i : ℕ) (digits next : Digits) (at byte : ℕ)
 front-none l index i digits next at byte front step w =
     front-step l index i digits next at byte [] front (λ more. step more ∙ sym (after-nil (plain_from l i next (at + 1) more))) w
 
-front-cases : (l : Limits) (front : List ℕ) (index : ℕ) (digits : Digits) (at : ℕ) → at + length front ≤ most_bytes → Front l index digits at front
+pub front-cases : (l : Limits) (front : List ℕ) (index : ℕ) (digits : Digits) (at : ℕ) → at + length front ≤ most_bytes → Front l index digits at front
 front-cases l [] index digits at room =
     let e : at ≡ at + 0 = omega arith in
     inr ([], index, digits, λ more. ap (λ (p : ℕ). plain_from l index digits p more) e ∙ sym (after-nil (plain_from l index digits (at + 0) more)))

@@ -59,7 +59,7 @@ rest-within Plain l at bytes within = plain-within l bytes 0 no_digits at (omega
 -- ---- bytes that may go beyond it
 
 -- the answer is that of a file without limit, or the limit
-abbrev Agrees : Answer → Answer → Type 0
+abbrev pub Agrees : Answer → Answer → Type 0
 Agrees r unlimited = (r ≡ Err TooLong) ⊎ (r ≡ unlimited)
 
 agrees-after : (samples : List ℕ) (r u : Answer) → Agrees r u → Agrees (after samples r) (after samples u)
@@ -89,7 +89,7 @@ agrees-cond : (test : Bool) (a b r u : Answer) → Agrees a r → Agrees b u →
 agrees-cond true a b r u x y = x
 agrees-cond false a b r u x y = y
 
-plain-agrees : (l : Limits) (bytes : List ℕ) (index : ℕ) (digits : Digits) (at : ℕ) → Agrees (plain_from l index digits at bytes) (plain_unlimited l index digits at bytes)
+pub plain-agrees : (l : Limits) (bytes : List ℕ) (index : ℕ) (digits : Digits) (at : ℕ) → Agrees (plain_from l index digits at bytes) (plain_unlimited l index digits at bytes)
 plain-agrees l [] index digits at = inr refl
 plain-agrees l (byte ∷ more) index digits at =
     elim (cases_eq at most_bytes) as (λ _. Agrees (plain_from l index digits at (byte ∷ more)) (plain_unlimited l index digits at (byte ∷ more))) [

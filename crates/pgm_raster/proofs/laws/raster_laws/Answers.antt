@@ -1,4 +1,5 @@
-use Rattle.pgm_raster.proofs.LawLemmas.{rasters, samples_back, truncated, trailing, above, bad_sample}
+use Rattle.pgm_raster.proofs.LawLemmas.{rasters, samples_back}
+use Rattle.pgm_raster.proofs.LimitLemmas.{truncated, trailing, above, bad_sample}
 use Rattle.pgm_raster.proofs.LongLemmas.{short, too_long}
 use Rattle.pgm_raster.proofs.OpenTextLemmas.{unrefused}
 use Rattle.pgm_raster.proofs.WantedLemmas.{only_wanted}
