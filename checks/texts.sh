@@ -28,23 +28,21 @@ for name in $crates; do
   elif [ "$(wc -l <"crates/$name/README.md")" -gt 120 ]; then
     why+=("README.md has more than 120 lines")
   fi
-  grep -q "^| \`$name\` |" docs/CRATES.md || why+=("no row in docs/CRATES.md")
+  grep -q "^| \[\`$name\`\](../crates/$name/README.md) | \(law\|code\) |" docs/CRATES.md || why+=("no row in docs/CRATES.md")
   if [ "$(lines_of_code "crates/$name")" -gt 60 ]; then
     ls "crates/$name"/must-fail/*.edit >/dev/null 2>&1 || why+=("no edit that must fail")
   fi
   decide "crate_$name" ${why[0]+"${why[@]}"}
 done
 
-listed=$(sed -n 's/^| \[`\([a-z0-9_]*\)`\](crates\/.*/\1/p' README.md | sort)
-none README_lists_the_crates_of_crates_txt "$(comm -3 <(echo "$crates") <(echo "$listed"))"
-listed=$(sed -n 's/^| `\([a-z0-9_]*\)` |.*/\1/p' docs/CRATES.md | sort)
+listed=$(sed -n 's/^| \[`\([a-z0-9_]*\)`\](..\/crates\/.*/\1/p' docs/CRATES.md | sort)
 none docs_CRATES_lists_the_crates_of_crates_txt "$(comm -3 <(echo "$crates") <(echo "$listed"))"
 
 # Both as lines 'NAME LIBRARY ..', in the order of the alphabet.
 stands_on() { while read -r name below; do echo "$name $(tr ' ' '\n' <<<"$below" | sort | tr '\n' ' ')"; done | sed 's/  */ /g; s/ $//' | sort; }
 none docs_CRATES_says_what_each_crate_stands_on "$(
   diff <(sed -n 's/#.*//; s/^\([a-z0-9_]*\)[^:]*:/\1 /p' crates.txt | stands_on) \
-    <(awk -F'|' '/^\| `/ { gsub(/[`, ]+/, " ", $4); gsub(/[` ]/, "", $2); print $2, $4 }' docs/CRATES.md | stands_on)
+    <(awk -F'|' '/^\| \[`/ { gsub(/[`, ]+/, " ", $4); split($2, name, "`"); print name[2], $4 }' docs/CRATES.md | stands_on)
 )"
 
 none each_page_of_docs_says_whom_it_is_for \
