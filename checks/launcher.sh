@@ -14,18 +14,21 @@ for name in low middle roam_cli unused; do
 done
 
 # The toolchain: notes when a command begins and ends, with its crate; `run` makes a program that tells its folder
-# and words. A crate whose text names another one waits until that one has begun, for at most ten seconds.
+# and words. A crate whose text is 'beside NAME' waits until NAME has begun, for at most ten seconds; one whose text
+# is 'slow' says which process it is, and sleeps.
 cat >"$fake/bin/rt" <<'RT'
 #!/usr/bin/env bash
 notes=${0%/*}/commands
 echo "$1 ${PWD##*/}" >>"$notes"
 read -r first other <src/text
-[ "$first" = slow ] && exec sleep 60
+[ "$first" = slow ] && echo $$ >>"${0%/*}/slow" && exec sleep 60
 if [ "$first" = beside ]; then
   for ((k = 0; k < 1000; k++)); do grep -qx "lib $other" "$notes" && break; sleep 0.01; done
   [ $k -lt 1000 ] || exit 1
 fi
 [ "$first" = broken ] && exit 1
+# What was proved below is there, and what is proved here is left for the crates above.
+[ "${PWD##*/}" != middle ] || [ -f ../low/out/rlib/made ] || exit 1
 if [ "$1" = run ]; then
   mkdir -p out
   cat >out/roam_cli <<'PROGRAM'
@@ -42,6 +45,8 @@ PROGRAM
   echo "end roam_cli" >>"$notes"
   exit 5
 fi
+mkdir -p out/rlib
+: >out/rlib/made
 echo "end ${PWD##*/}" >>"$notes"
 RT
 chmod +x "$fake/bin/rt"
@@ -57,6 +62,7 @@ launch() {
   [ $status -eq "$2" ] || why+=("exit status $status, not $2")
   [ "$(grep -v '^end ' "$fake/bin/commands" | tr '\n' ' ')" = "$3" ] || why+=("commands: $(tr '\n' ' ' <"$fake/bin/commands")")
   [ "$(wc -l <"$room/said")" -eq "$4" ] || why+=("standard error: $(head -c 300 "$room/said")")
+  [ -z "$(find "$fake/repository/crates" -name tree)" ] || why+=("left: $(find "$fake/repository/crates" -name tree | tr '\n' ' ')")
   [ -z "$(ls -A "$room/caller")" ] || why+=("left in the caller's folder: $(ls -A "$room/caller")")
   if [ "$2" -eq 3 ]; then
     [ "$(cat "$room/report")" = "$room/caller
@@ -137,17 +143,18 @@ if [ "$(nproc)" -ge 2 ] && [ "${two:-0}" -eq 1 ] && [ $((BASH_VERSINFO[0] * 100 
 
   wide left=slow chain1=slow
   : >"$fake/bin/commands"
+  : >"$fake/bin/slow"
   why=()
   ROAM_JOBS=2 PATH=$fake/bin:$PATH "$fake/bin/roam" mesh >"$room/report" 2>"$room/said" &
   launcher=$!
-  for ((k = 0; k < 1000; k++)); do [ "$(grep -c lib "$fake/bin/commands")" -eq 2 ] && break; sleep 0.01; done
-  begun=$(pgrep -P "$launcher" | tr '\n' ' ')
+  for ((k = 0; k < 1000; k++)); do [ "$(wc -l <"$fake/bin/slow")" -eq 2 ] && break; sleep 0.01; done
   kill "$launcher"
   wait "$launcher" 2>/dev/null
   status=$?
   [ $status -eq 143 ] || why+=("exit status $status, not 143")
-  [ "$(wc -w <<<"$begun")" -eq 2 ] || why+=("begun: $begun")
-  for it in $begun; do kill -0 "$it" 2>/dev/null && why+=("$it goes on"); done
+  [ "$(wc -l <"$fake/bin/slow")" -eq 2 ] || why+=("begun: $(tr '\n' ' ' <"$fake/bin/slow")")
+  while read -r it; do kill -0 "$it" 2>/dev/null && why+=("$it goes on"); done <"$fake/bin/slow"
+  [ -z "$(find "$fake/repository/crates" -name tree)" ] || why+=("left: $(find "$fake/repository/crates" -name tree | tr '\n' ' ')")
   decide launcher_ends_what_it_began_when_it_is_ended ${why[0]+"${why[@]}"}
 else
   skip launcher_proves_side_by_side 'two processors, 4 GB of free memory or bash 5.1 are not there'
