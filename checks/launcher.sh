@@ -15,12 +15,13 @@ done
 
 # The toolchain: notes when a command begins and ends, with its crate; `run` makes a program that tells its folder
 # and words. A crate whose text is 'beside NAME' waits until NAME has begun, for at most ten seconds; one whose text
-# is 'slow' says which process it is, and sleeps.
+# is 'slow' says which process it is, and sleeps; 'pause' sleeps half a second.
 cat >"$fake/bin/rt" <<'RT'
 #!/usr/bin/env bash
 notes=${0%/*}/commands
 echo "$1 ${PWD##*/}" >>"$notes"
 read -r first other <src/text
+[ "$first" = pause ] && sleep 0.5
 [ "$first" = slow ] && echo $$ >>"${0%/*}/slow" && exec sleep 60
 if [ "$first" = beside ]; then
   for ((k = 0; k < 1000; k++)); do grep -qx "lib $other" "$notes" && break; sleep 0.01; done
@@ -160,8 +161,26 @@ else
   skip launcher_proves_side_by_side 'two processors, 4 GB of free memory or bash 5.1 are not there'
 fi
 
+# Two calls at once: one builds, the other one waits and then starts.
+if has launcher_builds_once_for_two_calls flock; then
+  wide chain1=pause
+  : >"$fake/bin/commands"
+  why=()
+  PATH=$fake/bin:$PATH "$fake/bin/roam" mesh >"$room/report" 2>"$room/said" &
+  launcher=$!
+  for ((k = 0; k < 1000; k++)); do grep -q 'lib chain1' "$fake/bin/commands" && break; sleep 0.01; done
+  PATH=$fake/bin:$PATH "$fake/bin/roam" mesh >"$room/report2" 2>"$room/said2"
+  status=$?
+  wait "$launcher"
+  [ $? -eq 3 ] && [ $status -eq 3 ] || why+=("exit status $status of the second, not 3")
+  [ "$(grep -c 'lib chain1' "$fake/bin/commands")" -eq 1 ] || why+=("commands: $(tr '\n' ' ' <"$fake/bin/commands")")
+  [ "$(cat "$room/said2")" = 'roam: another call is proving and building; waiting for it' ] || why+=("standard error: $(head -c 300 "$room/said2")")
+  decide launcher_builds_once_for_two_calls ${why[0]+"${why[@]}"}
+fi
+
 # A PATH with what the launcher needs and no toolchain.
 mkdir "$fake/plain"
+wide
 for it in bash env readlink find tail touch mkdir; do ln -s "$(command -v "$it")" "$fake/plain/$it"; done
 why=()
 PATH=$fake/plain "$fake/bin/roam" mesh >"$room/report" 2>"$room/said"
