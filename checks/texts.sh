@@ -21,6 +21,9 @@ lines_of_code() {
   done | grep -cv '^[[:space:]]*\(//.*\)\{0,1\}$'
 }
 
+# The law crates, whose functions have empty bodies: no edit of their code could turn a meaning.
+laws=$(sed -n 's/^| \[`\([a-z0-9_]*\)`\].* | law |.*/\1/p' docs/CRATES.md)
+
 for name in $crates; do
   why=()
   if [ ! -f "crates/$name/README.md" ]; then
@@ -28,24 +31,32 @@ for name in $crates; do
   elif [ "$(wc -l <"crates/$name/README.md")" -gt 120 ]; then
     why+=("README.md has more than 120 lines")
   fi
-  grep -q "^| \`$name\` |" docs/CRATES.md || why+=("no row in docs/CRATES.md")
-  if [ "$(lines_of_code "crates/$name")" -gt 60 ]; then
+  grep -q "^| \[\`$name\`\](../crates/$name/README.md) | \(law\|code\) |" docs/CRATES.md || why+=("no row in docs/CRATES.md")
+  if ! grep -qx "$name" <<<"$laws" && [ "$(lines_of_code "crates/$name")" -gt 60 ]; then
     ls "crates/$name"/must-fail/*.edit >/dev/null 2>&1 || why+=("no edit that must fail")
   fi
   decide "crate_$name" ${why[0]+"${why[@]}"}
 done
 
-listed=$(sed -n 's/^| \[`\([a-z0-9_]*\)`\](crates\/.*/\1/p' README.md | sort)
-none README_lists_the_crates_of_crates_txt "$(comm -3 <(echo "$crates") <(echo "$listed"))"
-listed=$(sed -n 's/^| `\([a-z0-9_]*\)` |.*/\1/p' docs/CRATES.md | sort)
+listed=$(sed -n 's/^| \[`\([a-z0-9_]*\)`\](..\/crates\/.*/\1/p' docs/CRATES.md | sort)
 none docs_CRATES_lists_the_crates_of_crates_txt "$(comm -3 <(echo "$crates") <(echo "$listed"))"
 
 # Both as lines 'NAME LIBRARY ..', in the order of the alphabet.
 stands_on() { while read -r name below; do echo "$name $(tr ' ' '\n' <<<"$below" | sort | tr '\n' ' ')"; done | sed 's/  */ /g; s/ $//' | sort; }
 none docs_CRATES_says_what_each_crate_stands_on "$(
   diff <(sed -n 's/#.*//; s/^\([a-z0-9_]*\)[^:]*:/\1 /p' crates.txt | stands_on) \
-    <(awk -F'|' '/^\| `/ { gsub(/[`, ]+/, " ", $4); gsub(/[` ]/, "", $2); print $2, $4 }' docs/CRATES.md | stands_on)
+    <(awk -F'|' '/^\| \[`/ { gsub(/[`, ]+/, " ", $4); split($2, name, "`"); print name[2], $4 }' docs/CRATES.md | stands_on)
 )"
+
+# What proofs of a crate cite of another crate's proofs is a law crate's; a code crate is used by its clauses alone.
+none lemmas_are_cited_of_law_crates_alone "$(
+  grep -rnoE 'Rattle\.[a-z0-9_]+\.proofs\.' crates/*/specs crates/*/proofs crates/*/src 2>/dev/null |
+    awk -F: -v crates="$crates" -v laws="$laws" '
+      BEGIN { n = split(crates, k, "\n"); for (i = 1; i <= n; i++) own[k[i]] = 1; n = split(laws, k, "\n"); for (i = 1; i <= n; i++) law[k[i]] = 1 }
+      { split($1, at, "/"); split($NF, of, "."); if (own[of[2]] && of[2] != at[2] && !law[of[2]]) print $1 ": " of[2] }'
+)"
+
+none README_is_short "$(awk '{ n += NF } END { if (n > 1350) print n " words" }' README.md)"
 
 none each_page_of_docs_says_whom_it_is_for \
   "$(for page in docs/*.md; do head -n 1 "$page" | grep -q '^# .*, for ' || echo "$page"; done)"

@@ -1,5 +1,5 @@
 # shellcheck shell=bash disable=SC2154
-# Grids that other tools make, as README.md tells: netpbm, ImageMagick and GDAL, each where it is there. `info` has to
+# Grids that other tools make, as docs/GRIDS.md tells: netpbm, ImageMagick and GDAL, each where it is there. `info` has to
 # tell the side and the maxval that the tool was asked for, and the least and the greatest sample that the tool itself
 # finds in its file. Sourced by checks/run.
 
@@ -115,7 +115,7 @@ gdal8 255
 TABLE
 fi
 
-# --- How refusals that people meet are mended, as README.md tells. ---
+# --- How refusals that people meet are mended, as docs/GRIDS.md tells. ---
 
 # rows: nine samples of one byte, the least of them 65 and the greatest 75.
 rows() { printf 'AAAAKAAAA'; }
