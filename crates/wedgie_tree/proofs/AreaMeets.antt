@@ -35,11 +35,13 @@ shared c area columns rows over =
     let p : Point = record {
       x = max area.x0 (least_of_3 c.apex.x c.v0.x c.v1.x);
       y = max area.y0 (least_of_3 c.apex.y c.v0.y c.v1.y);
-    } in
-    (p, record {
-      in_rectangle = record { left = omega arith; right = omega (arith, lines); bottom = omega arith; top = omega (arith, lines) };
-      in_area = made-area area p.x p.y (record { left = omega arith; right = omega (arith, lines); bottom = omega arith; top = omega (arith, lines) });
-    })
+    } in (
+      p,
+      record {
+        in_rectangle = record { left = omega arith; right = omega (arith, lines); bottom = omega arith; top = omega (arith, lines) };
+        in_area = made-area area p.x p.y (record { left = omega arith; right = omega (arith, lines); bottom = omega arith; top = omega (arith, lines) });
+      },
+    )
 
 overlapping : (c : Corners) (area : Area) → MeetsArea c area → overlaps c area ≡ true
 overlapping c area meets =

@@ -30,8 +30,7 @@ pub AllUnder-clear : AddressLaws → (g : HeightField) (area : Area) (table : Li
     (levels a : ℕ) → 2 ≤ a → level_of a + levels ≡ 2 * g.n → IsClearOf g.n area a → AllUnder levels (HasEntry g table) a
 AllUnder-clear laws g area table right zero a some level clear = tt
 AllUnder-clear laws g area table right (suc levels) a some level clear =
-    let split : IsSplittable g.n a = record { low = some; coarse = omega arith } in
-    (
+    let split : IsSplittable g.n a = record { low = some; coarse = omega arith } in (
       right a split clear,
       AllUnder-clear laws g area table right levels (2 * a) (omega arith) (omega (arith, laws.left a some))
           (λ r held. clear r (held-left laws g.n a split r held)),

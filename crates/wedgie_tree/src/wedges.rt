@@ -8,10 +8,10 @@ ghost use Rattle.mesh_defs.specs.Thickness.{thickness_of};
 ghost use Rattle.mesh_defs.specs.BoundingBox.{low_of, high_of, box_of};
 ghost use Rattle.wedgie_tree.specs.Edits.{with_row};
 
-use crate::laws::wedge_laws;
-use crate::shape::box_around;
 use crate::Area;
 use crate::heights::{put_row, raise_heights};
+use crate::laws::wedge_laws;
+use crate::shape::box_around;
 use crate::table::{fill, finest_wedge, mend, places};
 use crate::wedge::Wedge;
 use bintree_addr::{Cuboid, Tri, corner_laws, level_laws};

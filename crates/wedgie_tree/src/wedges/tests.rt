@@ -122,13 +122,25 @@ fn an_area_is_raised_within_the_bounds(rt: HostRuntime) -> Result<(), Fail> {
     let mut wedges = wedges_of(rt.alloc(), &SLOPE)?;
     wedges.raise(Area::new(0, 0, 1, 1), -6);
     assert_eq!(rt; wedges.grid().heights(), &[1, 2, 3, 0, 0, 6, 1, 2, 9]);
-    for (number, thickness, low, high) in [(2, 16, 0, 9), (3, 10, 0, 9), (4, 6, 0, 9), (5, 2, 0, 1)] {
+    for (number, thickness, low, high) in [
+        (2, 16, 0, 9),
+        (3, 10, 0, 9),
+        (4, 6, 0, 9),
+        (5, 2, 0, 1),
+    ] {
         let tri = tri_in(&wedges, number).ok_or("an address")?;
         assert_eq!(rt; wedges.thickness(tri), thickness, "of {number}");
-        assert_eq!(rt; (wedges.low(tri), wedges.high(tri)), (low, high), "heights of {number}");
+        assert_eq!(rt;
+            (wedges.low(tri), wedges.high(tri)),
+            (low, high),
+            "heights of {number}"
+        );
     }
     let mut wedges = wedges_of(rt.alloc(), &SMALL_BOUND)?;
     wedges.raise(Area::new(0, 0, 2, 2), 250);
-    assert_eq!(rt; wedges.grid().heights(), &[250, 250, 250, 250, 255, 250, 250, 250, 250]);
+    assert_eq!(rt;
+        wedges.grid().heights(),
+        &[250, 250, 250, 250, 255, 250, 250, 250, 250]
+    );
     Ok(())
 }

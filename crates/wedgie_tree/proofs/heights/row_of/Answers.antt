@@ -7,8 +7,11 @@ pub loop-x-init : goal.loop-x-init
 loop-x-init c = IsReadSoFar-none c.args.grid.now c.args.x0 c.args.y c.new-row.result.items c.new-row.ensures
 
 pub push-requires : goal.push-requires
-push-requires c = (omega arith, IsReadSoFar-room c.args.grid.now c.args.x0 c.args.y c.loop-x.row.items c.loop-x.x
-    (c.n-small.ensures.valid).n_high (omega arith) c.loop-x.invariant)
+push-requires c = (
+  omega arith,
+  IsReadSoFar-room c.args.grid.now c.args.x0 c.args.y c.loop-x.row.items c.loop-x.x
+      (c.n-small.ensures.valid).n_high (omega arith) c.loop-x.invariant,
+)
 
 pub loop-x-preserved : goal.loop-x-preserved
 loop-x-preserved c = IsReadSoFar-next c.args.grid.now c.args.x0 c.args.y c.loop-x.row.items c.push.new.self.items c.loop-x.x c.height.result

@@ -21,7 +21,7 @@ mend-requires-clause-clear c =
     c.args.x c.args.y _ _ c.new.ensures (omega arith) c.deref_mut.ensures.value
     (ap (λ (g : HeightField). g.n) c.put_row.ensures.value) c.self.invariant c.put_row.ensures.others
 
-pub returns-then-count-eq0-clause-value : goal.returns-then-count0-clause-value
+pub returns-then-count-eq0-clause-value : goal.returns-then-count-eq0-clause-value
 returns-then-count-eq0-clause-value c =
     ap (λ (all : List ℕ). let g : HeightField = record c.args.self.now { heights = all } in g)
     (with_row-none c.args.self.now c.args.x c.args.y c.args.heights.now c.grid-valid.ensures.valid (omega arith) c.requires.in_columns)
