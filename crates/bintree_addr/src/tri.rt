@@ -168,5 +168,14 @@ impl Tri {
     }
 }
 
+impl Default for Tri {
+    ghost is_default = { λ t. t ≡ 2 };
+
+    /// The half of the square below its falling diagonal.
+    fn default() -> Self {
+        Tri { number: 2 }
+    }
+}
+
 #[cfg(test)]
 mod tests;
