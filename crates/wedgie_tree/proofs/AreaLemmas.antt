@@ -121,19 +121,19 @@ HasArea-at laws (suc level) n a low is fits =
 -- ---- held points
 
 -- r lies left of the line from p to q or on it
-abbrev IsLeft : Point → Point → Point → Type 0
+abbrev pub IsLeft : Point → Point → Point → Type 0
 IsLeft r p q = p.y * q.x + q.y * r.x + r.y * p.x ≤ p.x * q.y + q.x * r.y + r.x * p.y
 
-record IsHeld (c : Corners) (r : Point) : Type 0 where
-  left_leg : IsLeft r c.apex c.v0
-  base : IsLeft r c.v0 c.v1
-  right_leg : IsLeft r c.v1 c.apex
+pub record IsHeld (c : Corners) (r : Point) : Type 0 where
+  pub left_leg : IsLeft r c.apex c.v0
+  pub base : IsLeft r c.v0 c.v1
+  pub right_leg : IsLeft r c.v1 c.apex
 
 and-parts : (b d : Bool) → (b && d) ≡ true → (b ≡ true) × (d ≡ true)
 and-parts true d h = (refl, h)
 and-parts false d h = absurd (cc)
 
-read : (c : Corners) (r : Point) → is_in_closed c r ≡ true → IsHeld c r
+pub read : (c : Corners) (r : Point) → is_in_closed c r ≡ true → IsHeld c r
 read c r h =
     let legs : (is_left_or_on r c.apex c.v0 ≡ true) × ((is_left_or_on r c.v0 c.v1 && is_left_or_on r c.v1 c.apex) ≡ true) =
     and-parts (is_left_or_on r c.apex c.v0) (is_left_or_on r c.v0 c.v1 && is_left_or_on r c.v1 c.apex) h in
@@ -231,7 +231,7 @@ v0-held c d h = made c c.v0 (record { left_leg = omega arith; base = omega arith
 pub v1-held : (c : Corners) (d : ℕ) → HasArea c d → is_in_closed c c.v1 ≡ true
 v1-held c d h = made c c.v1 (record { left_leg = omega (arith, h.area); base = omega arith; right_leg = omega arith })
 
-slack : (i j : ℕ) → i ≤ j → (k : ℕ) × (i + k ≡ j)
+pub slack : (i j : ℕ) → i ≤ j → (k : ℕ) × (i + k ≡ j)
 slack i j h = (j - i, omega arith)
 
 -- A point by its weights u, v and w at the corners a, p and q of a triangle of doubled area 1.

@@ -15,7 +15,7 @@ apex-in : AddressLaws → (n a : ℕ) → IsIn (corners_of n a).apex (points_of 
 apex-in laws n a = let w : IsWithin (2 ^ n) (corners_of n a) = laws.within n a in
     IsIn-points_of n (corners_of n a).apex w.apex_x w.apex_y
 
-apex-passes : AddressLaws → (n a : ℕ) → 2 ≤ a → level_of a ≤ 2 * n → holds_point n a (corners_of n a).apex ≡ true
+pub apex-passes : AddressLaws → (n a : ℕ) → 2 ≤ a → level_of a ≤ 2 * n → holds_point n a (corners_of n a).apex ≡ true
 apex-passes laws n a low fits = apex-held (corners_of n a) (2 ^ (2 * n - level_of a))
     (HasArea-at laws (level_of a) n a low refl fits)
 
@@ -27,7 +27,7 @@ low_of-bounded laws n heights a b low fits le = least-bounded b (height_of n hei
     (corners_of n a).apex (apex-passes laws n a low fits) (points_of n) (apex-in laws n a) le
 
 -- a point is held exactly where a child holds it
-holds_point-children : AddressLaws → (n a : ℕ) → IsSplittable n a → (r : Point) →
+pub holds_point-children : AddressLaws → (n a : ℕ) → IsSplittable n a → (r : Point) →
     holds_point n a r ≡ (holds_point n (2 * a) r || holds_point n (2 * a + 1) r)
 holds_point-children laws n a split r = rw (laws.left_corners n a split.low, laws.right_corners n a split.low)
     (is_in_closed-children (corners_of n a) r (laws.even n a split.coarse))

@@ -5,3 +5,8 @@ pub mod ThicknessLemmas
 pub mod PlaceLemmas
 pub mod TableLemmas
 pub mod BoxLemmas
+pub mod AreaMeets
+pub mod EditLemmas
+pub mod MendLemmas
+pub mod PointLemmas
+pub mod RowLemmas

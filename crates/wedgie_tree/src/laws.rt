@@ -1,10 +1,12 @@
 //! Laws of thickness and of least and greatest heights, as a clause each of a function with an empty body.
 
-ghost use Rattle.std.specs.Prelude.{◌≡◌, ℕ, ◌+◌, ◌-◌, ◌*◌, ◌^◌, ◌<◌, ◌≤◌, List, min, max};
+ghost use Rattle.std.specs.Prelude.{◌≡◌, ℕ, ◌+◌, ◌-◌, ◌*◌, ◌^◌, ◌<◌, ◌≤◌, List, min, max, true, ◌||◌};
 ghost use Rattle.mesh_defs.specs.HeightField.{HeightField, IsHeightField};
 ghost use Rattle.mesh_defs.specs.Triangle.{level_of, corners_of, IsSplittable};
 ghost use Rattle.mesh_defs.specs.Thickness.{height_of, deviation, thickness_of};
-ghost use Rattle.mesh_defs.specs.BoundingBox.{low_of, high_of, least_of_3, greatest_of_3};
+ghost use Rattle.mesh_defs.specs.BoundingBox.{low_of, high_of, least_of_3, greatest_of_3, box_of, holds_point};
+ghost use Rattle.mesh_defs.specs.declared.point.Point.{Point};
+ghost use Rattle.wedgie_tree.specs.Edits.{AgreesOn, IsInRectangle};
 
 use bintree_addr::{corner_laws, level_laws};
 
@@ -38,6 +40,24 @@ pub fn wedge_laws()
 
     // A level adds at most twice the greatest height, and there are at most 22 levels below a triangle.
     ensures bounded { (g : HeightField) (a : ℕ) → IsHeightField g → thickness_of g.n g.heights a ≤ 2883540 }
+{
+    corner_laws();
+    level_laws();
+}
+
+/// What a change of heights leaves as it was: the thickness and the box of each triangle that holds no
+/// point whose height changed.
+pub fn edit_laws()
+    ensures same_thickness { (n : ℕ) (heights others : List ℕ) (a : ℕ) → 2 ≤ a → level_of a ≤ 2 * n → AgreesOn n heights others a →
+        thickness_of n heights a ≡ thickness_of n others a }
+    ensures same_box { (n : ℕ) (heights others : List ℕ) (spacing a : ℕ) → AgreesOn n heights others a →
+        box_of n heights spacing a ≡ box_of n others spacing a }
+
+    // A triangle holds the points that its children hold, and only points of its bounding rectangle.
+    ensures children { (n a : ℕ) (r : Point) → IsSplittable n a →
+        holds_point n a r ≡ (holds_point n (2 * a) r || holds_point n (2 * a + 1) r) }
+    ensures rectangle { (n a : ℕ) (r : Point) → 2 ≤ a → level_of a ≤ 2 * n → holds_point n a r ≡ true →
+        IsInRectangle (corners_of n a) r }
 {
     corner_laws();
     level_laws();

@@ -96,14 +96,14 @@ pub fn box_around(corners: Corners, spacing: u32, low: u16, high: u16) -> Cuboid
 }
 
 /// The least of three numbers.
-fn least(i: u32, j: u32, k: u32) -> u32
+pub fn least(i: u32, j: u32, k: u32) -> u32
     ensures { result ≡ least_of_3 i j k }
 {
     i.min(j.min(k))
 }
 
 /// The greatest of three numbers.
-fn greatest(i: u32, j: u32, k: u32) -> u32
+pub fn greatest(i: u32, j: u32, k: u32) -> u32
     ensures { result ≡ greatest_of_3 i j k }
 {
     i.max(j.max(k))

@@ -1,9 +1,10 @@
-//! Filling the table of wedges, from the finest triangles up.
+//! Filling the table of wedges, and mending it where heights changed, from the finest triangles up.
 
 ghost use Rattle.std.specs.Prelude.{◌≡◌, ℕ, ◌+◌, ◌-◌, ◌*◌, ◌^◌, ◌<◌, ◌≤◌, length};
 ghost use Rattle.mesh_defs.specs.Triangle.{level_of, corners_of};
-ghost use Rattle.wedgie_tree.specs.Table.{IsWedge, HasEntry, AllUnder, IsTable};
+ghost use Rattle.wedgie_tree.specs.Table.{IsWedge, HasEntry, AllUnder, IsTable, IsRightOff};
 
+use crate::Area;
 use crate::laws::wedge_laws;
 use crate::shape::{deviation_of, height_at, left_corners, right_corners};
 use crate::wedge::Wedge;
@@ -55,33 +56,40 @@ pub fn joined(grid: &Grid, tri: Tri, corners: Corners, left: Wedge, right: Wedge
     }
 }
 
-/// Fills the entries of a triangle and of all its descendants, and answers its own wedge.
+/// Mends the entries of a triangle and of all its descendants, and answers its own wedge.
 ///
 /// Entries that are right stay right. A finest triangle has no entry.
-/// Cost (not proved): a step for each descendant. The recursion is as deep as there are levels.
-pub fn fill(table: &mut [Wedge], grid: &Grid, tri: Tri, corners: Corners) -> Wedge
+/// Cost (not proved): a step for each descendant that meets the area, and for each child of one. The
+/// recursion is as deep as there are levels.
+pub fn mend_under(table: &mut [Wedge], grid: &Grid, area: Area, tri: Tri, corners: Corners) -> Wedge
     requires room { length table.old ≡ 2 ^ (2 * grid.now.n + 1) }
     requires level { level_of tri ≤ 2 * grid.now.n }
     requires of_tri { corners ≡ corners_of grid.now.n tri }
+    requires clear { IsRightOff grid.now area table.old }
     ensures value { IsWedge grid.now tri result }
     ensures under { AllUnder (2 * grid.now.n - level_of tri) (HasEntry grid.now table.new) tri }
     ensures others { (a : ℕ) → HasEntry grid.now table.old a → HasEntry grid.now table.new a }
+    ensures clear { IsRightOff grid.now area table.new }
 {
     corner_laws();
     level_laws();
     if tri.level() == 2 * grid.n() {
         return finest_wedge(grid, tri, corners);
     }
-    let left = fill(table, grid, tri.left(), left_corners(corners));
-    let right = fill(table, grid, tri.right(), right_corners(corners));
+    if !area.meets(corners) {
+        return table[tri.number() as usize];
+    }
+    let left = mend_under(table, grid, area, tri.left(), left_corners(corners));
+    let right = mend_under(table, grid, area, tri.right(), right_corners(corners));
     let wedge = joined(grid, tri, corners, left, right);
     table[tri.number() as usize] = wedge;
     wedge
 }
 
-/// Fills the whole table.
-pub fn fill_all(table: &mut [Wedge], grid: &Grid)
-    requires { length table.old ≡ 2 ^ (2 * grid.now.n + 1) }
+/// Mends the entries of all triangles that hold a point of the area; the others are right.
+pub fn mend(table: &mut [Wedge], grid: &Grid, area: Area)
+    requires room { length table.old ≡ 2 ^ (2 * grid.now.n + 1) }
+    requires clear { IsRightOff grid.now area table.old }
     ensures { IsTable grid.now table.new }
 {
     corner_laws();
@@ -89,8 +97,20 @@ pub fn fill_all(table: &mut [Wedge], grid: &Grid)
     let n = grid.n();
     let below_diagonal = base(2);
     let above_diagonal = base(3);
-    fill(table, grid, below_diagonal, below_diagonal.corners(n));
-    fill(table, grid, above_diagonal, above_diagonal.corners(n));
+    mend_under(table, grid, area, below_diagonal, below_diagonal.corners(n));
+    mend_under(table, grid, area, above_diagonal, above_diagonal.corners(n));
+}
+
+/// Fills the whole table: each triangle meets the whole square.
+pub fn fill(table: &mut [Wedge], grid: &Grid)
+    requires { length table.old ≡ 2 ^ (2 * grid.now.n + 1) }
+    ensures { IsTable grid.now table.new }
+{
+    corner_laws();
+    level_laws();
+    let side = 1 << grid.n();
+    let square = Area::new(0, 0, side, side);
+    mend(table, grid, square);
 }
 
 /// One of the halves of the square, 2 or 3.

@@ -1,16 +1,20 @@
 //! A grid with the thickness and the box of each of its triangles.
 
-ghost use Rattle.std.specs.Prelude.{◌≡◌, ◌*◌, ◌≤◌, ◌^◌, IfOk, pos, ◌≤ℤ◌};
-ghost use Rattle.mesh_defs.specs.HeightField.{IsHeightField};
+ghost use Rattle.std.specs.Prelude.{◌≡◌, ℕ, ◌+◌, ◌*◌, ◌<◌, ◌≤◌, ◌^◌, IfOk, pos, negsuc, ◌≤ℤ◌, true, length, slice_index, slice_set, All};
+ghost use Rattle.mesh_defs.specs.HeightField.{IsHeightField, height_at, place_of};
+ghost use Rattle.mesh_defs.specs.State.{is_in_area, raised_heights};
 ghost use Rattle.mesh_defs.specs.Triangle.{level_of};
 ghost use Rattle.mesh_defs.specs.Thickness.{thickness_of};
 ghost use Rattle.mesh_defs.specs.BoundingBox.{low_of, high_of, box_of};
+ghost use Rattle.wedgie_tree.specs.Edits.{with_row};
 
+use crate::Area;
+use crate::heights::{put_row, raise_heights};
 use crate::laws::wedge_laws;
 use crate::shape::box_around;
-use crate::table::{fill_all, finest_wedge, places};
+use crate::table::{fill, finest_wedge, mend, places};
 use crate::wedge::Wedge;
-use bintree_addr::{Cuboid, Tri, level_laws};
+use bintree_addr::{Cuboid, Tri, corner_laws, level_laws};
 use pgm_grid::Grid;
 use roam_edge::NoMemory;
 use std::alloc::Global;
@@ -52,7 +56,7 @@ impl Wedges {
             high: 0,
         };
         let mut table = vec![in alloc; empty; places(grid.n())]?;
-        fill_all(&mut table, &grid);
+        fill(&mut table, &grid);
         Ok(Wedges { grid, table })
     }
 
@@ -62,6 +66,76 @@ impl Wedges {
         ensures valid { IsHeightField self.now }
     {
         &self.grid
+    }
+
+    /// Makes `h` the height of the point in column `x` from the left and row `y` from the bottom. All
+    /// thicknesses and boxes follow.
+    ///
+    /// Cost (not proved): a step for each triangle whose bounding rectangle has the point, at most a few
+    /// hundred. Takes no memory.
+    pub fn set(&mut self, x: u32, y: u32, h: u16)
+        requires in_columns { x ≤ 2 ^ self.old.n }
+        requires in_rows { y ≤ 2 ^ self.old.n }
+        requires bounded { h ≤ self.old.maxval }
+        ensures value { self.new ≡ record self.old {
+          heights = slice_set self.old.heights (place_of self.old.n x y) h;
+        } }
+        // Each other point of the grid keeps its height.
+        ensures others { (i j : ℕ) → i ≤ 2 ^ self.old.n → j ≤ 2 ^ self.old.n → (i ≡ x → j ≡ y → ⊥)
+            → height_at self.old.n self.new.heights i j ≡ height_at self.old.n self.old.heights i j }
+    {
+        corner_laws();
+        level_laws();
+        self.grid.put(x, y, h);
+        mend(&mut self.table, &self.grid, Area::new(x, y, x, y));
+    }
+
+    /// Puts a row of heights from the point (x, y) to the right. All thicknesses and boxes follow.
+    ///
+    /// Cost (not proved): a step for each height and for each triangle whose bounding rectangle has one
+    /// of the points. Takes no memory.
+    pub fn set_row(&mut self, x: u32, y: u32, heights: &[u16])
+        requires in_columns { x + length heights.now ≤ 2 ^ self.old.n + 1 }
+        requires in_rows { y ≤ 2 ^ self.old.n }
+        requires bounded { All (λ h. h ≤ self.old.maxval) heights.now }
+        ensures value { self.new ≡ record self.old { heights = with_row self.old x y heights.now } }
+        ensures there { (k : ℕ) → k < length heights.now →
+            height_at self.old.n self.new.heights (x + k) y ≡ slice_index heights.now k }
+        ensures others { (i j : ℕ) → i ≤ 2 ^ self.old.n → j ≤ 2 ^ self.old.n
+            → (j ≡ y → x ≤ i → i < x + length heights.now → ⊥)
+            → height_at self.old.n self.new.heights i j ≡ height_at self.old.n self.old.heights i j }
+    {
+        corner_laws();
+        level_laws();
+        // The heights are those of a grid, also where the row is empty.
+        let _valid = self.grid();
+        let count = heights.len();
+        if count == 0 {
+            return;
+        }
+        put_row(&mut self.grid, x, y, heights);
+        let last = x + (count - 1) as u32;
+        mend(&mut self.table, &self.grid, Area::new(x, y, last, y));
+    }
+
+    /// Raises each height of an area by `dz`, lowers it where `dz` is negative, and brings it into 0 to the
+    /// bound of heights. All thicknesses and boxes follow.
+    ///
+    /// Cost (not proved): a step for each point of the area and for each triangle whose bounding rectangle
+    /// has one of them, so at most that of `build`. Takes no memory.
+    pub fn raise(&mut self, area: Area, dz: i32)
+        requires in_columns { area.x1 ≤ 2 ^ self.old.n }
+        requires in_rows { area.y1 ≤ 2 ^ self.old.n }
+        requires at_least { negsuc 65534 ≤ℤ dz }
+        requires at_most { dz ≤ℤ pos 65535 }
+        ensures value { self.new ≡ record self.old { heights = raised_heights self.old area dz } }
+        ensures others { (i j : ℕ) → i ≤ 2 ^ self.old.n → j ≤ 2 ^ self.old.n → (is_in_area area i j ≡ true → ⊥)
+            → height_at self.old.n self.new.heights i j ≡ height_at self.old.n self.old.heights i j }
+    {
+        corner_laws();
+        level_laws();
+        raise_heights(&mut self.grid, area, dz);
+        mend(&mut self.table, &self.grid, area);
     }
 
     /// The thickness of a triangle, in half units of height.

@@ -89,3 +89,58 @@ fn boxes_are_in_world_units(rt: HostRuntime) -> Result<(), Fail> {
     }
     Ok(())
 }
+
+/// A grid of nine points with the bound 255, the middle one of height 10 and the others of height 0.
+const SMALL_BOUND: [u8; 20] = *b"P5\n3 3\n255\n\0\0\0\0\x0a\0\0\0\0";
+
+#[test]
+fn a_height_that_is_set_moves_the_thickness(rt: HostRuntime) -> Result<(), Fail> {
+    let mut wedges = wedges_of(rt.alloc(), &SMALL_BOUND)?;
+    wedges.set(1, 1, 0);
+    wedges.set(1, 0, 10);
+    for (number, thickness, high) in [(2, 20, 10), (3, 0, 0), (4, 20, 10), (5, 0, 0), (8, 0, 10)] {
+        let tri = tri_in(&wedges, number).ok_or("an address")?;
+        assert_eq!(rt; wedges.thickness(tri), thickness, "of {number}");
+        assert_eq!(rt; wedges.high(tri), high, "the greatest of {number}");
+    }
+    Ok(())
+}
+
+#[test]
+fn a_row_goes_from_its_point_to_the_right(rt: HostRuntime) -> Result<(), Fail> {
+    let mut wedges = wedges_of(rt.alloc(), &SLOPE)?;
+    let heights = [7, 8];
+    wedges.set_row(1, 2, &heights);
+    assert_eq!(rt; wedges.grid().heights(), &[1, 7, 8, 4, 5, 6, 7, 8, 9]);
+    wedges.set_row(3, 0, &[]);
+    assert_eq!(rt; wedges.grid().heights(), &[1, 7, 8, 4, 5, 6, 7, 8, 9]);
+    Ok(())
+}
+
+#[test]
+fn an_area_is_raised_within_the_bounds(rt: HostRuntime) -> Result<(), Fail> {
+    let mut wedges = wedges_of(rt.alloc(), &SLOPE)?;
+    wedges.raise(Area::new(0, 0, 1, 1), -6);
+    assert_eq!(rt; wedges.grid().heights(), &[1, 2, 3, 0, 0, 6, 1, 2, 9]);
+    for (number, thickness, low, high) in [
+        (2, 16, 0, 9),
+        (3, 10, 0, 9),
+        (4, 6, 0, 9),
+        (5, 2, 0, 1),
+    ] {
+        let tri = tri_in(&wedges, number).ok_or("an address")?;
+        assert_eq!(rt; wedges.thickness(tri), thickness, "of {number}");
+        assert_eq!(rt;
+            (wedges.low(tri), wedges.high(tri)),
+            (low, high),
+            "heights of {number}"
+        );
+    }
+    let mut wedges = wedges_of(rt.alloc(), &SMALL_BOUND)?;
+    wedges.raise(Area::new(0, 0, 2, 2), 250);
+    assert_eq!(rt;
+        wedges.grid().heights(),
+        &[250, 250, 250, 250, 255, 250, 250, 250, 250]
+    );
+    Ok(())
+}

@@ -1,7 +1,7 @@
 use Rattle.std.proofs.Common.{arith}
 use Rattle.wedgie_tree.proofs.AreaLemmas.{AddressLaws}
 use Rattle.wedgie_tree.proofs.TableLemmas.{IsTable-filled}
-use Rattle.wedgie_tree.proofs.table.fill_all.Goals as goal
+use Rattle.wedgie_tree.proofs.table.mend.Goals as goal
 
 -- the laws that the two calls state
 laws : goal.After-table-2-1 → AddressLaws
@@ -18,6 +18,6 @@ laws c = record {
 
 pub returns : goal.returns
 returns c = IsTable-filled (laws c) c.args.grid.now c.base-below_diagonal.result c.base-above_diagonal.result
-    c.fill.new.table c.fill-2.new.table c.base-below_diagonal.ensures.value c.base-above_diagonal.ensures.value
-    c.base-below_diagonal.ensures.level c.base-above_diagonal.ensures.level c.fill.ensures.under c.fill-2.ensures.others
-    c.fill-2.ensures.under c.n-n.ensures.valid (omega arith)
+    c.mend_under.new.table c.mend_under-2.new.table c.base-below_diagonal.ensures.value c.base-above_diagonal.ensures.value
+    c.base-below_diagonal.ensures.level c.base-above_diagonal.ensures.level c.mend_under.ensures.under c.mend_under-2.ensures.others
+    c.mend_under-2.ensures.under c.n-n.ensures.valid (omega arith)

@@ -1,0 +1,102 @@
+-- Mending the table: which entries are right after a change of heights, and what the walk may leave out.
+use Rattle.std.proofs.Common.{◌≡◌, ℕ, zero, suc, ◌+◌, ◌-◌, ◌*◌, ◌/◌, ◌^◌, ◌<◌, ◌≤◌, Bool, true, false, ◌&&◌, List, length, refl, sym, ap, arith, subst, slice_index_or}
+use Rattle.std.proofs.lemmas.Bool.{le-leb}
+use Rattle.std.specs.Cmp.Derive.{both_true}
+use Rattle.mesh_defs.specs.declared.point.Point.{Point}
+use Rattle.mesh_defs.specs.declared.point.Corners.{Corners}
+use Rattle.mesh_defs.specs.HeightField.{HeightField, IsHeightField, height_at}
+use Rattle.mesh_defs.specs.State.{Area, is_in_area}
+use Rattle.mesh_defs.specs.Triangle.{level_of, corners_of, IsSplittable}
+use Rattle.mesh_defs.specs.BoundingBox.{holds_point}
+use Rattle.bintree_laws.specs.Corners.{IsWithin}
+use Rattle.wedgie_tree.specs.declared.wedge.Wedge.{Wedge}
+use Rattle.wedgie_tree.specs.Table.{IsWedge, HasEntry, AllUnder, IsTable, IsRightOff}
+use Rattle.wedgie_tree.specs.Edits.{MeetsArea, SharesPoint, IsClearOf, IsInRectangle, area_of}
+use Rattle.wedgie_tree.proofs.AreaLemmas.{AddressLaws}
+use Rattle.wedgie_tree.proofs.HeightLemmas.{apex-passes}
+use Rattle.wedgie_tree.proofs.AreaMeets.{made-area}
+use Rattle.wedgie_tree.proofs.EditLemmas.{IsInRectangle-held, held-x, held-y, held-left, held-right, IsWedge-same}
+
+-- a triangle whose rectangle shares no point with the area holds none of its points
+pub IsClearOf-apart : AddressLaws → (n a : ℕ) (area : Area) (c : Corners) → c ≡ corners_of n a → 2 ≤ a → level_of a ≤ 2 * n →
+    (MeetsArea c area → ⊥) → IsClearOf n area a
+IsClearOf-apart laws n a area c is some fits apart = λ r held in_area.
+    let within : IsInRectangle (corners_of n a) r = IsInRectangle-held laws n a r some fits held in
+    let P : Corners → Type 0 = λ d. IsInRectangle d r in
+    apart (r, record { in_rectangle = subst P (sym is) within; in_area = in_area })
+
+-- where a triangle holds no point of the area, all entries under it are right
+pub AllUnder-clear : AddressLaws → (g : HeightField) (area : Area) (table : List Wedge) → IsRightOff g area table →
+    (levels a : ℕ) → 2 ≤ a → level_of a + levels ≡ 2 * g.n → IsClearOf g.n area a → AllUnder levels (HasEntry g table) a
+AllUnder-clear laws g area table right zero a some level clear = tt
+AllUnder-clear laws g area table right (suc levels) a some level clear =
+    let split : IsSplittable g.n a = record { low = some; coarse = omega arith } in (
+      right a split clear,
+      AllUnder-clear laws g area table right levels (2 * a) (omega arith) (omega (arith, laws.left a some))
+          (λ r held. clear r (held-left laws g.n a split r held)),
+      AllUnder-clear laws g area table right levels (2 * a + 1) (omega arith) (omega (arith, laws.right a some))
+          (λ r held. clear r (held-right laws g.n a split r held)),
+    )
+
+-- entries that are right stay right along a walk
+pub IsRightOff-kept : (g : HeightField) (area : Area) (one two : List Wedge) → ((a : ℕ) → HasEntry g one a → HasEntry g two a) →
+    IsRightOff g area one → IsRightOff g area two
+IsRightOff-kept g area one two keeps right = λ a split clear. keeps a (right a split clear)
+
+-- after heights of an area changed, the entries of the triangles that hold none of its points are right
+pub IsRightOff-edited : AddressLaws → (g h : HeightField) (area : Area) (table : List Wedge) → g.n ≡ h.n → IsTable g table →
+    ((i j : ℕ) → i ≤ 2 ^ g.n → j ≤ 2 ^ g.n → (is_in_area area i j ≡ true → ⊥) →
+    height_at g.n h.heights i j ≡ height_at g.n g.heights i j) → IsRightOff h area table
+IsRightOff-edited laws g h area table same right others = λ a split clear d.
+    let some : 2 ≤ a = split.low in
+    let coarse : level_of a < 2 * h.n = split.coarse in
+    let fits : level_of a ≤ 2 * g.n = omega (arith, same) in
+    let before : IsSplittable g.n a = record { low = some; coarse = omega (arith, same) } in
+    let Clear : ℕ → Type 0 = λ n. IsClearOf n area a in
+    let free : IsClearOf g.n area a = subst Clear (sym same) clear in
+    IsWedge-same laws g h a (slice_index_or table a d) same some fits
+    (λ r held. sym (others r.x r.y (held-x laws g.n a r some fits held) (held-y laws g.n a r some fits held) (free r held)))
+    (right.each a before d)
+
+-- each triangle holds a point of the whole square, so nothing is asked of a table that is filled
+pub IsRightOff-whole : AddressLaws → (g : HeightField) (side : ℕ) (table : List Wedge) → side ≡ 2 ^ g.n →
+    IsRightOff g (area_of 0 0 side side) table
+IsRightOff-whole laws g side table is = λ a split clear.
+    let coarse : level_of a < 2 * g.n = split.coarse in
+    let w : IsWithin (2 ^ g.n) (corners_of g.n a) = laws.within g.n a in
+    let x : (corners_of g.n a).apex.x ≤ side = omega (arith, w.apex_x) in
+    let y : (corners_of g.n a).apex.y ≤ side = omega (arith, w.apex_y) in
+    absurd (clear (corners_of g.n a).apex (apex-passes laws g.n a split.low (omega arith))
+    (made-area (area_of 0 0 side side) (corners_of g.n a).apex.x (corners_of g.n a).apex.y
+    (record { left = omega arith; right = x; bottom = omega arith; top = y })))
+
+-- the same after one height was set
+pub IsRightOff-set : AddressLaws → (g h : HeightField) (area : Area) (one two : List Wedge) (x y : ℕ) → area ≡ area_of x y x y →
+    two ≡ one → h.n ≡ g.n → IsTable g one → ((i j : ℕ) → i ≤ 2 ^ g.n → j ≤ 2 ^ g.n → (i ≡ x → j ≡ y → ⊥) →
+    height_at g.n h.heights i j ≡ height_at g.n g.heights i j) → IsRightOff h area two
+IsRightOff-set laws g h area one two x y is same_table same right others =
+    let At : Area → Type 0 = λ a. IsRightOff h a two in
+    let Of : List Wedge → Type 0 = λ t. IsRightOff h (area_of x y x y) t in
+    subst At (sym is) (subst Of (sym same_table) (IsRightOff-edited laws g h (area_of x y x y) one (sym same) right
+    (λ i j i_in j_in out. others i j i_in j_in (λ at_x at_y. out (made-area (area_of x y x y) i j
+    (record { left = omega arith; right = omega arith; bottom = omega arith; top = omega arith }))))))
+
+-- the same after a row was put
+pub IsRightOff-row : AddressLaws → (g h : HeightField) (area : Area) (one two : List Wedge) (x y count last : ℕ) →
+    area ≡ area_of x y last y → last + 1 ≡ x + count → two ≡ one → h.n ≡ g.n → IsTable g one →
+    ((i j : ℕ) → i ≤ 2 ^ g.n → j ≤ 2 ^ g.n → (j ≡ y → x ≤ i → i < x + count → ⊥) →
+    height_at g.n h.heights i j ≡ height_at g.n g.heights i j) → IsRightOff h area two
+IsRightOff-row laws g h area one two x y count last is ends same_table same right others =
+    let At : Area → Type 0 = λ a. IsRightOff h a two in
+    let Of : List Wedge → Type 0 = λ t. IsRightOff h (area_of x y last y) t in
+    subst At (sym is) (subst Of (sym same_table) (IsRightOff-edited laws g h (area_of x y last y) one (sym same) right
+    (λ i j i_in j_in out. others i j i_in j_in (λ at_y from to. out (made-area (area_of x y last y) i j
+    (record { left = omega arith; right = omega arith; bottom = omega arith; top = omega arith }))))))
+
+-- the same after an area was raised
+pub IsRightOff-area : AddressLaws → (g h : HeightField) (area : Area) (one two : List Wedge) → two ≡ one → h.n ≡ g.n →
+    IsTable g one → ((i j : ℕ) → i ≤ 2 ^ g.n → j ≤ 2 ^ g.n → (is_in_area area i j ≡ true → ⊥) →
+    height_at g.n h.heights i j ≡ height_at g.n g.heights i j) → IsRightOff h area two
+IsRightOff-area laws g h area one two same_table same right others =
+    let Of : List Wedge → Type 0 = λ t. IsRightOff h area t in
+    subst Of (sym same_table) (IsRightOff-edited laws g h area one (sym same) right others)

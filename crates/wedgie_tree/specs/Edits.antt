@@ -1,0 +1,58 @@
+-- Changes of heights, and the triangles that they reach. This project's own words.
+-- Words: area_of, placed_at, with_row, is_in_row, IsInRectangle, SharesPoint, MeetsArea, overlaps, IsClearOf, AgreesOn.
+use Rattle.std.specs.Prelude.{◌≡◌, ℕ, ◌+◌, ◌-◌, ◌^◌, ◌/◌, ◌%◌, ◌≤◌, true, Bool, ◌&&◌, nat_le, nat_lt, nat_eq, if◌then◌else◌, List, length, map, slice_index}
+use Rattle.std.specs.List.{enumerate_from}
+use Rattle.mesh_defs.specs.declared.point.Point.{Point}
+use Rattle.mesh_defs.specs.declared.point.Corners.{Corners}
+use Rattle.mesh_defs.specs.HeightField.{HeightField, side_of}
+use Rattle.mesh_defs.specs.Thickness.{height_of}
+use Rattle.mesh_defs.specs.BoundingBox.{holds_point, least_of_3, greatest_of_3}
+use Rattle.mesh_defs.specs.State.{Area, is_in_area}
+
+-- the area of columns x0 to x1 and rows y0 to y1
+abbrev pub area_of : ℕ → ℕ → ℕ → ℕ → Area
+area_of left low right high = record { x0 = left; y0 = low; x1 = right; y1 = high }
+
+-- the point (i, j) is one of this many from (x, y) to the right
+abbrev pub is_in_row : ℕ → ℕ → ℕ → ℕ → ℕ → Bool
+is_in_row x y count i j = nat_eq j y && nat_le x i && nat_lt i (x + count)
+
+-- for a place in file order and its height: the height there after these stand from (x, y) to the right
+abbrev pub placed_at : ℕ → ℕ → ℕ → List ℕ → ℕ × ℕ → ℕ
+placed_at n x y row entry =
+    let column : ℕ = entry.0 % side_of n in
+    if is_in_row x y (length row) column (2 ^ n - entry.0 / side_of n) then slice_index row (column - x) else entry.1
+
+-- all heights in file order, with a row of heights from the point (x, y) to the right
+abbrev pub with_row : HeightField → ℕ → ℕ → List ℕ → List ℕ
+with_row field x y row = map (placed_at field.n x y row) (enumerate_from 0 field.heights)
+
+-- the point lies in the bounding rectangle of these corners
+pub record IsInRectangle (c : Corners) (p : Point) : Type 0 where
+  pub left : least_of_3 c.apex.x c.v0.x c.v1.x ≤ p.x
+  pub right : p.x ≤ greatest_of_3 c.apex.x c.v0.x c.v1.x
+  pub bottom : least_of_3 c.apex.y c.v0.y c.v1.y ≤ p.y
+  pub top : p.y ≤ greatest_of_3 c.apex.y c.v0.y c.v1.y
+
+-- the bounding rectangle of these corners and the area have this grid point in common
+pub record SharesPoint (c : Corners) (area : Area) (p : Point) : Type 0 where
+  pub in_rectangle : IsInRectangle c p
+  pub in_area : is_in_area area p.x p.y ≡ true
+
+-- the bounding rectangle of these corners and the area share a grid point
+abbrev pub MeetsArea : Corners → Area → Type 0
+MeetsArea c area = (p : Point) × SharesPoint c area p
+
+-- the columns of the two overlap, and so do the rows
+abbrev pub overlaps : Corners → Area → Bool
+overlaps c area =
+    nat_le area.x0 (greatest_of_3 c.apex.x c.v0.x c.v1.x) && (nat_le (least_of_3 c.apex.x c.v0.x c.v1.x) area.x1
+    && (nat_le area.y0 (greatest_of_3 c.apex.y c.v0.y c.v1.y) && nat_le (least_of_3 c.apex.y c.v0.y c.v1.y) area.y1))
+
+-- triangle a holds no point of the area
+abbrev pub IsClearOf : ℕ → Area → ℕ → Type 0
+IsClearOf n area a = (r : Point) → holds_point n a r ≡ true → is_in_area area r.x r.y ≡ true → ⊥
+
+-- each point that triangle a holds has one height in both lists
+abbrev pub AgreesOn : ℕ → List ℕ → List ℕ → ℕ → Type 0
+AgreesOn n heights others a = (r : Point) → holds_point n a r ≡ true → height_of n heights r ≡ height_of n others r
