@@ -10,3 +10,4 @@ pub mod Ranking
 pub mod Greedy
 pub mod MeshText
 pub mod BestMesh
+pub mod State
