@@ -36,22 +36,22 @@ left {A} test x y e = ap (λ (v : Bool). if v then x else y) e
 fault-passed : (number : ℕ) (range : Range) (ranges : List Range) (field : List ℕ) (fields : List (List ℕ)) (v : ℤ) → signed_in field ≡ Some v → is_within range v ≡ true
     → fields_fault number (range ∷ ranges) (field ∷ fields) ≡ fields_fault (number + 1) ranges fields
 fault-passed number range ranges field fields v is within =
-    ap (λ (r : Result ℤ ScriptFault). elim r as (λ _. Option ScriptFault) [ | Err fault ↦ Some fault | Ok w ↦ fields_fault (number + 1) ranges fields ])
-      (ap (field_number range number) is ∙ chosen (is_within range v) (Ok v) (Err (OutOfRange number)) within)
+    ap (λ (r : Result ℤ ScriptFault). elim r as (λ _. Option ScriptFault) [ Err fault ↦ Some fault | Ok w ↦ fields_fault (number + 1) ranges fields ])
+    (ap (field_number range number) is ∙ chosen (is_within range v) (Ok v) (Err (OutOfRange number)) within)
 
 -- a field that is no number
 fault-no_number : (number : ℕ) (range : Range) (ranges : List Range) (field : List ℕ) (fields : List (List ℕ)) → signed_in field ≡ None
     → fields_fault number (range ∷ ranges) (field ∷ fields) ≡ Some (BadNumber number)
 fault-no_number number range ranges field fields none =
-    ap (λ (r : Result ℤ ScriptFault). elim r as (λ _. Option ScriptFault) [ | Err fault ↦ Some fault | Ok w ↦ fields_fault (number + 1) ranges fields ])
-      (ap (field_number range number) none)
+    ap (λ (r : Result ℤ ScriptFault). elim r as (λ _. Option ScriptFault) [ Err fault ↦ Some fault | Ok w ↦ fields_fault (number + 1) ranges fields ])
+    (ap (field_number range number) none)
 
 -- a field whose number is out of its range
 fault-outside : (number : ℕ) (range : Range) (ranges : List Range) (field : List ℕ) (fields : List (List ℕ)) (v : ℤ) → signed_in field ≡ Some v → is_within range v ≡ false
     → fields_fault number (range ∷ ranges) (field ∷ fields) ≡ Some (OutOfRange number)
 fault-outside number range ranges field fields v is outside =
-    ap (λ (r : Result ℤ ScriptFault). elim r as (λ _. Option ScriptFault) [ | Err fault ↦ Some fault | Ok w ↦ fields_fault (number + 1) ranges fields ])
-      (ap (field_number range number) is ∙ left (is_within range v) (Ok v) (Err (OutOfRange number)) outside)
+    ap (λ (r : Result ℤ ScriptFault). elim r as (λ _. Option ScriptFault) [ Err fault ↦ Some fault | Ok w ↦ fields_fault (number + 1) ranges fields ])
+    (ap (field_number range number) is ∙ left (is_within range v) (Ok v) (Err (OutOfRange number)) outside)
 
 -- the first fault of fields is that of the first field that fails
 fault-of_fails : (number : ℕ) (ranges : List Range) (fields : List (List ℕ)) (fault : ScriptFault) → FailsFirst number ranges fields fault → fields_fault number ranges fields ≡ Some fault
@@ -85,13 +85,13 @@ come-later number range ranges field fields v is within (Some fault) later = Fai
 -- the same, for what the first field is
 fields-come_first : (number : ℕ) (range : Range) (ranges : List Range) (field : List ℕ) (fields : List (List ℕ)) (read : Option ℤ) → signed_in field ≡ read
     → FieldsCome (number + 1) ranges fields (fields_fault (number + 1) ranges fields)
-    → FieldsCome number (range ∷ ranges) (field ∷ fields) (elim (field_number range number read) as (λ _. Option ScriptFault) [ | Err fault ↦ Some fault | Ok w ↦ fields_fault (number + 1) ranges fields ])
+    → FieldsCome number (range ∷ ranges) (field ∷ fields) (elim (field_number range number read) as (λ _. Option ScriptFault) [ Err fault ↦ Some fault | Ok w ↦ fields_fault (number + 1) ranges fields ])
 fields-come_first number range ranges field fields None is more = IsNoNumber number range ranges field fields is
 fields-come_first number range ranges field fields (Some v) is more =
-    choose (λ (r : Result ℤ ScriptFault). FieldsCome number (range ∷ ranges) (field ∷ fields) (elim r as (λ _. Option ScriptFault) [ | Err fault ↦ Some fault | Ok w ↦ fields_fault (number + 1) ranges fields ]))
-      (is_within range v) (Ok v) (Err (OutOfRange number))
-      (λ within. come-later number range ranges field fields v is within (fields_fault (number + 1) ranges fields) more)
-      (λ outside. IsOutside number range ranges field fields v is outside)
+    choose (λ (r : Result ℤ ScriptFault). FieldsCome number (range ∷ ranges) (field ∷ fields) (elim r as (λ _. Option ScriptFault) [ Err fault ↦ Some fault | Ok w ↦ fields_fault (number + 1) ranges fields ]))
+    (is_within range v) (Ok v) (Err (OutOfRange number))
+    (λ within. come-later number range ranges field fields v is within (fields_fault (number + 1) ranges fields) more)
+    (λ outside. IsOutside number range ranges field fields v is outside)
 
 fields-come : (number : ℕ) (ranges : List Range) (fields : List (List ℕ)) → length fields ≡ length ranges → FieldsCome number ranges fields (fields_fault number ranges fields)
 fields-come number [] [] count = NoneIsLeft
@@ -202,10 +202,10 @@ why-fails limits bytes TooManyPlanes of_number fails = absurd of_number
 why-sound : (limits : Limits) (bytes : List ℕ) (word : Command) (fields : List (List ℕ)) → IsSound limits bytes word fields → Why limits bytes (counted_line limits (Ok (line_with word fields)))
 why-sound limits bytes command.Frame fields sound =
     choose (Why limits bytes) (ltb limits.frames MOST_FRAMES) (Ok Frame) (Err TooManyFrames)
-      (λ e. (command.Frame, fields, sound, ltb-true limits.frames MOST_FRAMES e, refl)) (λ e. (fields, sound, ltb-false limits.frames MOST_FRAMES e))
+    (λ e. (command.Frame, fields, sound, ltb-true limits.frames MOST_FRAMES e, refl)) (λ e. (fields, sound, ltb-false limits.frames MOST_FRAMES e))
 why-sound limits bytes command.Plane fields sound =
     choose (Why limits bytes) (ltb limits.planes MOST_PLANES) (Ok (line_with command.Plane fields)) (Err TooManyPlanes)
-      (λ e. (command.Plane, fields, sound, ltb-true limits.planes MOST_PLANES e, refl)) (λ e. (fields, sound, ltb-false limits.planes MOST_PLANES e))
+    (λ e. (command.Plane, fields, sound, ltb-true limits.planes MOST_PLANES e, refl)) (λ e. (fields, sound, ltb-false limits.planes MOST_PLANES e))
 why-sound limits bytes command.Camera fields sound = (command.Camera, fields, sound, tt, refl)
 why-sound limits bytes command.Set fields sound = (command.Set, fields, sound, tt, refl)
 why-sound limits bytes command.NoPlanes fields sound = (command.NoPlanes, fields, sound, tt, refl)
@@ -214,7 +214,7 @@ why-sound limits bytes command.Raise fields sound = (command.Raise, fields, soun
 
 why-faults : (limits : Limits) (bytes : List ℕ) (word : Command) (fields : List (List ℕ)) (fault : Option ScriptFault) → HasFields limits bytes word fields
     → FieldsCome 1 (ranges_of limits word fields) fields fault
-    → Why limits bytes (counted_line limits (elim fault as (λ _. Result Line ScriptFault) [ | Some why ↦ Err why | None ↦ Ok (line_with word fields) ]))
+    → Why limits bytes (counted_line limits (elim fault as (λ _. Result Line ScriptFault) [ Some why ↦ Err why | None ↦ Ok (line_with word fields) ]))
 why-faults limits bytes word fields None counted within = why-sound limits bytes word fields (record { counted = counted; within = within })
 why-faults limits bytes word fields (Some fault) counted fails =
     why-fails limits bytes fault (fails-number 1 (ranges_of limits word fields) fields fault fails) (word, fields, counted, fails)
@@ -228,16 +228,16 @@ why-word limits bytes first fields (Some word) short cut other is =
     let begins : HasCommand limits bytes word fields = record { short = short; cut = cut ∙ ap (λ w. w ∷ fields) same } in
     let count = ranges-count limits word fields in
     choose (Why limits bytes) (eqb (length fields) (length (ranges_of limits word fields))) (counted_line limits (line_of limits word fields)) (Err WrongFields)
-      (λ e. let as_many = eqb-true (length fields) (length (ranges_of limits word fields)) e in
-        why-faults limits bytes word fields (fields_fault 1 (ranges_of limits word fields) fields) (record { begins = begins; count = as_many ∙ count })
-          (fields-come 1 (ranges_of limits word fields) fields as_many))
-      (λ e. (word, fields, begins, (λ same. eqb-false (length fields) (length (ranges_of limits word fields)) e (same ∙ sym count))))
+    (λ e. let as_many = eqb-true (length fields) (length (ranges_of limits word fields)) e in
+    why-faults limits bytes word fields (fields_fault 1 (ranges_of limits word fields) fields) (record { begins = begins; count = as_many ∙ count })
+    (fields-come 1 (ranges_of limits word fields) fields as_many))
+    (λ e. (word, fields, begins, (λ same. eqb-false (length fields) (length (ranges_of limits word fields)) e (same ∙ sym count))))
 
 why-fields : (limits : Limits) (bytes : List ℕ) (fields : List (List ℕ)) → IsShort limits bytes → line_fields bytes ≡ fields → Why limits bytes (fields_line limits fields)
 why-fields limits bytes [] short cut = (short, subst SaysNothing (sym cut) tt)
 why-fields limits bytes (first ∷ fields) short cut =
     choose (Why limits bytes) (is_comment first) (Ok Blank) (checked_line limits (command_of first) fields)
-      (λ e. (short, subst SaysNothing (sym cut) e)) (λ e. why-word limits bytes first fields (command_of first) short cut e refl)
+    (λ e. (short, subst SaysNothing (sym cut) e)) (λ e. why-word limits bytes first fields (command_of first) short cut e refl)
 
 -- each answer has its cause
 pub why : (limits : Limits) (bytes : List ℕ) → Why limits bytes (line_in limits bytes)
@@ -245,8 +245,8 @@ unfolding line_in
 why limits bytes =
     choose (Why limits bytes) (ltb MOST_LINES limits.line) _ _ (λ e. ltb-true MOST_LINES limits.line e)
     (λ e. let line = ltb-false MOST_LINES limits.line e in
-      choose (Why limits bytes) (ltb MOST_LINE_BYTES (length bytes)) _ _ (λ d. (line, ltb-true MOST_LINE_BYTES (length bytes) d))
-      (λ d. why-fields limits bytes (line_fields bytes) (record { in_script = line; few = ltb-false MOST_LINE_BYTES (length bytes) d }) refl))
+    choose (Why limits bytes) (ltb MOST_LINE_BYTES (length bytes)) _ _ (λ d. (line, ltb-true MOST_LINE_BYTES (length bytes) d))
+    (λ d. why-fields limits bytes (line_fields bytes) (record { in_script = line; few = ltb-false MOST_LINE_BYTES (length bytes) d }) refl))
 
 -- the cause of an answer
 pub cause : (limits : Limits) (bytes : List ℕ) (answer : Result Line ScriptFault) → line_in limits bytes ≡ answer → Why limits bytes answer
@@ -280,15 +280,15 @@ in-fields : (limits : Limits) (bytes : List ℕ) (word : Command) (fields : List
 in-fields limits bytes word fields counted =
     in-command limits bytes word fields counted.begins
     ∙ chosen (eqb (length fields) (length (ranges_of limits word fields))) _ _
-      (eq-eqb (length fields) (length (ranges_of limits word fields)) (counted.count ∙ sym (ranges-count limits word fields)))
+    (eq-eqb (length fields) (length (ranges_of limits word fields)) (counted.count ∙ sym (ranges-count limits word fields)))
 
 -- and where they all pass, the counts of planes and frames
 in-sound : (limits : Limits) (bytes : List ℕ) (word : Command) (fields : List (List ℕ)) → IsSound limits bytes word fields
     → line_in limits bytes ≡ counted_line limits (Ok (line_with word fields))
 in-sound limits bytes word fields sound =
     in-fields limits bytes word fields sound.counted
-    ∙ ap (λ (o : Option ScriptFault). counted_line limits (elim o as (λ _. Result Line ScriptFault) [ | Some fault ↦ Err fault | None ↦ Ok (line_with word fields) ]))
-      (fault-of_within 1 (ranges_of limits word fields) fields sound.within)
+    ∙ ap (λ (o : Option ScriptFault). counted_line limits (elim o as (λ _. Result Line ScriptFault) [ Some fault ↦ Err fault | None ↦ Ok (line_with word fields) ]))
+    (fault-of_within 1 (ranges_of limits word fields) fields sound.within)
 
 counted-accepts : (limits : Limits) (word : Command) (fields : List (List ℕ)) → IsCounted limits word → counted_line limits (Ok (line_with word fields)) ≡ Ok (line_with word fields)
 counted-accepts limits command.Frame fields few = chosen (ltb limits.frames MOST_FRAMES) _ _ (lt-ltb limits.frames MOST_FRAMES few)
@@ -308,8 +308,8 @@ in-accepted limits bytes line (word, fields, sound, few, is) =
 in-fails : (limits : Limits) (bytes : List ℕ) (fault : ScriptFault) → Fails limits bytes fault → line_in limits bytes ≡ Err fault
 in-fails limits bytes fault (word, fields, counted, fails) =
     in-fields limits bytes word fields counted
-    ∙ ap (λ (o : Option ScriptFault). counted_line limits (elim o as (λ _. Result Line ScriptFault) [ | Some why ↦ Err why | None ↦ Ok (line_with word fields) ]))
-      (fault-of_fails 1 (ranges_of limits word fields) fields fault fails)
+    ∙ ap (λ (o : Option ScriptFault). counted_line limits (elim o as (λ _. Result Line ScriptFault) [ Some why ↦ Err why | None ↦ Ok (line_with word fields) ]))
+    (fault-of_fails 1 (ranges_of limits word fields) fields fault fails)
 
 in-nothing : (limits : Limits) (fields : List (List ℕ)) → SaysNothing fields → fields_line limits fields ≡ Ok Blank
 in-nothing limits [] nothing = refl
@@ -339,7 +339,7 @@ because limits bytes (Err UnknownCommand) (first, fields, short, cut, not_commen
 because limits bytes (Err WrongFields) (word, fields, begins, differ) =
     in-command limits bytes word fields begins
     ∙ left (eqb (length fields) (length (ranges_of limits word fields))) _ _
-      (not-same (length fields) (length (ranges_of limits word fields)) (λ same. differ (same ∙ ranges-count limits word fields)))
+    (not-same (length fields) (length (ranges_of limits word fields)) (λ same. differ (same ∙ ranges-count limits word fields)))
 because limits bytes (Err (BadNumber number)) w = in-fails limits bytes (BadNumber number) w
 because limits bytes (Err (OutOfRange number)) w = in-fails limits bytes (OutOfRange number) w
 because limits bytes (Err TooManyPlanes) (fields, sound, many) =
@@ -364,9 +364,9 @@ unfolding line_in
 settled limits bytes more long =
     let longer : MOST_LINE_BYTES < length (bytes ++ more) = omega (arith, long, length-append bytes more) in
     ap (λ (v : Bool). if ltb MOST_LINES limits.line then Err TooManyLines else (if v then Err LineTooLong else fields_line limits (line_fields (bytes ++ more))))
-      (lt-ltb MOST_LINE_BYTES (length (bytes ++ more)) longer)
+    (lt-ltb MOST_LINE_BYTES (length (bytes ++ more)) longer)
     ∙ sym (ap (λ (v : Bool). if ltb MOST_LINES limits.line then Err TooManyLines else (if v then Err LineTooLong else fields_line limits (line_fields bytes)))
-      (lt-ltb MOST_LINE_BYTES (length bytes) long))
+    (lt-ltb MOST_LINE_BYTES (length bytes) long))
 
 -- Ranges
 
@@ -401,16 +401,23 @@ between-sizes low high v within =
 lies : (limits : Limits) (bytes : List ℕ) (word : Command) (fields : List (List ℕ)) → AreWithin (ranges_of limits word fields) fields → IsCounted limits word
     → LiesInRange limits (line_with word fields)
 lies limits bytes command.Frame fields within few = few
-lies limits bytes command.Camera fields within few =
-    (around-size (2 ^ 30) (number_at fields 0) (within-at _ fields 0 within (lit< tt)), around-size (2 ^ 30) (number_at fields 1) (within-at _ fields 1 within (lit< tt)),
-      around-size (2 ^ 30) (number_at fields 2) (within-at _ fields 2 within (lit< tt)))
-lies limits bytes command.Set fields within few =
-    ((between-sizes 0 (2 ^ limits.n) (number_at fields 0) (within-at _ fields 0 within (lit< tt))).1,
-      (between-sizes 0 (2 ^ limits.n) (number_at fields 1) (within-at _ fields 1 within (lit< tt))).1,
-      (between-sizes 0 limits.maxval (number_at fields 2) (within-at _ fields 2 within (lit< tt))).1)
-lies limits bytes command.Plane fields within few =
-    (around-size (2 ^ 20) (number_at fields 0) (within-at _ fields 0 within (lit< tt)), around-size (2 ^ 20) (number_at fields 1) (within-at _ fields 1 within (lit< tt)),
-      around-size (2 ^ 20) (number_at fields 2) (within-at _ fields 2 within (lit< tt)), around-size (2 ^ 50) (number_at fields 3) (within-at _ fields 3 within (lit< tt)), few)
+lies limits bytes command.Camera fields within few = (
+  around-size (2 ^ 30) (number_at fields 0) (within-at _ fields 0 within (lit< tt)),
+  around-size (2 ^ 30) (number_at fields 1) (within-at _ fields 1 within (lit< tt)),
+  around-size (2 ^ 30) (number_at fields 2) (within-at _ fields 2 within (lit< tt)),
+)
+lies limits bytes command.Set fields within few = (
+  (between-sizes 0 (2 ^ limits.n) (number_at fields 0) (within-at _ fields 0 within (lit< tt))).1,
+  (between-sizes 0 (2 ^ limits.n) (number_at fields 1) (within-at _ fields 1 within (lit< tt))).1,
+  (between-sizes 0 limits.maxval (number_at fields 2) (within-at _ fields 2 within (lit< tt))).1,
+)
+lies limits bytes command.Plane fields within few = (
+  around-size (2 ^ 20) (number_at fields 0) (within-at _ fields 0 within (lit< tt)),
+  around-size (2 ^ 20) (number_at fields 1) (within-at _ fields 1 within (lit< tt)),
+  around-size (2 ^ 20) (number_at fields 2) (within-at _ fields 2 within (lit< tt)),
+  around-size (2 ^ 50) (number_at fields 3) (within-at _ fields 3 within (lit< tt)),
+  few,
+)
 lies limits bytes command.NoPlanes fields within few = tt
 lies limits bytes command.Budget fields within few =
     let size = between-sizes LEAST_BUDGET limits.budget (number_at fields 0) (within-at _ fields 0 within (lit< tt)) in

@@ -14,6 +14,8 @@ mod limits;
 mod line;
 mod reading;
 mod script_fault;
+#[cfg(test)]
+mod tests;
 
 pub use laws::{field_laws, line_laws};
 pub use limits::{

@@ -8,7 +8,7 @@ pub returns-then-separates-clause-cut : goal.returns-then-separates-clause-cut
 returns-then-separates-clause-cut c =
     let gap = sym c.separates.ensures ∙ c.if-separates.true in
     fields-cut c.args.bytes.now c.loop-i.i (positive-gap c.args.bytes.now c.loop-i.i c.loop-i-test.true gap c.requires.begins) (omega arith) c.loop-i.invariant
-      (begins-drop c.args.bytes.now c.loop-i.i true c.loop-i-test.true gap)
+    (begins-drop c.args.bytes.now c.loop-i.i true c.loop-i-test.true gap)
 
 pub loop-i-preserved : goal.loop-i-preserved
 loop-i-preserved c =
