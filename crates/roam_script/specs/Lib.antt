@@ -1,0 +1,4 @@
+pub mod FaultNumber
+pub mod LineText
+pub mod Taking
+pub mod Laws

@@ -1,0 +1,27 @@
+//! What the lines of a script are, in the words of the format.
+
+ghost use Rattle.roam_script.specs.Laws.{LateLinesAreTooMany, LongLinesAreTooLong, LongLinesAreSettled, BlankLinesSayNothing, OtherWordsAreUnknown, OtherCountsAreWrong, BadNumbersAreRefused, OutsideNumbersAreRefused, SeventhPlanesAreTooMany, LateFramesAreTooMany, SoundLinesAreAccepted, AcceptedLinesLieInRange, CommandsAreWords, FieldsAreRuns, LinesAreCut, LastCarriageReturnsAreDropped};
+
+/// States what `line_in` answers: where each refusal comes, and which lines are accepted. It does nothing.
+pub fn line_laws()
+    ensures too_many_lines { LateLinesAreTooMany }
+    ensures line_too_long { LongLinesAreTooLong }
+    ensures settled { LongLinesAreSettled }
+    ensures blank { BlankLinesSayNothing }
+    ensures unknown_command { OtherWordsAreUnknown }
+    ensures wrong_fields { OtherCountsAreWrong }
+    ensures bad_number { BadNumbersAreRefused }
+    ensures out_of_range { OutsideNumbersAreRefused }
+    ensures too_many_planes { SeventhPlanesAreTooMany }
+    ensures too_many_frames { LateFramesAreTooMany }
+    ensures accepted { SoundLinesAreAccepted }
+    ensures ranges { AcceptedLinesLieInRange }
+{}
+
+/// States what the fields of a line are, and which of them are commands. It does nothing.
+pub fn field_laws()
+    ensures runs { FieldsAreRuns }
+    ensures cut { LinesAreCut }
+    ensures commands { CommandsAreWords }
+    ensures carriage_return { LastCarriageReturnsAreDropped }
+{}
