@@ -16,9 +16,9 @@ mod shape;
 mod slot;
 mod tri;
 
+pub use bintree_laws::{corner_laws, level_laws, mate_laws};
 pub use blocked::Blocked;
 pub use cuboid::Cuboid;
-pub use bintree_laws::{corner_laws, level_laws, mate_laws};
 pub use laws::{rank_laws, rank_order_laws};
 pub use mesh_defs::{Corners, Point};
 pub use rank::Rank;
