@@ -146,6 +146,19 @@ if [ -x "$single" ]; then
   echo "| the wedges of a rough grid, n = 11, the filling of the grid with it | $calls call | $building s | | under 0.5 s |"
   read -r _ _ calls _ found _ seconds <<<"$(fastest ranks)"
   echo "| the rank of every triangle of that grid without planes, n = 11 | $calls calls, $found positive | $(awk -v s="$seconds" -v b="$building" -v n="$calls" 'BEGIN { printf "%.1f", 1000000000 * (s - b) / n }') ns a call | | under 60 ns |"
+  # The pool of linked triangles: made, and filled level by level; then emptied, planned over, or refined by force.
+  new=$(seconds_of pool_new)
+  echo "| the greatest pool made, n = 11 | 1,048,576 leaves | $(awk -v s="$new" 'BEGIN { printf "%.1f", 100 * s }') ms | | under 15 ms |"
+  read -r _ _ splits _ _ _ filling <<<"$(fastest pool_split)"
+  # nanoseconds CALLS SECONDS LESS
+  nanoseconds() { awk -v n="$1" -v s="$2" -v less="$3" 'BEGIN { printf "%.0f ns", 1e9 * (s - less) / n }'; }
+  echo "| a diamond split, the pool filled level by level | $splits diamonds | $(nanoseconds "$splits" "$filling" "$(awk -v s="$new" 'BEGIN { print s / 10 }')") | | |"
+  read -r _ _ calls _ _ _ seconds <<<"$(fastest pool_merge)"
+  echo "| a diamond merged, the full pool emptied | $((calls - splits)) diamonds | $(nanoseconds "$((calls - splits))" "$seconds" "$filling") | | |"
+  read -r _ _ calls _ _ _ seconds <<<"$(fastest pool_plan)"
+  echo "| the forced chain of each leaf of the full pool | $((calls - splits)) leaves | $(nanoseconds "$((calls - splits))" "$seconds" "$filling") | | |"
+  read -r _ _ calls _ diamonds _ seconds <<<"$(fastest pool_carry_out)"
+  echo "| a random leaf of a pool that fills split by force, the walk to it with it | $calls leaves, $((diamonds - 1048575)) diamonds | $(nanoseconds "$((diamonds - 1048575))" "$seconds" 0) a diamond | | |"
 else
   echo "bench/run.sh: $single is not built, so single calls are not timed; rt ci builds it" >&2
 fi

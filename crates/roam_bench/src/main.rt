@@ -6,8 +6,10 @@
 
 #![tactic(auto)]
 
+mod pools;
 mod reading;
 
+use crate::pools::{Work, filled, made, refined};
 use crate::reading::{Kernel, kernels, plain_text, raw_text, readings, text_alone};
 use bintree_addr::Tri;
 use cull_marks::Planes;
@@ -30,6 +32,12 @@ fn main(rt: HostRuntime) -> io::Result<()> {
             "forced" => forced(rt.alloc()),
             "wedges" => wedges(rt.alloc()),
             "ranks" => ranks(rt.alloc()),
+            "pool_new" => made(rt.alloc()),
+            "pool_split" => filled(rt.alloc(), Work::Fill),
+            "pool_merge" => filled(rt.alloc(), Work::FillAndEmpty),
+            "pool_plan" => filled(rt.alloc(), Work::FillAndPlan),
+            "pool_walk" => refined(rt.alloc(), false),
+            "pool_carry_out" => refined(rt.alloc(), true),
             "raw_text" => text_alone(raw_text(rt.alloc())),
             "raw" => readings(rt.alloc(), raw_text(rt.alloc())),
             "plain_text" => text_alone(plain_text(rt.alloc())),
