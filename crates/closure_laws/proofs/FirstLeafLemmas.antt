@@ -1,5 +1,5 @@
 -- Closed sets against a ranking: the fronts that a set holds, and its first leaf in rank.
-use Rattle.std.proofs.Common.{◌≡◌, ℕ, zero, suc, ◌+◌, ◌*◌, ◌<◌, ◌≤◌, ◌⊎◌, inl, inr, Bool, IsTrue, List, [], ◌∷◌, length, take, get_or, All, Contains, None, slice_get, refl, sym, ◌∙◌, ap, subst, arith, ⊎_elim}
+use Rattle.std.proofs.Common.{◌≡◌, ℕ, ◌+◌, ◌*◌, ◌<◌, ◌≤◌, ◌⊎◌, inl, inr, Bool, IsTrue, List, length, take, get_or, All, Contains, refl, sym, ◌∙◌, ap, subst, arith, ⊎_elim}
 use Rattle.std.proofs.lemmas.Bool.{cases_lt, cases_eq}
 use Rattle.std.proofs.lemmas.List.Elements.{All-contains}
 use Rattle.mesh_defs.specs.Triangle.{level_of, IsAddress, IsSplittable}
@@ -17,12 +17,6 @@ use Rattle.closure_laws.proofs.SetListLemmas.{All-in}
 use Rattle.closure_laws.proofs.DiamondLemmas.{leaf_outside}
 
 -- fronts
-
--- nothing is read past the end
-pub slice_get-past : (i : ℕ) (xs : List ℕ) → length xs ≤ i → slice_get xs i ≡ None
-slice_get-past i [] past = refl
-slice_get-past zero (x ∷ xs) past = absurd (omega arith)
-slice_get-past (suc i) (x ∷ xs) past = slice_get-past i xs (omega arith)
 
 -- a set that holds the first k entries holds the front of k
 pub front_subset : (has : ℕ → Bool) (xs : List ℕ) (k : ℕ) → HoldsBelow has xs k → IsSubset (among (take k xs)) has

@@ -1,6 +1,7 @@
 -- What the loop over bounds asks for straddles.
 use Rattle.std.proofs.Common.{◌≡◌, ℕ, ◌+◌, ◌-◌, ◌<◌, ◌≤◌, inl, inr, List, length, get_or, Contains, refl, sym, subst, arith, ⊎_elim}
 use Rattle.std.proofs.lemmas.Bool.{cases_lt, cases_eq, cases_Bool, both_ways}
+use Rattle.std.proofs.lemmas.Option.{slice_get_past}
 use Rattle.std.proofs.lemmas.List.Elements.{All-contains}
 use Rattle.mesh_defs.specs.ClosedSet.{leaves_of, among}
 use Rattle.mesh_defs.specs.Ranking.{IsBefore}
@@ -11,7 +12,7 @@ use Rattle.closure_laws.proofs.RankLemmas.{HoldsBelow, HasMissing, first_missing
 use Rattle.closure_laws.specs.Order.{IsNoLater, RanksNoLater}
 use Rattle.closure_laws.specs.Diamond.{IsInDiamond}
 use Rattle.closure_laws.proofs.OrderLemmas.{before-no_later, no_later_from, no_later_trans, no_later_before, ranks_no_later}
-use Rattle.closure_laws.proofs.FirstLeafLemmas.{slice_get-past, first_leaf_or_none, leaf_above, exceeds}
+use Rattle.closure_laws.proofs.FirstLeafLemmas.{first_leaf_or_none, leaf_above, exceeds}
 use Rattle.frame_steps.specs.Steps.{leaf_count, IsMergeStep, Run, begin, split, merge}
 use Rattle.frame_steps.specs.Deferred.{IsMergedInRun, LeafStraddles, DiamondStraddles, after_first, after_merged, DeferredFrame, IsDeferredFrame}
 use Rattle.closure_laws.proofs.DiamondLemmas.{diamond_test, leaf_outside}
@@ -32,7 +33,7 @@ module _ (w : DeferredFrame) (is : IsDeferredFrame w) where
         let same : get_or w.ranking w.chosen 0 ≡ b = cc in
         subst (λ z. IsNoLater (key a) a (w.priority z) z) same (no_later_blocking less))
         (λ past.
-        let none = slice_get-past w.chosen w.ranking past in
+        let none = slice_get_past w.ranking w.chosen past in
         let e : ⊥ = cc in absurd e)
         (cases_lt w.chosen (length w.ranking));
   }
