@@ -1,0 +1,100 @@
+//! How one entry goes to its place among the others.
+//!
+//! In each of these the entry to be placed is held apart, and the clauses see it at `at`.
+
+ghost use Rattle.std.specs.Prelude.{◌≡◌, ◌+◌, ◌*◌, ◌^◌, ◌<◌, ◌≤◌, length, slice_set};
+ghost use Rattle.slot_heap.specs.Entries.{IsLinked, HasKeysOf};
+ghost use Rattle.slot_heap.specs.Order.{IsHeap, IsHeapButAt, IsNotBelow, IsNotAbove, IsLeastChild};
+
+use crate::entry::{Entry, is_less, store};
+
+/// The children of a node: four, so that the tree is half as deep as one of two.
+const ARITY: usize = 4;
+
+/// Moves an entry into a place whose old entry is gone, and from there to where its key belongs.
+#[inline]
+pub fn place<K: Copy + Ord>(
+    entries: &mut [Entry<K>],
+    places: &mut [u32],
+    at: usize,
+    entry: Entry<K>,
+)
+    requires in_heap { at < length entries.old }
+    requires few { length entries.old < 2 ^ 32 }
+    requires linked { IsLinked (slice_set entries.old at entry) (slice_set places.old entry.slot.0 at) }
+    requires order { IsHeapButAt K.cmp (slice_set entries.old at entry) at }
+    ensures linked { IsLinked entries.new places.new }
+    ensures order { IsHeap K.cmp entries.new }
+    ensures same { HasKeysOf (slice_set entries.old at entry) (slice_set places.old entry.slot.0 at)
+        entries.new places.new }
+{
+    if at > 0 && is_less(entry, entries[(at - 1) / ARITY]) {
+        rise(entries, places, at, entry);
+    } else {
+        sink(entries, places, at, entry);
+    }
+}
+
+/// Moves an entry up while its parent's key is greater.
+fn rise<K: Copy + Ord>(entries: &mut [Entry<K>], places: &mut [u32], mut at: usize, entry: Entry<K>)
+    requires in_heap { at < length entries.old }
+    requires few { length entries.old < 2 ^ 32 }
+    requires linked { IsLinked (slice_set entries.old at entry) (slice_set places.old entry.slot.0 at) }
+    requires order { IsHeapButAt K.cmp (slice_set entries.old at entry) at }
+    requires children { IsNotAbove K.cmp (slice_set entries.old at entry) at }
+    ensures linked { IsLinked entries.new places.new }
+    ensures order { IsHeap K.cmp entries.new }
+    ensures same { HasKeysOf (slice_set entries.old at entry) (slice_set places.old entry.slot.0 at)
+        entries.new places.new }
+{
+    while at > 0 {
+        let above = (at - 1) / ARITY;
+        let parent = entries[above];
+        if !is_less(entry, parent) {
+            break;
+        }
+        store(entries, places, at, parent);
+        at = above;
+    }
+    store(entries, places, at, entry);
+}
+
+/// Moves an entry down while a child's key is less.
+fn sink<K: Copy + Ord>(entries: &mut [Entry<K>], places: &mut [u32], mut at: usize, entry: Entry<K>)
+    requires in_heap { at < length entries.old }
+    requires few { length entries.old < 2 ^ 32 }
+    requires linked { IsLinked (slice_set entries.old at entry) (slice_set places.old entry.slot.0 at) }
+    requires order { IsHeapButAt K.cmp (slice_set entries.old at entry) at }
+    requires parent { IsNotBelow K.cmp (slice_set entries.old at entry) at }
+    ensures linked { IsLinked entries.new places.new }
+    ensures order { IsHeap K.cmp entries.new }
+    ensures same { HasKeysOf (slice_set entries.old at entry) (slice_set places.old entry.slot.0 at)
+        entries.new places.new }
+{
+    while ARITY * at + 1 < entries.len() {
+        let below = least_child(entries, at);
+        let child = entries[below];
+        if !is_less(child, entry) {
+            break;
+        }
+        store(entries, places, at, child);
+        at = below;
+    }
+    store(entries, places, at, entry);
+}
+
+/// The place of the child with the least key.
+fn least_child<K: Copy + Ord>(entries: &[Entry<K>], at: usize) -> usize
+    requires { 4 * at + 1 < length entries.now }
+    ensures { IsLeastChild K.cmp entries.now at result }
+{
+    let first = ARITY * at + 1;
+    let end = entries.len().min(first + ARITY);
+    let mut least = first;
+    for i in first + 1..end {
+        if is_less(entries[i], entries[least]) {
+            least = i;
+        }
+    }
+    least
+}
