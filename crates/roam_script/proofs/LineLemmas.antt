@@ -1,5 +1,5 @@
 -- Why a line is answered as it is: each answer of `line_in` with its cause, both ways.
-use Rattle.std.proofs.Common.{◌≡◌, ℕ, zero, suc, ◌+◌, ◌<◌, ◌≤◌, Bool, true, false, List, [], ◌∷◌, ◌++◌, length, Option, Some, None, Result, Ok, Err, ℤ, pos, refl, sym, ap, ◌∙◌, subst, arith, cond, eqb, ltb, length-append, ◌^◌, inl, inr, lit<}
+use Rattle.std.proofs.Common.{◌≡◌, ℕ, zero, suc, ◌+◌, ◌<◌, ◌≤◌, Bool, true, false, List, [], ◌∷◌, ◌++◌, length, Option, Some, None, Result, Ok, Err, ℤ, pos, refl, sym, ap, ◌∙◌, subst, arith, eqb, ltb, length-append, ◌^◌, inl, inr, lit<}
 use Rattle.std.specs.Prelude.{◌≢◌, ◌↔◌, ⊤, if◌then◌else◌, codes, bytes_eq, unwrap_or, unsigned_abs, ◌≤ℤ◌}
 use Rattle.std.proofs.lemmas.Bool.{ltb-true, ltb-false, lt-ltb, eqb-true, eqb-false, eq-eqb}
 use Rattle.std.proofs.lemmas.Bool.Decides.{leb_tells, eqb_tells}
@@ -7,14 +7,14 @@ use Rattle.std.proofs.lemmas.Slice.Eq.{bytes_eq-Decides}
 use Rattle.std.proofs.lemmas.Int.{ints}
 use Rattle.roam_num.specs.DecText.{signed_in}
 use Rattle.roam_script.specs.declared.limits.Limits.{Limits}
-use Rattle.roam_script.specs.declared.limits.TheConstants.{MOST_LINES, MOST_LINE_BYTES, MOST_FRAMES, MOST_PLANES, CAMERA_REACH, LEAST_BUDGET}
+use Rattle.roam_script.specs.declared.limits.TheConstants.{MOST_LINES, MOST_LINE_BYTES, MOST_FRAMES, MOST_PLANES, LEAST_BUDGET}
 use Rattle.roam_script.specs.declared.command.Command.{Command}
 use Rattle.roam_script.specs.declared.command.Command.TheVariants as command
 use Rattle.roam_script.specs.declared.line.Line.{Line}
 use Rattle.roam_script.specs.declared.line.Line.TheVariants.{Blank, Camera, Set, Frame, Plane, NoPlanes, Budget, Raise}
 use Rattle.roam_script.specs.declared.script_fault.ScriptFault.{ScriptFault}
 use Rattle.roam_script.specs.declared.script_fault.ScriptFault.TheVariants.{LineTooLong, UnknownCommand, WrongFields, BadNumber, OutOfRange, TooManyLines, TooManyFrames, TooManyPlanes}
-use Rattle.roam_script.specs.LineText.{without_last_cr, fields_of, command_of, Range, from_to, around, is_within, number_at, size_at, ranges_of, field_number, fields_fault, line_with, line_of, counted_line, checked_line, is_comment, fields_line, line_in}
+use Rattle.roam_script.specs.LineText.{command_of, Range, from_to, around, is_within, number_at, size_at, ranges_of, field_number, fields_fault, line_with, line_of, counted_line, checked_line, is_comment, fields_line, line_in}
 use Rattle.roam_script.specs.Laws.{line_fields, IsShort, SaysNothing, word_of, fields_behind, HasCommand, HasFields, AreWithin, NoneIsLeft, IsAndMore, FailsFirst, IsNoNumber, IsOutside, FailsLater, IsSound, IsCounted, LiesInRange}
 
 -- what holds of both branches of a choice, each under its test, holds of the choice

@@ -1,7 +1,7 @@
 -- What the line of some bytes is, and where each refusal comes, in the words of the format.
 -- Words: line_fields, IsShort, SaysNothing, word_of, fields_behind, HasCommand, AreWithin, FailsFirst, IsSound, IsCutInto,
 -- IsWithinSize, LiesInRange, and a law a word.
-use Rattle.std.specs.Prelude.{◌≡◌, ◌≢◌, ◌↔◌, ◌⊎◌, ⊤, ℕ, ◌+◌, ◌<◌, ◌≤◌, ◌^◌, IsTrue, Bool, true, false, List, [], ◌∷◌, ◌++◌, length, Option, Some, None, Result, Ok, Err, codes, ℤ, pos, unsigned_abs}
+use Rattle.std.specs.Prelude.{◌≡◌, ◌≢◌, ◌↔◌, ⊤, ℕ, ◌+◌, ◌<◌, ◌≤◌, ◌^◌, true, false, List, [], ◌∷◌, ◌++◌, length, Some, None, Ok, Err, codes, ℤ, unsigned_abs}
 use Rattle.std.specs.List.{All}
 use Rattle.roam_num.specs.DecText.{signed_in}
 use Rattle.roam_script.specs.declared.limits.Limits.{Limits}

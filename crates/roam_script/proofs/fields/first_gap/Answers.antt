@@ -1,6 +1,5 @@
-use Rattle.std.proofs.Common.{◌≡◌, ◌<◌, true, false, zero, length, take, drop, refl, sym, ap, ◌∙◌, arith}
+use Rattle.std.proofs.Common.{true, sym, ◌∙◌, arith}
 use Rattle.std.proofs.lemmas.List.Elements.{All-more}
-use Rattle.roam_script.specs.LineText.{is_gap, begins_with_gap}
 use Rattle.roam_script.proofs.FieldLemmas.{IsOther, fields-cut, fields-whole, begins-drop, positive-gap}
 use Rattle.roam_script.proofs.fields.first_gap.Goals as goal
 

@@ -1,5 +1,4 @@
-use Rattle.std.proofs.Common.{◌≡◌, ◌≤◌, ◌+◌, Ok, Err, length, sym, ◌∙◌, arith, length-append}
-use Rattle.std.specs.Prelude.{◌++◌}
+use Rattle.std.proofs.Common.{Ok, Err}
 use Rattle.roam_script.specs.declared.line.Line.TheVariants.{Blank}
 use Rattle.roam_script.specs.declared.script_fault.ScriptFault.TheVariants.{LineTooLong, UnknownCommand, WrongFields, BadNumber, OutOfRange, TooManyLines, TooManyFrames, TooManyPlanes}
 use Rattle.roam_script.proofs.LineLemmas.{cause, because, in-accepted, settled, accepted-cause, in-range}

@@ -1,0 +1,5 @@
+pub mod LawLemmas
+pub mod OctaveLemmas
+pub mod RowLemmas
+pub mod ScriptLemmas
+pub mod SinkLemmas
