@@ -31,8 +31,8 @@ pub record IsPutSoFar (g : HeightField) (x y : ℕ) (row : List ℕ) (k : ℕ) (
   pub others : (i j : ℕ) → i ≤ 2 ^ g.n → j ≤ 2 ^ g.n → (j ≡ y → x ≤ i → i < x + k → ⊥) →
       height_at g.n h.heights i j ≡ height_at g.n g.heights i j
 
-pub IsPutSoFar-none : (g : HeightField) (x y : ℕ) (row : List ℕ) → IsHeightField g → IsPutSoFar g x y row 0 g
-IsPutSoFar-none g x y row valid = record {
+pub IsPutSoFar-none : (g : HeightField) (x y : ℕ) (samples : List ℕ) → IsHeightField g → IsPutSoFar g x y samples 0 g
+IsPutSoFar-none g x y samples valid = record {
   n = refl;
   maxval = refl;
   valid = valid;
