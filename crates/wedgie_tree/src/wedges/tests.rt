@@ -111,9 +111,15 @@ fn a_row_goes_from_its_point_to_the_right(rt: HostRuntime) -> Result<(), Fail> {
     let mut wedges = wedges_of(rt.alloc(), &SLOPE)?;
     let heights = [7, 8];
     wedges.set_row(1, 2, &heights);
-    assert_eq!(rt; wedges.grid().heights(), [1, 7, 8, 4, 5, 6, 7, 8, 9].as_slice());
+    assert_eq!(rt;
+        wedges.grid().heights(),
+        [1, 7, 8, 4, 5, 6, 7, 8, 9].as_slice()
+    );
     wedges.set_row(3, 0, &[]);
-    assert_eq!(rt; wedges.grid().heights(), [1, 7, 8, 4, 5, 6, 7, 8, 9].as_slice());
+    assert_eq!(rt;
+        wedges.grid().heights(),
+        [1, 7, 8, 4, 5, 6, 7, 8, 9].as_slice()
+    );
     Ok(())
 }
 
@@ -121,7 +127,10 @@ fn a_row_goes_from_its_point_to_the_right(rt: HostRuntime) -> Result<(), Fail> {
 fn an_area_is_raised_within_the_bounds(rt: HostRuntime) -> Result<(), Fail> {
     let mut wedges = wedges_of(rt.alloc(), &SLOPE)?;
     wedges.raise(Area::new(0, 0, 1, 1), -6);
-    assert_eq!(rt; wedges.grid().heights(), [1, 2, 3, 0, 0, 6, 1, 2, 9].as_slice());
+    assert_eq!(rt;
+        wedges.grid().heights(),
+        [1, 2, 3, 0, 0, 6, 1, 2, 9].as_slice()
+    );
     for (number, thickness, low, high) in [
         (2, 16, 0, 9),
         (3, 10, 0, 9),
