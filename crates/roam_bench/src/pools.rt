@@ -59,7 +59,7 @@ fn shrink(pool: &mut Pool, s: Slot) -> bool {
 pub fn filled(alloc: Global, work: Work) -> (u32, u32) {
     let mut calls = 0u32;
     let mut found = 0u32;
-    if let (Ok(mut pool), Ok(mut slots)) = (Pool::new(alloc, LEVEL, MOST), Vec::with_capacity(2 * MOST as usize, alloc)) {
+    if let (Ok(mut pool), Ok(mut slots)) = (Pool::new(alloc, LEVEL, MOST), Vec::with_capacity(alloc, 2 * MOST as usize)) {
         let _first = slots.push(Slot(0)).is_ok() && slots.push(Slot(1)).is_ok();
         for place in 0..2 * MOST as usize {
             if place < slots.len() {
@@ -94,7 +94,7 @@ pub fn filled(alloc: Global, work: Work) -> (u32, u32) {
 /// The leaf to which the digits of the number lead.
 fn leaf(pool: &Pool, number: u32) -> Option<Slot> {
     let mut s = Slot(number & 1);
-    for digit in 1..24 {
+    for digit in 1u32..24 {
         if !pool.is_live(s) {
             return None;
         }
