@@ -119,9 +119,9 @@ leg-same before after a e low leg grown some =
     let deep = mate_of-low e two some in
     let other = no_sibling e (omega arith) some in
     let mate_apart : 1 ≤ mate_of a → mate_of e / 2 ≢ mate_of a = λ mate. ⊎_elim
-        (λ even. let is : e ≡ 2 * a = omega arith in let y : mate_of e ≡ mate_of (2 * a) = ap mate_of is in let no = (apart a low mate).left in λ same. no (sym (ap (λ t. t / 2) y) ∙ same))
-        (λ odd. let is : e ≡ 2 * a + 1 = omega arith in let y : mate_of e ≡ mate_of (2 * a + 1) = ap mate_of is in let no = (apart a low mate).right in λ same. no (sym (ap (λ t. t / 2) y) ∙ same))
-        (cases_lt (e % 2) 1) in
+    (λ even. let is : e ≡ 2 * a = omega arith in let y : mate_of e ≡ mate_of (2 * a) = ap mate_of is in let no = (apart a low mate).left in λ same. no (sym (ap (λ t. t / 2) y) ∙ same))
+    (λ odd. let is : e ≡ 2 * a + 1 = omega arith in let y : mate_of e ≡ mate_of (2 * a + 1) = ap mate_of is in let no = (apart a low mate).right in λ same. no (sym (ap (λ t. t / 2) y) ∙ same))
+    (cases_lt (e % 2) 1) in
     owner-same (with_square after) (with_square before) (mate_of e) (⊎_elim
     (λ top. let half : mate_of e / 2 ≡ 1 = omega arith in ap (with_square after) half ∙ with_square-root after ∙ sym (with_square-root before) ∙ sym (ap (with_square before) half))
     (λ past.
@@ -162,9 +162,9 @@ pub across_children : (n : ℕ) (before after : ℕ → Bool) (a : ℕ) → IsCl
 across_children n before after a closed leaf mate grown =
     let low = leaf.low in
     let shut : (c : ℕ) → (c / 2 ≡ a) ⊎ ((1 ≤ mate_of a) × (c / 2 ≡ mate_of a)) → with_square after c ≡ false =
-        λ c child. child-shut n before after a c closed low leaf.whole grown (λ some. (mate some).whole) child in
+    λ c child. child-shut n before after a c closed low leaf.whole grown (λ some. (mate some).whole) child in
     let whole : (f c : ℕ) → f / 2 ≡ c → (c / 2 ≡ a) ⊎ ((1 ≤ mate_of a) × (c / 2 ≡ mate_of a)) → owner (with_square after) f ≡ c =
-        λ f c half child. owner-whole (with_square after) f (ap (with_square after) half ∙ shut c child) ∙ half in
+    λ f c half child. owner-whole (with_square after) f (ap (with_square after) half ∙ shut c child) ∙ half in
     let first = mate_of-0 a low in let second = mate_of-1 a low in let third = mate_of-2 a low in let last = mate_of-3 a low in
     record {
       left_base = λ some. leg-same before after a (2 * a) low (omega arith) grown some;

@@ -86,9 +86,9 @@ same_ends n e g low deep fits room ends =
     let d = ends_double n e low fits in
     let f = ends_double n g deep room in
     let middle : midpoint (corners_of (n + 1) e).v0 (corners_of (n + 1) e).v1 ≡ midpoint (corners_of (n + 1) g).v0 (corners_of (n + 1) g).v1 = ⊎_elim
-        (λ v. same_middle (d.0 ∙ ap (multiple 2) v.0 ∙ sym f.0) (d.1 ∙ ap (multiple 2) v.1 ∙ sym f.1))
-        (λ v. same_middle (d.0 ∙ ap (multiple 2) v.0 ∙ sym f.1) (d.1 ∙ ap (multiple 2) v.1 ∙ sym f.0)
-        ∙ swapped_middle (corners_of (n + 1) g).v1 (corners_of (n + 1) g).v0) ends in
+    (λ v. same_middle (d.0 ∙ ap (multiple 2) v.0 ∙ sym f.0) (d.1 ∙ ap (multiple 2) v.1 ∙ sym f.1))
+    (λ v. same_middle (d.0 ∙ ap (multiple 2) v.0 ∙ sym f.1) (d.1 ∙ ap (multiple 2) v.1 ∙ sym f.0)
+    ∙ swapped_middle (corners_of (n + 1) g).v1 (corners_of (n + 1) g).v0) ends in
     ⊎_elim (λ v. inl v) (λ m. inr (mate_of-IsMate (n + 1) e g low (omega arith) m))
     (same_centre (n + 1) e g (record { low = low; coarse = omega arith }) (record { low = deep; coarse = omega arith }) middle)
 
@@ -154,7 +154,7 @@ only_across n split a e c low fits own apart c_low c_fits live whole other at_p 
     let g : ℕ = edge.0 in
     let g_low : 2 ≤ g = ⊎_elim (λ v. omega arith) (λ v. omega arith) edge.1 in
     let g_fits : level_of g ≤ 2 * n + 1 = ⊎_elim (λ v. let z : level_of g ≡ level_of c = ap level_of v in omega arith)
-        (λ v. let z : level_of (g / 2) ≡ level_of c = ap level_of v in let up : level_of g ≡ level_of (g / 2) + 1 = level_of-parent g (omega arith) in omega arith) edge.1 in
+    (λ v. let z : level_of (g / 2) ≡ level_of c = ap level_of v in let up : level_of g ≡ level_of (g / 2) + 1 = level_of-parent g (omega arith) in omega arith) edge.1 in
     let g_own : owner split g ≡ c = ⊎_elim (λ v. owner-split split g (ap (λ t. split (t / 2)) v ∙ live) ∙ v) (λ v. owner-whole split g (ap split v ∙ whole) ∙ v) edge.1 in
     let ends : SameEnds (corners_of n e) (corners_of n g) = edge.2 in
     ⊎_elim (λ same. absurd (other (sym g_own ∙ ap (owner split) same ∙ own)))
@@ -200,16 +200,17 @@ pub border_ends : (n e : ℕ) → 2 ≤ e → level_of e ≤ 2 * n + 1 →
     (mate_of e ≡ 0 → OnOneSide (2 ^ n) (corners_of n e).v0 (corners_of n e).v1) × (OnOneSide (2 ^ n) (corners_of n e).v0 (corners_of n e).v1 → mate_of e ≡ 0)
 border_ends n e low fits =
     let d = ends_double n e low fits in
-    let next : 2 ^ (n + 1) ≡ 2 * 2 ^ n = pow_next n in
-    ((λ none.
-    let doubled : OnOneSide (2 * 2 ^ n) (multiple 2 (corners_of n e).v0) (multiple 2 (corners_of n e).v1) =
-    subst (λ m. OnOneSide m (multiple 2 (corners_of n e).v0) (multiple 2 (corners_of n e).v1)) next
-    (subst (λ t. OnOneSide (2 ^ (n + 1)) (multiple 2 (corners_of n e).v0) t) d.1 (subst (λ t. OnOneSide (2 ^ (n + 1)) t (corners_of (n + 1) e).v1) d.0 (border_edge n e low fits none))) in
-    one_side_half (2 ^ n) (corners_of n e).v0 (corners_of n e).v1 doubled),
-    (λ side. ⊎_elim (λ few. omega arith)
-    (λ some.
-    let twice : OnOneSide (2 ^ (n + 1)) (multiple 2 (corners_of n e).v0) (multiple 2 (corners_of n e).v1) =
-    subst (λ m. OnOneSide m (multiple 2 (corners_of n e).v0) (multiple 2 (corners_of n e).v1)) (sym next) (one_side_twice (2 ^ n) (corners_of n e).v0 (corners_of n e).v1 side) in
-    let border : HasBorderBase (n + 1) e = subst (λ t. OnOneSide (2 ^ (n + 1)) t (corners_of (n + 1) e).v1) (sym d.0) (subst (λ t. OnOneSide (2 ^ (n + 1)) (multiple 2 (corners_of n e).v0) t) (sym d.1) twice) in
-    absurd (no_pair-HasBorderBase (n + 1) e (mate_of e) (omega arith) border (pair-IsMate (n + 1) e (mate_of e) low (omega arith) (IsMate-mate_of (n + 1) e low (omega arith) some))))
-    (cases_lt (mate_of e) 1)))
+    let next : 2 ^ (n + 1) ≡ 2 * 2 ^ n = pow_next n in (
+      (λ none.
+          let doubled : OnOneSide (2 * 2 ^ n) (multiple 2 (corners_of n e).v0) (multiple 2 (corners_of n e).v1) =
+          subst (λ m. OnOneSide m (multiple 2 (corners_of n e).v0) (multiple 2 (corners_of n e).v1)) next
+          (subst (λ t. OnOneSide (2 ^ (n + 1)) (multiple 2 (corners_of n e).v0) t) d.1 (subst (λ t. OnOneSide (2 ^ (n + 1)) t (corners_of (n + 1) e).v1) d.0 (border_edge n e low fits none))) in
+          one_side_half (2 ^ n) (corners_of n e).v0 (corners_of n e).v1 doubled),
+      (λ side. ⊎_elim (λ few. omega arith)
+          (λ some.
+          let twice : OnOneSide (2 ^ (n + 1)) (multiple 2 (corners_of n e).v0) (multiple 2 (corners_of n e).v1) =
+          subst (λ m. OnOneSide m (multiple 2 (corners_of n e).v0) (multiple 2 (corners_of n e).v1)) (sym next) (one_side_twice (2 ^ n) (corners_of n e).v0 (corners_of n e).v1 side) in
+          let border : HasBorderBase (n + 1) e = subst (λ t. OnOneSide (2 ^ (n + 1)) t (corners_of (n + 1) e).v1) (sym d.0) (subst (λ t. OnOneSide (2 ^ (n + 1)) (multiple 2 (corners_of n e).v0) t) (sym d.1) twice) in
+          absurd (no_pair-HasBorderBase (n + 1) e (mate_of e) (omega arith) border (pair-IsMate (n + 1) e (mate_of e) low (omega arith) (IsMate-mate_of (n + 1) e low (omega arith) some))))
+          (cases_lt (mate_of e) 1)),
+    )

@@ -215,7 +215,7 @@ one_leaf n has a b p q closed leaf other here there =
     let e = edge_named n a p q leaf.low here in
     let g = edge_named n b p q other.low there in
     let same : e.0 ≡ g.0 = one_name n e.0 g.0 p q (edge-low a e.0 leaf.low e.1) (edge-low b g.0 other.low g.1)
-        (edge-level n has a e.0 closed leaf e.1) (edge-level n has b g.0 closed other g.1) e.2 g.2 in
+    (edge-level n has a e.0 closed leaf e.1) (edge-level n has b g.0 closed other g.1) e.2 g.2 in
     sym (edge-owner has a e.0 leaf e.1) ∙ ap (owner (with_square has)) same ∙ edge-owner has b g.0 other g.1
 
 -- There is a leaf across each edge that is not on the border, and it has the edge reversed.
@@ -227,16 +227,18 @@ edge-reversed n has a p q closed leaf edge inner =
     let border = edge-border n has a e.0 closed leaf e.1 in
     let ends = e.2 in
     let some : 1 ≤ mate_of e.0 = ⊎_elim
-        (λ none. absurd (inner (subst (λ t. OnOneSide (2 ^ n) t q) (sym ends.start) (subst (λ t. OnOneSide (2 ^ n) (corners_of n e.0).v0 t) (sym ends.finish) (border.0 (let z : mate_of e.0 ≡ 0 = omega arith in z))))))
-        (λ some. some) (cases_lt (mate_of e.0) 1) in
+    (λ none. absurd (inner (subst (λ t. OnOneSide (2 ^ n) t q) (sym ends.start) (subst (λ t. OnOneSide (2 ^ n) (corners_of n e.0).v0 t) (sym ends.finish) (border.0 (let z : mate_of e.0 ≡ 0 = omega arith in z))))))
+    (λ some. some) (cases_lt (mate_of e.0) 1) in
     let b : ℕ = owner (with_square has) (mate_of e.0) in
     let r = reversed n e.0 low (edge-level n has a e.0 closed leaf e.1) some in
     let across = leaf_across n has a e.0 closed leaf e.1 some in
-    let back = named_edge n b (mate_of e.0) across.leaf.low (IsEdgeOf-owner (with_square has) (mate_of e.0)) in
-    (b, record {
-      across = subst (λ t. IsLeafAcross n has a t q b) (sym ends.start) (subst (λ t. IsLeafAcross n has a (corners_of n e.0).v0 t b) (sym ends.finish) across);
-      back = subst (λ t. IsEdge (corners_of n b) t p) (sym r.1 ∙ sym ends.finish) (subst (λ t. IsEdge (corners_of n b) (corners_of n (mate_of e.0)).v0 t) (sym r.0 ∙ sym ends.start) back);
-    })
+    let back = named_edge n b (mate_of e.0) across.leaf.low (IsEdgeOf-owner (with_square has) (mate_of e.0)) in (
+      b,
+      record {
+        across = subst (λ t. IsLeafAcross n has a t q b) (sym ends.start) (subst (λ t. IsLeafAcross n has a (corners_of n e.0).v0 t b) (sym ends.finish) across);
+        back = subst (λ t. IsEdge (corners_of n b) t p) (sym r.1 ∙ sym ends.finish) (subst (λ t. IsEdge (corners_of n b) (corners_of n (mate_of e.0)).v0 t) (sym r.0 ∙ sym ends.start) back);
+      },
+    )
 
 -- There is none across an edge on the border.
 pub edge-alone : (n : ℕ) (has : ℕ → Bool) (a b : ℕ) (p q : Point) → IsClosed n has → IsLeafOf has a → IsLeafOf has b → IsEdge (corners_of n a) p q →
@@ -250,7 +252,7 @@ edge-alone n has a b p q closed leaf other edge side there =
     let room = edge-level n has b g.0 closed other g.1 in
     let ends = e.2 in let far = g.2 in
     let none : mate_of e.0 ≡ 0 = (edge-border n has a e.0 closed leaf e.1).1
-        (subst (λ t. OnOneSide (2 ^ n) t (corners_of n e.0).v1) ends.start (subst (λ t. OnOneSide (2 ^ n) p t) ends.finish side)) in
+    (subst (λ t. OnOneSide (2 ^ n) t (corners_of n e.0).v1) ends.start (subst (λ t. OnOneSide (2 ^ n) p t) ends.finish side)) in
     ⊎_elim (λ same. ends_apart n e.0 low fits (sym ends.start ∙ far.finish ∙ ap (λ t. (corners_of n t).v1) same))
     (λ mate. omega arith)
     (same_ends n e.0 g.0 low deep fits room (inr (sym ends.start ∙ far.finish, sym ends.finish ∙ far.start)))

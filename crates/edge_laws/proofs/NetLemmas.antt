@@ -325,17 +325,17 @@ IsLinked-joining m w s k a tree h linked = record {
         let is : r ≡ s = tree.once r s (omega arith) (omega arith) in
         let own_child : owner m.split e ≡ e = owner-split m.split e (ap m.split leg ∙ h.was_split) in
         let legs : (x : ℕ) → 2 ≤ m.at x → m.at x ≡ e → w.link r e ≡ m.link x e → IsJoined w (w.link r e) (mate_of e) =
-            λ x at_low at_x is_link.
-            let j : IsJoined m (m.link x e) (mate_of e) = linked.joined x e at_low (own_child ∙ sym at_x) in record {
-              border = λ none. is_link ∙ j.border none;
-              slot = λ q some there.
-                  let apart : mate_of e / 2 ≢ e / 2 = no_sibling e (omega arith) some in
-                  let two : 2 ≤ mate_of e = mate_of-low e (omega arith) some in
-                  let still : owner w.split (mate_of e) ≡ owner m.split (mate_of e) =
-                  owner-same w.split m.split (mate_of e) (h.kept (mate_of e / 2) (omega arith)) in
-                  let q_low : 2 ≤ w.at q = let o = owner-low w.split (mate_of e) (h.kept 1 (omega arith) ∙ tree.root) two in omega arith in
-                  is_link ∙ j.slot q some (sym (joined_live m w s k a q h q_low).1 ∙ there ∙ still);
-            } in
+        λ x at_low at_x is_link.
+        let j : IsJoined m (m.link x e) (mate_of e) = linked.joined x e at_low (own_child ∙ sym at_x) in record {
+          border = λ none. is_link ∙ j.border none;
+          slot = λ q some there.
+              let apart : mate_of e / 2 ≢ e / 2 = no_sibling e (omega arith) some in
+              let two : 2 ≤ mate_of e = mate_of-low e (omega arith) some in
+              let still : owner w.split (mate_of e) ≡ owner m.split (mate_of e) =
+              owner-same w.split m.split (mate_of e) (h.kept (mate_of e / 2) (omega arith)) in
+              let q_low : 2 ≤ w.at q = let o = owner-low w.split (mate_of e) (h.kept 1 (omega arith) ∙ tree.root) two in omega arith in
+              is_link ∙ j.slot q some (sym (joined_live m w s k a q h q_low).1 ∙ there ∙ still);
+        } in
         ⊎_elim (λ even. let z : e ≡ 2 * a = omega arith in
         legs (2 * k) (let l = h.left in omega arith) (let l = h.left in omega arith)
         (ap (λ t. w.link t e) is ∙ ap (w.link s) z ∙ h.left_leg ∙ ap (m.link (2 * k)) (sym z)))
@@ -479,10 +479,10 @@ read_less m w r e a whole linked root slot_of kept was low mate half live own w_
             let up_old : m.split (owner m.split (mate_of e) / 2) ≡ true = link-live m r e whole live own some in
             let z : owner w.split (mate_of e) / 2 ≡ owner m.split (mate_of e) / 2 = let o = v.1 in omega arith in
             let apart : owner m.split (mate_of e) / 2 ≢ a = λ deep_is.
-                let quarter : mate_of e / 2 / 2 ≡ a = omega arith in
-                let l1 : level_of (mate_of e) ≡ level_of (mate_of e / 2) + 1 = level_of-parent (mate_of e) (omega arith) in
-                let l2 : level_of (mate_of e / 2) ≡ level_of (mate_of e / 2 / 2) + 1 = level_of-parent (mate_of e / 2) (omega arith) in
-                let l3 : level_of (mate_of e / 2 / 2) ≡ level_of a = ap level_of quarter in omega arith in
+            let quarter : mate_of e / 2 / 2 ≡ a = omega arith in
+            let l1 : level_of (mate_of e) ≡ level_of (mate_of e / 2) + 1 = level_of-parent (mate_of e) (omega arith) in
+            let l2 : level_of (mate_of e / 2) ≡ level_of (mate_of e / 2 / 2) + 1 = level_of-parent (mate_of e / 2) (omega arith) in
+            let l3 : level_of (mate_of e / 2 / 2) ≡ level_of a = ap level_of quarter in omega arith in
             ap w.split z ∙ kept (owner m.split (mate_of e) / 2) apart ∙ up_old
       ]
     ] in

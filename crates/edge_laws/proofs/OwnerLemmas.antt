@@ -71,4 +71,3 @@ owner-live split e whole two live some =
           ap split z ∙ same)
           (cases_lt (mate_of e) 8)) (cases_lt (mate_of e) 4)
     ]
-

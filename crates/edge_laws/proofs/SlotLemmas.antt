@@ -102,9 +102,11 @@ has_children-set pairs p low h =
 -- a child of what has children has a slot
 pub slot_of : (pairs : List ℕ) (c : ℕ) → 2 ≤ c → has_children pairs (c / 2) ≡ true → (q : ℕ) × (address_at pairs q ≡ c)
 slot_of pairs c low up =
-    let pair = pair_of pairs (c / 2) up in
-    (2 * pair.0 + c % 2, (let half : (2 * pair.0 + c % 2) / 2 ≡ pair.0 = omega arith in
-    let top : get_or pairs ((2 * pair.0 + c % 2) / 2) 0 ≡ c / 2 = ap (λ t. get_or pairs t 0) half ∙ pair.2 in omega arith))
+    let pair = pair_of pairs (c / 2) up in (
+      2 * pair.0 + c % 2,
+      (let half : (2 * pair.0 + c % 2) / 2 ≡ pair.0 = omega arith in
+          let top : get_or pairs ((2 * pair.0 + c % 2) / 2) 0 ≡ c / 2 = ap (λ t. get_or pairs t 0) half ∙ pair.2 in omega arith),
+    )
 
 -- the set after the pair k is given to a
 pub set_more : (pairs : List ℕ) (k a p : ℕ) → k < length pairs → get_or pairs k 0 ≡ 0 → split_set pairs p ≡ true → split_set (set pairs k a) p ≡ true
@@ -227,8 +229,8 @@ coarse_link n pairs s base pool leaf given link =
       | inr coarse ↦
           let at : address_at pairs base ≡ mate_of a / 2 = link ∙ coarse.1 in
           let deep : 4 ≤ mate_of a = ⊎_elim
-              (λ top. absurd (let half : mate_of a / 2 ≡ 1 = omega arith in true≢false (sym pool.root ∙ ap (has_children pairs) (sym half) ∙ coarse.0)))
-              (λ deep. deep) (cases_lt (mate_of a) 4) in
+          (λ top. absurd (let half : mate_of a / 2 ≡ 1 = omega arith in true≢false (sym pool.root ∙ ap (has_children pairs) (sym half) ∙ coarse.0)))
+          (λ deep. deep) (cases_lt (mate_of a) 4) in
           let up : level_of (mate_of a) ≡ level_of (mate_of a / 2) + 1 = level_of-parent (mate_of a) deep in
           let same : level_of (address_at pairs base) ≡ level_of (mate_of a / 2) = ap level_of at in
           record { some = some; live = omega arith; coarser = λ _. (at, record { live = omega arith; leaf = ap (has_children pairs) at ∙ coarse.0 }); even = λ up_too. absurd (true≢false (sym up_too ∙ coarse.0)); same = λ no. absurd (no (omega arith)) }
@@ -281,8 +283,8 @@ once_counted n pairs a pool is_split =
     let new : f 0 ≡ 0 = rw (ne_eqb 0 a (λ z. omega arith)) refl in
     let shut : has_children (set pairs k 0) a ≡ false = has_children-removed pairs k a pair.1 pair.2 low (λ i e. pair_one n pairs i k a pool low e pair.2) in
     let none : list_any (λ t. nat_eq t a) (set pairs k 0) ≡ false = ⊎_elim
-        (λ hit. absurd (true≢false (sym (and_from (nat_lt 0 a) (among (set pairs k 0) a) (lt-ltb 0 a low) hit) ∙ shut)))
-        (λ none. none) (cases_Bool (list_any (λ t. nat_eq t a) (set pairs k 0))) in
+    (λ hit. absurd (true≢false (sym (and_from (nat_lt 0 a) (among (set pairs k 0) a) (lt-ltb 0 a low) hit) ∙ shut)))
+    (λ none. none) (cases_Bool (list_any (λ t. nat_eq t a) (set pairs k 0))) in
     let zero_is : count_by (λ t. nat_eq t a) (set pairs k 0) ≡ 0 = none_counted (λ t. nat_eq t a) (set pairs k 0) none in
     omega arith
 
@@ -335,11 +337,12 @@ leaves_count n pairs pool =
 -- a leaf of the set has a slot, and no children
 pub leaf_slot : (n : ℕ) (pairs : List ℕ) (a : ℕ) → IsPool n pairs → IsLeafOf (split_set pairs) a → ((s : ℕ) × (address_at pairs s ≡ a)) × (has_children pairs a ≡ false)
 leaf_slot n pairs a pool leaf =
-    let low = leaf.low in
-    (slot_of pairs a low (⊎_elim
-    (λ top. ap (has_children pairs) (let half : a / 2 ≡ 1 = omega arith in half) ∙ pool.root)
-    (λ deep. set-has_children pairs (a / 2) (leaf.above deep)) (cases_lt a 4)),
-    ⊎_elim (λ yes. absurd (true≢false (sym (has_children-set pairs a low yes) ∙ leaf.whole))) (λ no. no) (cases_Bool (has_children pairs a)))
+    let low = leaf.low in (
+      slot_of pairs a low (⊎_elim
+          (λ top. ap (has_children pairs) (let half : a / 2 ≡ 1 = omega arith in half) ∙ pool.root)
+          (λ deep. set-has_children pairs (a / 2) (leaf.above deep)) (cases_lt a 4)),
+      ⊎_elim (λ yes. absurd (true≢false (sym (has_children-set pairs a low yes) ∙ leaf.whole))) (λ no. no) (cases_Bool (has_children pairs a)),
+    )
 
 -- ---- split and merge
 

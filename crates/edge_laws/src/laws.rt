@@ -35,7 +35,7 @@ pub fn leaf_laws()
         IsEdge (corners_of n b) q p → ⊥ }
     ensures across { (n : ℕ) (has : ℕ → Bool) (a e : ℕ) → IsClosed n has → IsLeafOf has a →
         IsEdgeOf a e → 1 ≤ mate_of e → IsLeafAcross n has a (corners_of n e).v0 (corners_of n e).v1
-            (owner (with_square has) (mate_of e)) }
+        (owner (with_square has) (mate_of e)) }
     ensures none { (n : ℕ) (has : ℕ → Bool) (a e : ℕ) → IsClosed n has → IsLeafOf has a → IsEdgeOf a e →
         (mate_of e ≡ 0 ↔ OnOneSide (2 ^ n) (corners_of n e).v0 (corners_of n e).v1) }
 

@@ -53,12 +53,13 @@ chained_shut n pairs s rest mid pool chain h =
     let a : ℕ = address_at pairs s in
     let leaf = chain.0 in let low = leaf.live in
     let shut : (p : ℕ) → level_of p ≡ level_of a → has_children pairs p ≡ false → mid p ≡ false = λ p level no. ⊎_elim
-        (λ yes_p. absurd (⊎_elim (λ old. true≢false (sym old ∙ set_false pairs p no)) (λ l. let z = low_less pairs s rest p leaf chain.1.0 chain.1.1 l in omega arith) (h.low p yes_p)))
-        (λ n_p. n_p) (cases_Bool (mid p)) in
-    (shut a refl leaf.leaf,
-    (λ some. shut (mate_of a) (mate_of-level a low some) (⊎_elim
-    (λ yes_b. absurd (let back = mate_of-back a low some in true≢false (sym (ap (has_children pairs) (sym back) ∙ member_mate n pairs (mate_of a) pool (mate_of-low a low some) yes_b (omega arith)) ∙ leaf.leaf)))
-    (λ n_b. n_b) (cases_Bool (has_children pairs (mate_of a))))))
+    (λ yes_p. absurd (⊎_elim (λ old. true≢false (sym old ∙ set_false pairs p no)) (λ l. let z = low_less pairs s rest p leaf chain.1.0 chain.1.1 l in omega arith) (h.low p yes_p)))
+    (λ n_p. n_p) (cases_Bool (mid p)) in (
+      shut a refl leaf.leaf,
+      (λ some. shut (mate_of a) (mate_of-level a low some) (⊎_elim
+          (λ yes_b. absurd (let back = mate_of-back a low some in true≢false (sym (ap (has_children pairs) (sym back) ∙ member_mate n pairs (mate_of a) pool (mate_of-low a low some) yes_b (omega arith)) ∙ leaf.leaf)))
+          (λ n_b. n_b) (cases_Bool (has_children pairs (mate_of a))))),
+    )
 
 -- one more split
 pub chained_step : (n : ℕ) (pairs : List ℕ) (s : ℕ) (rest : List ℕ) (mid now : ℕ → Bool) → IsPool n pairs → IsChain pairs (s ∷ rest) → level_of (address_at pairs s) < 2 * n →

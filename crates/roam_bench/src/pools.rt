@@ -7,6 +7,7 @@ use triangle_pool::Pool;
 
 /// The level of the grid, and the greatest number of leaves that a pool may have.
 const LEVEL: u32 = 11;
+
 const MOST: u32 = 1 << 20;
 
 /// What is done with a full pool.
@@ -59,7 +60,10 @@ fn shrink(pool: &mut Pool, s: Slot) -> bool {
 pub fn filled(alloc: Global, work: Work) -> (u32, u32) {
     let mut calls = 0u32;
     let mut found = 0u32;
-    if let (Ok(mut pool), Ok(mut slots)) = (Pool::new(alloc, LEVEL, MOST), Vec::with_capacity(alloc, 2 * MOST as usize)) {
+    if let (Ok(mut pool), Ok(mut slots)) = (
+        Pool::new(alloc, LEVEL, MOST),
+        Vec::with_capacity(alloc, 2 * MOST as usize),
+    ) {
         let _first = slots.push(Slot(0)).is_ok() && slots.push(Slot(1)).is_ok();
         for place in 0..2 * MOST as usize {
             if place < slots.len() {
@@ -101,7 +105,11 @@ fn leaf(pool: &Pool, number: u32) -> Option<Slot> {
         match pool.children(s) {
             None => return Some(s),
             Some((left, right)) => {
-                s = if (number >> digit) & 1 == 0 { left } else { right };
+                s = if (number >> digit) & 1 == 0 {
+                    left
+                } else {
+                    right
+                };
             }
         }
     }

@@ -15,9 +15,10 @@ use Rattle.edge_laws.proofs.SlotLemmas.{size_one, size_two}
 
 -- the slots of a pair that was given to a
 children_at : (pairs : List ℕ) (k a : ℕ) (pair : Slot × Slot) → k < length pairs → pair.0.0 ≡ 2 * k → pair.1.0 ≡ 2 * k + 1 → AreChildren (set pairs k a) a pair
-children_at pairs k a pair within left right =
-    (let z = address-new pairs k a pair.0.0 within (let y : pair.0.0 / 2 ≡ k = omega arith in y) in omega arith,
-    let z = address-new pairs k a pair.1.0 within (let y : pair.1.0 / 2 ≡ k = omega arith in y) in omega arith)
+children_at pairs k a pair within left right = (
+  let z = address-new pairs k a pair.0.0 within (let y : pair.0.0 / 2 ≡ k = omega arith in y) in omega arith,
+  let z = address-new pairs k a pair.1.0 within (let y : pair.1.0 / 2 ≡ k = omega arith in y) in omega arith,
+)
 
 fresh : (pairs : List ℕ) (k a r : ℕ) (pair : Slot × Slot) → pair.0.0 ≡ 2 * k → pair.1.0 ≡ 2 * k + 1 → IsLive (set pairs k a) r → IsLive pairs r ⊎ IsOfPair pair r
 fresh pairs k a r pair left right live = elim (cases_eq (r / 2) k) [

@@ -174,12 +174,14 @@ forest_halved pairs parents before after s k a mate f ready up renewed =
       linked = IsLinked-halving (net_of pairs before) (net_of (set pairs k a) after) s k a (tree_of pairs before h) made f.linked;
       children = λ r live. elim (cases_eq (r / 2) k) [
         | inl here ↦ let z = address-new pairs k a r ready.within here in
-            inl (⊎_elim
-            (λ even. let e : r ≡ 2 * k = omega arith in ap (λ t. (node_at after t).children) e ∙ renewed.new_children.0)
-            (λ odd. let e : r ≡ 2 * k + 1 = omega arith in ap (λ t. (node_at after t).children) e ∙ renewed.new_children.1)
-            (cases_lt (r % 2) 1),
-            has_children-kept pairs k a (address_at (set pairs k a) r) ready.within ready.free (omega arith) ∙
-            child_shut pairs (address_at (set pairs k a) r) a h ready.leaf (omega arith) (omega arith))
+            inl (
+              ⊎_elim
+                  (λ even. let e : r ≡ 2 * k = omega arith in ap (λ t. (node_at after t).children) e ∙ renewed.new_children.0)
+                  (λ odd. let e : r ≡ 2 * k + 1 = omega arith in ap (λ t. (node_at after t).children) e ∙ renewed.new_children.1)
+                  (cases_lt (r % 2) 1),
+              has_children-kept pairs k a (address_at (set pairs k a) r) ready.within ready.free (omega arith) ∙
+                  child_shut pairs (address_at (set pairs k a) r) a h ready.leaf (omega arith) (omega arith),
+            )
         | inr apart ↦ let z = address-old pairs k a r apart in elim (cases_eq r s) [
           | inl same ↦ let is : address_at (set pairs k a) r ≡ a = z ∙ ap (address_at pairs) same ∙ ready.address in
               let own : (node_at after r).children ≡ k = ap (λ t. (node_at after t).children) same ∙ renewed.own_children in
@@ -189,9 +191,11 @@ forest_halved pairs parents before after s k a mate f ready up renewed =
               let at_apart : address_at pairs r ≢ a = λ w. other (h.tree.once r s (omega arith) (w ∙ sym ready.address)) in
               ⊎_elim
               (λ none. inl (kept ∙ none.0, ap (has_children (set pairs k a)) z ∙ has_children-kept pairs k a (address_at pairs r) within ready.free at_apart ∙ none.1))
-              (λ some. let pair_is = some.1 in let free = ready.free in inr ((λ w. some.0 (sym kept ∙ w)),
-              ap (λ t. get_or (set pairs k a) t 0) kept ∙ get_or-set_other pairs k (node_at before r).children a 0 (λ w.
-              let y : get_or pairs (node_at before r).children 0 ≡ 0 = ap (λ t. get_or pairs t 0) w ∙ free in omega arith) ∙ some.1 ∙ sym z)) was
+              (λ some. let pair_is = some.1 in let free = ready.free in inr (
+                (λ w. some.0 (sym kept ∙ w)),
+                ap (λ t. get_or (set pairs k a) t 0) kept ∙ get_or-set_other pairs k (node_at before r).children a 0 (λ w.
+                    let y : get_or pairs (node_at before r).children 0 ≡ 0 = ap (λ t. get_or pairs t 0) w ∙ free in omega arith) ∙ some.1 ∙ sym z,
+              )) was
         ]
       ];
       upward = λ i given. elim (cases_eq i k) [
@@ -269,25 +273,31 @@ inner_linked pairs n0 n1 n2 s k a mate h ready given count count_1 is_1 is_2 =
     let at_left : address_at pairs (2 * mate) ≡ 2 * mate_of a = address_even pairs mate (mate_of a) paired.1 in
     let at_right : address_at pairs (2 * mate + 1) ≡ 2 * mate_of a + 1 = address_in pairs mate (mate_of a) 1 (omega arith) paired.1 in
     let level_1 : level_of (4 * a + 1) ≡ level_of (2 * mate_of a + 1) + 1 =
-        let z : level_of (4 * mate_of a + 2) ≡ level_of (4 * a + 1) = ap level_of (sym of_1) ∙ mate_of-level (4 * a + 1) (omega arith) (omega arith) in
-        let y : 2 * (2 * mate_of a + 1) ≡ 4 * mate_of a + 2 = omega arith in
-        sym z ∙ ap level_of (sym y) ∙ level_of-left (2 * mate_of a + 1) (omega arith) in
+    let z : level_of (4 * mate_of a + 2) ≡ level_of (4 * a + 1) = ap level_of (sym of_1) ∙ mate_of-level (4 * a + 1) (omega arith) (omega arith) in
+    let y : 2 * (2 * mate_of a + 1) ≡ 4 * mate_of a + 2 = omega arith in
+    sym z ∙ ap level_of (sym y) ∙ level_of-left (2 * mate_of a + 1) (omega arith) in
     let level_2 : level_of (4 * a + 2) ≡ level_of (2 * mate_of a) + 1 =
-        let z : level_of (4 * mate_of a + 1) ≡ level_of (4 * a + 2) = ap level_of (sym of_2) ∙ mate_of-level (4 * a + 2) (omega arith) (omega arith) in
-        let y : 2 * (2 * mate_of a) + 1 ≡ 4 * mate_of a + 1 = omega arith in
-        sym z ∙ ap level_of (sym y) ∙ level_of-right (2 * mate_of a) (omega arith) in
+    let z : level_of (4 * mate_of a + 1) ≡ level_of (4 * a + 2) = ap level_of (sym of_2) ∙ mate_of-level (4 * a + 2) (omega arith) (omega arith) in
+    let y : 2 * (2 * mate_of a) + 1 ≡ 4 * mate_of a + 1 = omega arith in
+    sym z ∙ ap level_of (sym y) ∙ level_of-right (2 * mate_of a) (omega arith) in
     let across_2 : IsAcross pairs (4 * a + 2) (2 * mate) =
-        inr (omega arith, at_left ∙ sym (ap (owner (has_children pairs)) of_2 ∙ owner-whole (has_children pairs) (4 * mate_of a + 1)
-        (ap (has_children pairs) (let y : (4 * mate_of a + 1) / 2 ≡ 2 * mate_of a = omega arith in y) ∙ none.0) ∙ (let y : (4 * mate_of a + 1) / 2 ≡ 2 * mate_of a = omega arith in y))) in
+    inr (
+      omega arith,
+      at_left ∙ sym (ap (owner (has_children pairs)) of_2 ∙ owner-whole (has_children pairs) (4 * mate_of a + 1)
+          (ap (has_children pairs) (let y : (4 * mate_of a + 1) / 2 ≡ 2 * mate_of a = omega arith in y) ∙ none.0) ∙ (let y : (4 * mate_of a + 1) / 2 ≡ 2 * mate_of a = omega arith in y)),
+    ) in
     let across_1 : IsAcross pairs (4 * a + 1) (2 * mate + 1) =
-        inr (omega arith, at_right ∙ sym (ap (owner (has_children pairs)) of_1 ∙ owner-whole (has_children pairs) (4 * mate_of a + 2)
-        (ap (has_children pairs) (let y : (4 * mate_of a + 2) / 2 ≡ 2 * mate_of a + 1 = omega arith in y) ∙ none.1) ∙ (let y : (4 * mate_of a + 2) / 2 ≡ 2 * mate_of a + 1 = omega arith in y))) in
+    inr (
+      omega arith,
+      at_right ∙ sym (ap (owner (has_children pairs)) of_1 ∙ owner-whole (has_children pairs) (4 * mate_of a + 2)
+          (ap (has_children pairs) (let y : (4 * mate_of a + 2) / 2 ≡ 2 * mate_of a + 1 = omega arith in y) ∙ none.1) ∙ (let y : (4 * mate_of a + 2) / 2 ≡ 2 * mate_of a + 1 = omega arith in y)),
+    ) in
     let r1 : IsRelinked pairs n0 n1 (4 * a + 2) (2 * k + 1) = relinked_turn pairs n0 n1 (2 * mate) (4 * a + 2) (2 * k + 1) false true h (omega arith) across_2 (λ w. omega arith) (omega arith)
-        (sym (ne_eqb (level_of (address_at pairs (2 * mate))) (level_of (4 * a + 2)) (λ w. let z : level_of (address_at pairs (2 * mate)) ≡ level_of (2 * mate_of a) = ap level_of at_left in omega arith)))
-        (sym (eq-eqb ((4 * a + 2) % 2) 0 (omega arith))) is_1 in
+    (sym (ne_eqb (level_of (address_at pairs (2 * mate))) (level_of (4 * a + 2)) (λ w. let z : level_of (address_at pairs (2 * mate)) ≡ level_of (2 * mate_of a) = ap level_of at_left in omega arith)))
+    (sym (eq-eqb ((4 * a + 2) % 2) 0 (omega arith))) is_1 in
     let r2 : IsRelinked pairs n1 n2 (4 * a + 1) (2 * k) = relinked_turn pairs n1 n2 (2 * mate + 1) (4 * a + 1) (2 * k) false false h (omega arith) across_1 (λ w. omega arith) (omega arith)
-        (sym (ne_eqb (level_of (address_at pairs (2 * mate + 1))) (level_of (4 * a + 1)) (λ w. let z : level_of (address_at pairs (2 * mate + 1)) ≡ level_of (2 * mate_of a + 1) = ap level_of at_right in omega arith)))
-        (sym (ne_eqb ((4 * a + 1) % 2) 0 (λ w. omega arith))) is_2 in
+    (sym (ne_eqb (level_of (address_at pairs (2 * mate + 1))) (level_of (4 * a + 1)) (λ w. let z : level_of (address_at pairs (2 * mate + 1)) ≡ level_of (2 * mate_of a + 1) = ap level_of at_right in omega arith)))
+    (sym (ne_eqb ((4 * a + 1) % 2) 0 (λ w. omega arith))) is_2 in
     record {
       there = λ r e live own _. (
         (λ f. r2.there r e live own f),

@@ -51,21 +51,21 @@ joining pairs n0 n1 n2 n3 s k a h bare r1 r2 again =
     let kept : (p : ℕ) → p ≢ a → has_children (set pairs k 0) p ≡ has_children pairs p = λ p n. has_children-left pairs k a p within bare.pair n in
     let alive : (r : ℕ) → 2 ≤ address_at (set pairs k 0) r → r / 2 ≢ k = λ r live here. let z = gone_low pairs k r within here in omega arith in
     let s_apart : s / 2 ≢ k = λ here. ⊎_elim
-        (λ even. let e : s ≡ 2 * k = omega arith in let z : address_at pairs s ≡ address_at pairs (2 * k) = ap (address_at pairs) e in omega arith)
-        (λ odd. let e : s ≡ 2 * k + 1 = omega arith in let z : address_at pairs s ≡ address_at pairs (2 * k + 1) = ap (address_at pairs) e in omega arith) (cases_lt (s % 2) 1) in
+    (λ even. let e : s ≡ 2 * k = omega arith in let z : address_at pairs s ≡ address_at pairs (2 * k) = ap (address_at pairs) e in omega arith)
+    (λ odd. let e : s ≡ 2 * k + 1 = omega arith in let z : address_at pairs s ≡ address_at pairs (2 * k + 1) = ap (address_at pairs) e in omega arith) (cases_lt (s % 2) 1) in
     let s_at : address_at (set pairs k 0) s ≡ a = address-old pairs k 0 s s_apart ∙ is in
     let still : (r e : ℕ) → 2 ≤ address_at (set pairs k 0) r → owner (has_children (set pairs k 0)) e ≡ address_at (set pairs k 0) r → e / 2 ≢ a →
-        edge_link (node_at n3 r) (address_at (set pairs k 0) r) e ≡ edge_link (node_at n2 r) (address_at pairs r) e =
-        λ r e live own apart. let at = address-old pairs k 0 r (alive r live) in elim (cases_eq r s) [
-          | inl same ↦
-              let r_at : address_at (set pairs k 0) r ≡ a = ap (address_at (set pairs k 0)) same ∙ s_at in
-              let base : e ≡ a = elim (owner_cases (has_children (set pairs k 0)) e) [ inl v ↦ let o = v.1 in omega arith | inr v ↦ absurd (apart (let o = v.1 in omega arith)) ] in
-              edge-base (node_at n3 r) (address_at (set pairs k 0) r) e (omega arith) ∙ ap (λ t. (node_at n3 t).base) same ∙ ap (λ t. t.base) again.own ∙ ap (λ t. (node_at n2 t).base) (sym same)
-              ∙ sym (edge-base (node_at n2 r) (address_at pairs r) e (omega arith))
-          | inr other ↦ ap (λ t. edge_link t (address_at (set pairs k 0) r) e) (again.others r other) ∙ ap (λ t. edge_link (node_at n2 r) t e) at
-        ] in
+    edge_link (node_at n3 r) (address_at (set pairs k 0) r) e ≡ edge_link (node_at n2 r) (address_at pairs r) e =
+    λ r e live own apart. let at = address-old pairs k 0 r (alive r live) in elim (cases_eq r s) [
+      | inl same ↦
+          let r_at : address_at (set pairs k 0) r ≡ a = ap (address_at (set pairs k 0)) same ∙ s_at in
+          let base : e ≡ a = elim (owner_cases (has_children (set pairs k 0)) e) [ inl v ↦ let o = v.1 in omega arith | inr v ↦ absurd (apart (let o = v.1 in omega arith)) ] in
+          edge-base (node_at n3 r) (address_at (set pairs k 0) r) e (omega arith) ∙ ap (λ t. (node_at n3 t).base) same ∙ ap (λ t. t.base) again.own ∙ ap (λ t. (node_at n2 t).base) (sym same)
+          ∙ sym (edge-base (node_at n2 r) (address_at pairs r) e (omega arith))
+      | inr other ↦ ap (λ t. edge_link t (address_at (set pairs k 0) r) e) (again.others r other) ∙ ap (λ t. edge_link (node_at n2 r) t e) at
+    ] in
     let before : (r e : ℕ) → 2 ≤ address_at (set pairs k 0) r → owner (has_children (set pairs k 0)) e ≡ address_at (set pairs k 0) r → e / 2 ≢ a → owner (has_children pairs) e ≡ address_at pairs r =
-        λ r e live own apart. owner-same (has_children pairs) (has_children (set pairs k 0)) e (sym (kept (e / 2) apart)) ∙ own ∙ address-old pairs k 0 r (alive r live) in
+    λ r e live own apart. owner-same (has_children pairs) (has_children (set pairs k 0)) e (sym (kept (e / 2) apart)) ∙ own ∙ address-old pairs k 0 r (alive r live) in
     record {
       address = is;
       low = low;
@@ -133,8 +133,11 @@ forest_joined pairs parents n0 n1 n2 n3 s k a f bare r1 r2 again same_count =
                 let was : AreChildrenAt pairs (address_at pairs r) (node_at n0 r).children = f.children r (omega arith) in
                 ⊎_elim
                 (λ none. inl (kept ∙ none.0, ap (has_children (set pairs k 0)) keep ∙ made.kept (address_at pairs r) at_apart ∙ none.1))
-                (λ some. inr ((λ w. some.0 (sym kept ∙ w)), ap (λ t. get_or (set pairs k 0) t 0) kept
-                ∙ get_or-set_other pairs k (node_at n0 r).children 0 0 (λ w. at_apart (sym some.1 ∙ ap (λ t. get_or pairs t 0) w ∙ bare.pair)) ∙ some.1 ∙ sym keep)) was
+                (λ some. inr (
+                  (λ w. some.0 (sym kept ∙ w)),
+                  ap (λ t. get_or (set pairs k 0) t 0) kept
+                      ∙ get_or-set_other pairs k (node_at n0 r).children 0 0 (λ w. at_apart (sym some.1 ∙ ap (λ t. get_or pairs t 0) w ∙ bare.pair)) ∙ some.1 ∙ sym keep,
+                )) was
           ];
       upward = λ i given. elim (cases_eq i k) [
         | inl here ↦ absurd (let z : get_or (set pairs k 0) i 0 ≡ 0 = ap (λ t. get_or (set pairs k 0) t 0) here ∙ get_or-set_same pairs k 0 0 within in omega arith)
@@ -143,10 +146,10 @@ forest_joined pairs parents n0 n1 n2 n3 s k a f bare r1 r2 again same_count =
             let old : address_at pairs (get_or parents i 0) ≡ get_or pairs i 0 = f.upward i (omega arith) in
             let parent_open : has_children pairs (get_or pairs i 0) ≡ true = has_children_by pairs i (get_or pairs i 0) (omega arith) refl in
             let away : get_or parents i 0 / 2 ≢ k = λ here.
-                let pair_is : get_or pairs (get_or parents i 0 / 2) 0 ≡ a = ap (λ t. get_or pairs t 0) here ∙ bare.pair in ⊎_elim
-                (λ even. let z : get_or pairs i 0 ≡ 2 * a = omega arith in true≢false (sym parent_open ∙ ap (has_children pairs) z ∙ bare.whole_left))
-                (λ odd. let z : get_or pairs i 0 ≡ 2 * a + 1 = omega arith in true≢false (sym parent_open ∙ ap (has_children pairs) z ∙ bare.whole_right))
-                (cases_lt (get_or parents i 0 % 2) 1) in
+            let pair_is : get_or pairs (get_or parents i 0 / 2) 0 ≡ a = ap (λ t. get_or pairs t 0) here ∙ bare.pair in ⊎_elim
+            (λ even. let z : get_or pairs i 0 ≡ 2 * a = omega arith in true≢false (sym parent_open ∙ ap (has_children pairs) z ∙ bare.whole_left))
+            (λ odd. let z : get_or pairs i 0 ≡ 2 * a + 1 = omega arith in true≢false (sym parent_open ∙ ap (has_children pairs) z ∙ bare.whole_right))
+            (cases_lt (get_or parents i 0 % 2) 1) in
             address-old pairs k 0 (get_or parents i 0) away ∙ old ∙ sym top
       ];
     }
@@ -229,7 +232,7 @@ closed_both n pairs parents nodes s t k j a forest closed h some g =
     let pair_j : get_or (set pairs k 0) j 0 ≡ mate_of a = get_or-set_other pairs k j 0 0 apart ∙ g.pair in
     let within_j : j < length (set pairs k 0) = pair_in (set pairs k 0) j (mate_of a) b pair_j in
     let no_a : split_set (set (set pairs k 0) j 0) a ≡ false = set_kept (set pairs k 0) j (mate_of a) a within_j pair_j (λ e. other (sym e))
-        ∙ set_false (set pairs k 0) a (has_children-removed pairs k a within h.pair (omega arith) (λ i e. pair_once pairs i k a forest.sound low e h.pair)) in
+    ∙ set_false (set pairs k 0) a (has_children-removed pairs k a within h.pair (omega arith) (λ i e. pair_once pairs i k a forest.sound low e h.pair)) in
     let once_j : (i : ℕ) → get_or (set pairs k 0) i 0 ≡ mate_of a → i ≡ j = λ i e. elim (cases_eq i k) [
       | inl same ↦ absurd (let z : get_or (set pairs k 0) i 0 ≡ 0 = ap (λ t. get_or (set pairs k 0) t 0) same ∙ get_or-set_same pairs k 0 0 within in omega arith)
       | inr n ↦ pair_once pairs i j (mate_of a) forest.sound b (sym (get_or-set_other pairs k i 0 0 n) ∙ e) g.pair
@@ -249,11 +252,11 @@ may_merge_second pairs s t k j a sound h some g =
     let no_child_of = mate_of-no_child a low some in
     let at = g.address in
     let t_apart : t / 2 ≢ k = λ here.
-        let z : get_or pairs (t / 2) 0 ≡ a = ap (λ x. get_or pairs x 0) here ∙ h.pair in
-        let up : level_of (mate_of a) ≡ level_of (mate_of a / 2) + 1 = level_of-parent (mate_of a) (omega arith) in
-        let same : level_of (mate_of a) ≡ level_of a = mate_of-level a low some in
-        let half : mate_of a / 2 ≡ a = omega arith in
-        let y : level_of (mate_of a / 2) ≡ level_of a = ap level_of half in absurd (omega arith) in
+    let z : get_or pairs (t / 2) 0 ≡ a = ap (λ x. get_or pairs x 0) here ∙ h.pair in
+    let up : level_of (mate_of a) ≡ level_of (mate_of a / 2) + 1 = level_of-parent (mate_of a) (omega arith) in
+    let same : level_of (mate_of a) ≡ level_of a = mate_of-level a low some in
+    let half : mate_of a / 2 ≡ a = omega arith in
+    let y : level_of (mate_of a / 2) ≡ level_of a = ap level_of half in absurd (omega arith) in
     record {
       address = address-old pairs k 0 t t_apart ∙ g.address;
       low = b;

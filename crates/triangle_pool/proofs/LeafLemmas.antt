@@ -29,14 +29,14 @@ edge_link_words n pairs a e link pool short leaf edge read =
     let low = edge-low a e leaf.low edge in
     let border = edge-border n (split_set pairs) a e pool.closed leaf edge in
     let live : 1 ≤ mate_of e → address_at pairs link ≡ owner (has_children pairs) (mate_of e) → IsLive pairs link = λ some at.
-        let z = owner-low (has_children pairs) (mate_of e) pool.root (mate_of-low e low some) in omega arith in
+    let z = owner-low (has_children pairs) (mate_of e) pool.root (mate_of-low e low some) in omega arith in
     record {
       border = λ is. border.0 (⊎_elim (λ v. v.0) (λ v. absurd (linked_small pairs link short (live v.0 v.1) is)) read);
       none = λ side. ⊎_elim (λ v. v.1) (λ v. absurd (let z = border.1 side in let y = v.0 in omega arith)) read;
       some = λ given. ⊎_elim (λ v. absurd (given v.1))
           (λ v. let two = mate_of-low e low v.0 in
           let same : owner (has_children pairs) (mate_of e) ≡ owner (with_square (split_set pairs)) (mate_of e) =
-              owner-same (has_children pairs) (with_square (split_set pairs)) (mate_of e) (square-children n pairs (mate_of e / 2) pool (omega arith)) in
+          owner-same (has_children pairs) (with_square (split_set pairs)) (mate_of e) (square-children n pairs (mate_of e / 2) pool (omega arith)) in
           subst (IsLeafAcross n (split_set pairs) a (corners_of n e).v0 (corners_of n e).v1) (sym (v.1 ∙ same)) (leaf_across n (split_set pairs) a e pool.closed leaf edge v.0)) read;
     }
 

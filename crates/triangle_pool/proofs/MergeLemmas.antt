@@ -24,9 +24,10 @@ pub children_pair : (pairs : List ℕ) (a k : ℕ) → AreChildrenAt pairs a k �
 children_pair pairs a k children is_split = ⊎_elim (λ none. absurd (true≢false (sym is_split ∙ none.1))) (λ some. some.1) children
 
 pub children_none : (pairs : List ℕ) (a k : ℕ) → 1 ≤ a → AreChildrenAt pairs a k → (k ≡ nowhere → has_children pairs a ≡ false) × (has_children pairs a ≡ false → k ≡ nowhere)
-children_none pairs a k low children =
-    ((λ is. ⊎_elim (λ none. none.1) (λ some. absurd (some.0 is)) children),
-    (λ leaf. ⊎_elim (λ none. none.0) (λ some. absurd (true≢false (sym (has_children_by pairs k a low some.1) ∙ leaf))) children))
+children_none pairs a k low children = (
+  (λ is. ⊎_elim (λ none. none.1) (λ some. absurd (some.0 is)) children),
+  (λ leaf. ⊎_elim (λ none. none.0) (λ some. absurd (true≢false (sym (has_children_by pairs k a low some.1) ∙ leaf))) children),
+)
 
 -- a link to a live slot is no number beyond the slots
 pub linked_small : (pairs : List ℕ) (link : ℕ) → length pairs < 2 ^ 31 → IsLive pairs link → link ≢ nowhere
@@ -105,12 +106,13 @@ second_once : (n : ℕ) (pairs : List ℕ) (s t k j a : ℕ) → IsPool n pairs 
 second_once n pairs s t k j a pool h some g =
     let b = g.low in
     let other = mate_of-other a h.low some in
-    let within : k < length pairs = pair_in pairs k a h.low h.pair in
-    (get_or-set_other pairs k j 0 0 (λ e. other (sym g.pair ∙ ap (λ x. get_or pairs x 0) e ∙ h.pair)) ∙ g.pair,
-    (λ i e. elim (cases_eq i k) [
-      | inl same ↦ absurd (let z : get_or (set pairs k 0) i 0 ≡ 0 = ap (λ t. get_or (set pairs k 0) t 0) same ∙ get_or-set_same pairs k 0 0 within in omega arith)
-      | inr apart ↦ pair_one n pairs i j (mate_of a) pool (omega arith) (sym (get_or-set_other pairs k i 0 0 apart) ∙ e) g.pair
-    ]))
+    let within : k < length pairs = pair_in pairs k a h.low h.pair in (
+      get_or-set_other pairs k j 0 0 (λ e. other (sym g.pair ∙ ap (λ x. get_or pairs x 0) e ∙ h.pair)) ∙ g.pair,
+      (λ i e. elim (cases_eq i k) [
+        | inl same ↦ absurd (let z : get_or (set pairs k 0) i 0 ≡ 0 = ap (λ t. get_or (set pairs k 0) t 0) same ∙ get_or-set_same pairs k 0 0 within in omega arith)
+        | inr apart ↦ pair_one n pairs i j (mate_of a) pool (omega arith) (sym (get_or-set_other pairs k i 0 0 apart) ∙ e) g.pair
+      ]),
+    )
 
 pub IsMerge-both : (n : ℕ) (pairs after : List ℕ) (s t k j a : ℕ) → IsPool n pairs → MayMerge pairs s k a → 1 ≤ mate_of a → MayMerge pairs t j (mate_of a) →
     after ≡ set (set pairs k 0) j 0 → IsMerge pairs after a

@@ -70,11 +70,11 @@ first_forest pairs parents nodes h =
         joined = λ r e live own.
             let s = first_slot pairs parents nodes r h live in let small = s.0 in let at = s.1 in
             let left : (node_at nodes r).left ≡ nowhere = ⊎_elim (λ z. let e0 : r ≡ 0 = omega arith in ap (λ t. (node_at nodes t).left) e0 ∙ ap (λ t. t.left) h.lower)
-                (λ z. let e1 : r ≡ 1 = omega arith in ap (λ t. (node_at nodes t).left) e1 ∙ ap (λ t. t.left) h.upper) (cases_lt r 1) in
+            (λ z. let e1 : r ≡ 1 = omega arith in ap (λ t. (node_at nodes t).left) e1 ∙ ap (λ t. t.left) h.upper) (cases_lt r 1) in
             let right : (node_at nodes r).right ≡ nowhere = ⊎_elim (λ z. let e0 : r ≡ 0 = omega arith in ap (λ t. (node_at nodes t).right) e0 ∙ ap (λ t. t.right) h.lower)
-                (λ z. let e1 : r ≡ 1 = omega arith in ap (λ t. (node_at nodes t).right) e1 ∙ ap (λ t. t.right) h.upper) (cases_lt r 1) in
+            (λ z. let e1 : r ≡ 1 = omega arith in ap (λ t. (node_at nodes t).right) e1 ∙ ap (λ t. t.right) h.upper) (cases_lt r 1) in
             let base : (node_at nodes r).base ≡ 1 - r = ⊎_elim (λ z. let e0 : r ≡ 0 = omega arith in ap (λ t. (node_at nodes t).base) e0 ∙ ap (λ t. t.base) h.lower ∙ (let y : 1 ≡ 1 - r = omega arith in y))
-                (λ z. let e1 : r ≡ 1 = omega arith in ap (λ t. (node_at nodes t).base) e1 ∙ ap (λ t. t.base) h.upper ∙ (let y : 0 ≡ 1 - r = omega arith in y)) (cases_lt r 1) in
+            (λ z. let e1 : r ≡ 1 = omega arith in ap (λ t. (node_at nodes t).base) e1 ∙ ap (λ t. t.base) h.upper ∙ (let y : 0 ≡ 1 - r = omega arith in y)) (cases_lt r 1) in
             elim (owner_cases (has_children pairs) e) [
               | inl v ↦
                   let o = v.1 in
@@ -104,8 +104,11 @@ first_forest pairs parents nodes h =
       };
       children = λ r live.
           let s = first_slot pairs parents nodes r h live in let small = s.0 in let at = s.1 in
-          inl (⊎_elim (λ z. let e0 : r ≡ 0 = omega arith in ap (λ t. (node_at nodes t).children) e0 ∙ ap (λ t. t.children) h.lower)
-          (λ z. let e1 : r ≡ 1 = omega arith in ap (λ t. (node_at nodes t).children) e1 ∙ ap (λ t. t.children) h.upper) (cases_lt r 1), none (address_at pairs r) live);
+          inl (
+            ⊎_elim (λ z. let e0 : r ≡ 0 = omega arith in ap (λ t. (node_at nodes t).children) e0 ∙ ap (λ t. t.children) h.lower)
+                (λ z. let e1 : r ≡ 1 = omega arith in ap (λ t. (node_at nodes t).children) e1 ∙ ap (λ t. t.children) h.upper) (cases_lt r 1),
+            none (address_at pairs r) live,
+          );
       upward = λ k two. absurd (⊎_elim (λ e. let z : get_or pairs k 0 ≡ 1 = ap (λ t. get_or pairs t 0) e ∙ h.one in omega arith)
           (λ n. let z = h.rest k n in omega arith) (cases_eq k 0));
     }
@@ -113,7 +116,7 @@ first_forest pairs parents nodes h =
 pub first_closed : (n : ℕ) (pairs parents : List ℕ) (nodes : List Node) → IsFirst pairs parents nodes → IsClosed n (split_set pairs)
 first_closed n pairs parents nodes h =
     let none : (p : ℕ) → split_set pairs p ≡ true → ⊥ = λ p y.
-        let z = has_children_one pairs parents nodes p h (set-has_children pairs p y) in let low = ltb-true 1 p (and_parts (nat_lt 1 p) (among pairs p) y).0 in omega arith in
+    let z = has_children_one pairs parents nodes p h (set-has_children pairs p y) in let low = ltb-true 1 p (and_parts (nat_lt 1 p) (among pairs p) y).0 in omega arith in
     record {
       splittable = λ p y. absurd (none p y);
       parent = λ p y deep. absurd (none p y);
@@ -149,10 +152,10 @@ first_room pairs how_many count some one rest =
     let zeros : List ℕ = replicate how_many 0 in
     let zero_count : length (replicate {A = ℕ} how_many 0) ≡ how_many = length-replicate how_many 0 in
     let is : pairs ≡ set (replicate how_many 0) 0 1 = ext_get_or 0 pairs (set (replicate how_many 0) 0 1) (let z = length-set (replicate {A = ℕ} how_many 0) 0 1 in omega arith)
-        (λ i less. elim (cases_eq i 0) [
-          | inl e ↦ ap (λ t. get_or pairs t 0) e ∙ one ∙ sym (ap (λ t. get_or (set (replicate how_many 0) 0 1) t 0) e ∙ get_or-set_same (replicate how_many 0) 0 1 0 (omega arith))
-          | inr n ↦ rest i n ∙ sym (get_or-set_other (replicate how_many 0) 0 i 1 0 n ∙ get_or-replicate how_many i 0 0 (omega arith))
-        ]) in
+    (λ i less. elim (cases_eq i 0) [
+      | inl e ↦ ap (λ t. get_or pairs t 0) e ∙ one ∙ sym (ap (λ t. get_or (set (replicate how_many 0) 0 1) t 0) e ∙ get_or-set_same (replicate how_many 0) 0 1 0 (omega arith))
+      | inr n ↦ rest i n ∙ sym (get_or-set_other (replicate how_many 0) 0 i 1 0 n ∙ get_or-replicate how_many i 0 0 (omega arith))
+    ]) in
     let all = sum_by-set f (replicate how_many 0) 0 1 0 (omega arith) in
     let at_0 : f (get_or (replicate how_many 0) 0 0) ≡ 1 = ap f (get_or-replicate how_many 0 0 0 (omega arith)) in
     let total : sum_by f (replicate how_many 0) ≡ how_many * 1 = sum_by-replicate f how_many 0 in

@@ -88,7 +88,8 @@ pairs_one n most pairs free spare k a after h some is low after_is =
     let pair_count = h.pair_count in
     let count : length after ≡ length pairs = ap length after_is ∙ length-set pairs k a in
     record {
-      most_low = h.most_low; most_high = h.most_high;
+      most_low = h.most_low;
+      most_high = h.most_high;
       pair_count = omega arith;
       vacancies = subst (λ t. IsFree t free (spare - 1)) (sym after_is) (free_less pairs free spare k a h.vacancies some is low);
     }
@@ -102,7 +103,8 @@ pairs_two n most pairs free spare k j a b after h some is_k is_j low_a low_b aft
     let first : IsFree (set pairs k a) free (spare - 1) = free_less pairs free spare k a h.vacancies (omega arith) is_k low_a in
     let second : IsFree (set (set pairs k a) j b) free (spare - 1 - 1) = free_less (set pairs k a) free (spare - 1) j b first (omega arith) (is_j ∙ ap (λ t. get_or free t 0) (sym two)) low_b in
     record {
-      most_low = h.most_low; most_high = h.most_high;
+      most_low = h.most_low;
+      most_high = h.most_high;
       pair_count = omega arith;
       vacancies = subst (λ t. IsFree t free (spare - 2)) (sym after_is) (rw two at second);
     }
@@ -149,9 +151,11 @@ second_seen n most pairs free spare s t k j seen e_pairs h link given level room
     let same : room_of pairs ≡ room_of seen = ap room_of e_pairs in
     let found = ⊎_elim (λ v. absurd (given v.1)) (λ v. v) link in
     let mate : 1 ≤ mate_of (address_at seen s) = let z : mate_of (address_at pairs s) ≡ mate_of (address_at seen s) = ap (λ t. mate_of (address_at t s)) e_pairs in let y = found.0 in omega arith in
-    let two = room mate in
-    ((omega arith), second_of pairs free spare s t k j h.vacancies found.0 found.1 (ap (λ t. has_children t (mate_of (address_at t s) / 2)) e_pairs ∙ level mate) (omega arith)
-    (free_read n most pairs free spare (spare - 1) k h (omega arith) read_k) (free_read n most pairs free spare (spare - 2) j h (omega arith) read_j))
+    let two = room mate in (
+      (omega arith),
+      second_of pairs free spare s t k j h.vacancies found.0 found.1 (ap (λ t. has_children t (mate_of (address_at t s) / 2)) e_pairs ∙ level mate) (omega arith)
+          (free_read n most pairs free spare (spare - 1) k h (omega arith) read_k) (free_read n most pairs free spare (spare - 2) j h (omega arith) read_j),
+    )
 
 -- ---- what a split does
 
@@ -220,32 +224,36 @@ free_more pairs free spare k h within used =
     let space : spare < length free = omega arith in
     let at_end : get_or (set free spare k) spare 0 ≡ k = get_or-set_same free spare k 0 space in
     let before : (i : ℕ) → i < spare → get_or (set free spare k) i 0 ≡ get_or free i 0 = λ i less. get_or-set_other free spare i k 0 (λ e. omega arith) in
-    let fresh : (i : ℕ) → i < spare → get_or free i 0 ≢ k = λ i less e. let v = (h.vacant i less).1 in let z : get_or pairs (get_or free i 0) 0 ≡ get_or pairs k 0 = ap (λ t. get_or pairs t 0) e in omega arith in
-    (space, record {
-      count = omega arith;
-      spare_is = omega arith;
-      vacant = λ i less. ⊎_elim
-          (λ old. let v = h.vacant i old in let e = before i old in let w = v.0 in
-          (omega arith, ap (λ t. get_or (set pairs k 0) t 0) e ∙ get_or-set_other pairs k (get_or free i 0) 0 0 (fresh i old) ∙ v.1))
-          (λ last. let is : i ≡ spare = omega arith in let e : get_or (set free spare k) i 0 ≡ k = ap (λ t. get_or (set free spare k) t 0) is ∙ at_end in
-          (omega arith, ap (λ t. get_or (set pairs k 0) t 0) e ∙ get_or-set_same pairs k 0 0 within))
-          (cases_lt i spare);
-      distinct = λ i j p q e. ⊎_elim
-          (λ old_i. ⊎_elim
-          (λ old_j. h.distinct i j old_i old_j (sym (before i old_i) ∙ e ∙ before j old_j))
-          (λ last. let is : j ≡ spare = omega arith in absurd (fresh i old_i (sym (before i old_i) ∙ e ∙ ap (λ t. get_or (set free spare k) t 0) is ∙ at_end)))
-          (cases_lt j spare))
-          (λ last. let is : i ≡ spare = omega arith in ⊎_elim
-          (λ old_j. absurd (fresh j old_j (sym (before j old_j) ∙ sym e ∙ ap (λ t. get_or (set free spare k) t 0) is ∙ at_end)))
-          (λ also. omega arith) (cases_lt j spare))
-          (cases_lt i spare);
-    })
+    let fresh : (i : ℕ) → i < spare → get_or free i 0 ≢ k = λ i less e. let v = (h.vacant i less).1 in let z : get_or pairs (get_or free i 0) 0 ≡ get_or pairs k 0 = ap (λ t. get_or pairs t 0) e in omega arith in (
+      space,
+      record {
+        count = omega arith;
+        spare_is = omega arith;
+        vacant = λ i less. ⊎_elim
+            (λ old. let v = h.vacant i old in let e = before i old in let w = v.0 in
+            (omega arith, ap (λ t. get_or (set pairs k 0) t 0) e ∙ get_or-set_other pairs k (get_or free i 0) 0 0 (fresh i old) ∙ v.1))
+            (λ last. let is : i ≡ spare = omega arith in let e : get_or (set free spare k) i 0 ≡ k = ap (λ t. get_or (set free spare k) t 0) is ∙ at_end in
+            (omega arith, ap (λ t. get_or (set pairs k 0) t 0) e ∙ get_or-set_same pairs k 0 0 within))
+            (cases_lt i spare);
+        distinct = λ i j p q e. ⊎_elim
+            (λ old_i. ⊎_elim
+            (λ old_j. h.distinct i j old_i old_j (sym (before i old_i) ∙ e ∙ before j old_j))
+            (λ last. let is : j ≡ spare = omega arith in absurd (fresh i old_i (sym (before i old_i) ∙ e ∙ ap (λ t. get_or (set free spare k) t 0) is ∙ at_end)))
+            (cases_lt j spare))
+            (λ last. let is : i ≡ spare = omega arith in ⊎_elim
+            (λ old_j. absurd (fresh j old_j (sym (before j old_j) ∙ sym e ∙ ap (λ t. get_or (set free spare k) t 0) is ∙ at_end)))
+            (λ also. omega arith) (cases_lt j spare))
+            (cases_lt i spare);
+      },
+    )
 
 pub pairs_more : (n most m : ℕ) (pairs free : List ℕ) (spare s k : ℕ) (after : List ℕ) → HasPairs n most pairs free spare → AreChildrenAt pairs (address_at pairs s) k → has_children pairs (address_at pairs s) ≡ true → IsLive pairs s →
     (spare < length free) × (after ≡ set pairs k 0 → HasPairs m most after (set free spare k) (spare + 1))
 pairs_more n most m pairs free spare s k after h children is_split live =
     let is : get_or pairs k 0 ≡ address_at pairs s = ⊎_elim (λ v. absurd (true≢false (sym is_split ∙ v.1))) (λ v. v.1) children in
     let within : k < length pairs = ⊎_elim (λ w. w) (λ past. absurd (let z = get_or_past pairs k 0 past in omega arith)) (cases_lt k (length pairs)) in
-    let more = free_more pairs free spare k h.vacancies within (omega arith) in
-    (more.0, λ e. let count : length after ≡ length pairs = ap length e ∙ length-set pairs k 0 in let pair_count = h.pair_count in
-    record { most_low = h.most_low; most_high = h.most_high; pair_count = omega arith; vacancies = subst (λ t. IsFree t (set free spare k) (spare + 1)) (sym e) more.1 })
+    let more = free_more pairs free spare k h.vacancies within (omega arith) in (
+      more.0,
+      λ e. let count : length after ≡ length pairs = ap length e ∙ length-set pairs k 0 in let pair_count = h.pair_count in
+          record { most_low = h.most_low; most_high = h.most_high; pair_count = omega arith; vacancies = subst (λ t. IsFree t (set free spare k) (spare + 1)) (sym e) more.1 },
+    )

@@ -100,7 +100,7 @@ ready_second n pairs parents nodes s t k j a forest closed o two =
     let count : length (set pairs k a) ≡ length pairs = length-set pairs k a in
     let at = two.address in
     let child : (p : ℕ) → p / 2 ≡ a → has_children (set pairs k a) p ≡ false = λ p half.
-        has_children-kept pairs k a p o.within o.free (omega arith) ∙ child_shut pairs p a forest.sound o.leaf half (omega arith) in
+    has_children-kept pairs k a p o.within o.free (omega arith) ∙ child_shut pairs p a forest.sound o.leaf half (omega arith) in
     record {
       address = address-old pairs k a t (live_apart pairs k t o.free (omega arith)) ∙ two.address;
       low = b;

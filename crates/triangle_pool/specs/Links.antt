@@ -81,7 +81,6 @@ pub record MayHalve (pairs : List ℕ) (s k a mate : ℕ) : Type 0 where
   pub alone : mate ≡ nowhere → has_children pairs (mate_of a) ≡ false
   pub paired : mate ≢ nowhere → (1 ≤ mate_of a) × (slice_index pairs mate ≡ mate_of a)
 
-
 -- the two edges between a's new children and those of its mate, where these have a pair already
 pub record IsInner (pairs : List ℕ) (before after : List Node) (k a mate : ℕ) : Type 0 where
   pub there : (r e : ℕ) → IsLive pairs r → owner (has_children pairs) e ≡ address_at pairs r → mate ≢ nowhere →

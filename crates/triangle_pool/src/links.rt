@@ -63,7 +63,11 @@ fn far_child(mate: u32, side: u32) -> u32
     ensures none { mate ≡ nowhere → result ≡ nowhere }
     ensures some { mate ≢ nowhere → result ≡ 2 * mate + side }
 {
-    if mate == NOWHERE { NOWHERE } else { 2 * mate + side }
+    if mate == NOWHERE {
+        NOWHERE
+    } else {
+        2 * mate + side
+    }
 }
 
 /// Puts the nodes of a pair in their place, and makes them the children of s.
@@ -112,7 +116,14 @@ pub fn halve(pairs: &mut [u32], parents: &mut [u32], nodes: &mut [Node], s: u32,
 }
 
 /// Splits the leaf at s, whose base lies on the border.
-pub fn split_border(n: u32, pairs: &mut [u32], parents: &mut [u32], nodes: &mut [Node], s: u32, k: u32)
+pub fn split_border(
+    n: u32,
+    pairs: &mut [u32],
+    parents: &mut [u32],
+    nodes: &mut [Node],
+    s: u32,
+    k: u32,
+)
     requires forest { IsForest pairs.old parents.old nodes.old }
     requires closed { IsClosed n (split_set pairs.old) }
     requires may_split { MaySplit n pairs.old s k (address_at pairs.old s) }
@@ -126,7 +137,16 @@ pub fn split_border(n: u32, pairs: &mut [u32], parents: &mut [u32], nodes: &mut 
 }
 
 /// Splits the leaf at s and its mate at t.
-pub fn split_diamond(n: u32, pairs: &mut [u32], parents: &mut [u32], nodes: &mut [Node], s: u32, t: u32, k: u32, j: u32)
+pub fn split_diamond(
+    n: u32,
+    pairs: &mut [u32],
+    parents: &mut [u32],
+    nodes: &mut [Node],
+    s: u32,
+    t: u32,
+    k: u32,
+    j: u32,
+)
     requires forest { IsForest pairs.old parents.old nodes.old }
     requires closed { IsClosed n (split_set pairs.old) }
     requires may_split { MaySplit n pairs.old s k (address_at pairs.old s) }
@@ -186,7 +206,16 @@ pub fn merge_border(n: u32, pairs: &mut [u32], parents: &[u32], nodes: &mut [Nod
 }
 
 /// Merges the triangle at s and its mate at t.
-pub fn merge_diamond(n: u32, pairs: &mut [u32], parents: &[u32], nodes: &mut [Node], s: u32, t: u32, k: u32, j: u32)
+pub fn merge_diamond(
+    n: u32,
+    pairs: &mut [u32],
+    parents: &[u32],
+    nodes: &mut [Node],
+    s: u32,
+    t: u32,
+    k: u32,
+    j: u32,
+)
     requires n { n ≤ 11 }
     requires forest { IsForest pairs.old parents.now nodes.old }
     requires closed { IsClosed n (split_set pairs.old) }

@@ -93,10 +93,8 @@ impl Nodes {
         requires live { IsLive self.now.pairs s }
         ensures grid { self.now.n ≤ 11 }
         ensures root { has_children self.now.pairs 1 ≡ true }
-        ensures base {
-            ((mate_of (address_at self.now.pairs s) ≡ 0) × (result ≡ nowhere))
-            ⊎ ((1 ≤ mate_of (address_at self.now.pairs s)) × (address_at self.now.pairs result ≡ owner (has_children self.now.pairs) (mate_of (address_at self.now.pairs s))))
-        }
+        ensures base { ((mate_of (address_at self.now.pairs s) ≡ 0) × (result ≡ nowhere))
+            ⊎ ((1 ≤ mate_of (address_at self.now.pairs s)) × (address_at self.now.pairs result ≡ owner (has_children self.now.pairs) (mate_of (address_at self.now.pairs s)))) }
     {
         self.nodes[s as usize].base
     }
@@ -126,7 +124,14 @@ impl Nodes {
         ensures n { self.new.n ≡ self.old.n }
         ensures pairs { self.new.pairs ≡ slice_set self.old.pairs k (address_at self.old.pairs s) }
     {
-        split_border(self.n, &mut self.pairs, &mut self.parents, &mut self.nodes, s, k);
+        split_border(
+            self.n,
+            &mut self.pairs,
+            &mut self.parents,
+            &mut self.nodes,
+            s,
+            k,
+        );
     }
 
     /// Splits the leaf at s and its mate at t.
@@ -136,7 +141,16 @@ impl Nodes {
         ensures n { self.new.n ≡ self.old.n }
         ensures pairs { self.new.pairs ≡ slice_set (slice_set self.old.pairs k (address_at self.old.pairs s)) j (mate_of (address_at self.old.pairs s)) }
     {
-        split_diamond(self.n, &mut self.pairs, &mut self.parents, &mut self.nodes, s, t, k, j);
+        split_diamond(
+            self.n,
+            &mut self.pairs,
+            &mut self.parents,
+            &mut self.nodes,
+            s,
+            t,
+            k,
+            j,
+        );
     }
 
     /// The pair of the children, or NOWHERE.
@@ -189,7 +203,11 @@ impl Nodes {
         ensures some { result ≢ nowhere → address_at self.now.pairs result ≡ address_at self.now.pairs s / 2 }
     {
         let pair = s as usize / 2;
-        if self.pairs[pair] == 1 { NOWHERE } else { self.parents[pair] }
+        if self.pairs[pair] == 1 {
+            NOWHERE
+        } else {
+            self.parents[pair]
+        }
     }
 
     /// Merges the triangle at s, whose base is on the border.
@@ -199,7 +217,14 @@ impl Nodes {
         ensures n { self.new.n ≡ self.old.n }
         ensures pairs { self.new.pairs ≡ slice_set self.old.pairs k 0 }
     {
-        merge_border(self.n, &mut self.pairs, &self.parents, &mut self.nodes, s, k);
+        merge_border(
+            self.n,
+            &mut self.pairs,
+            &self.parents,
+            &mut self.nodes,
+            s,
+            k,
+        );
     }
 
     /// Merges the triangle at s and its mate at t.
@@ -210,6 +235,15 @@ impl Nodes {
         ensures n { self.new.n ≡ self.old.n }
         ensures pairs { self.new.pairs ≡ slice_set (slice_set self.old.pairs k 0) j 0 }
     {
-        merge_diamond(self.n, &mut self.pairs, &self.parents, &mut self.nodes, s, t, k, j);
+        merge_diamond(
+            self.n,
+            &mut self.pairs,
+            &self.parents,
+            &mut self.nodes,
+            s,
+            t,
+            k,
+            j,
+        );
     }
 }

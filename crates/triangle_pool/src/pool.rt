@@ -333,7 +333,11 @@ fn linked(link: u32) -> Option<Slot>
     ensures none { IsNone result ↔ link ≡ nowhere }
     ensures some { IfSome result (λ t. (t.0 ≡ link) × (link ≢ nowhere)) }
 {
-    if link == NOWHERE { None } else { Some(Slot(link)) }
+    if link == NOWHERE {
+        None
+    } else {
+        Some(Slot(link))
+    }
 }
 
 /// Adds the two slots of a pair.

@@ -27,7 +27,7 @@ split-born-requires-clause-level t c =
 pub returns-clause-chained : goal.returns-clause-chained
 returns-clause-chained t c =
     let own = turn c.args.pool.now.n c.args.pool.now.pairs c.split_all.new.pool.pairs c.in-Some.first.now.0 (numbers c.in-Some.rest.now) c.requires.valid c.split_all.ensures.valid.root
-        (subst (λ x. IsChain c.args.pool.now.pairs (numbers x)) c.in-Some.ensures.cases.0 c.requires.chain) c.split_all.ensures.chained c.split_all.ensures.kept in
+    (subst (λ x. IsChain c.args.pool.now.pairs (numbers x)) c.in-Some.ensures.cases.0 c.requires.chain) c.split_all.ensures.chained c.split_all.ensures.kept in
     task_step c.args.pool.now.n c.args.pool.now.pairs c.split_all.new.pool.pairs c.split-born.new.self.pairs c.args.slots.now c.in-Some.first.now c.in-Some.rest.now (room_of c.args.pool.now.pairs) c.args.pool.now.splits
     c.in-Some.ensures.cases.0 c.requires.valid (record { chain = c.requires.chain; coarse = c.requires.coarse; fits = c.requires.room; count = c.requires.count }) c.split_all.ensures.chained own.same c.split-born.ensures.split
 
@@ -50,8 +50,9 @@ pub returns-clause-answers : goal.returns-clause-answers
 returns-clause-answers t c =
     let before = c.split_all.ensures.answers in
     let own = turn c.args.pool.now.n c.args.pool.now.pairs c.split_all.new.pool.pairs c.in-Some.first.now.0 (numbers c.in-Some.rest.now) c.requires.valid c.split_all.ensures.valid.root
-        (subst (λ x. IsChain c.args.pool.now.pairs (numbers x)) c.in-Some.ensures.cases.0 c.requires.chain) c.split_all.ensures.chained c.split_all.ensures.kept in
-    (before.0 ++ (c.split-born.result ∷ []),
-    c.push.ensures.items ∙ ap (λ x. x ++ (c.split-born.result ∷ [])) before.1 ∙ append_assoc c.args.answers.now.items before.0 (c.split-born.result ∷ []),
-    answers_step c.args.pool.now.pairs c.split_all.new.pool.pairs c.split-born.new.self.pairs c.args.slots.now c.in-Some.first.now c.in-Some.rest.now before.0 c.split-born.result
-    c.in-Some.ensures.cases.0 c.requires.chain before.2 c.split-born.ensures.split.slots own.same c.split-born.ensures.born)
+    (subst (λ x. IsChain c.args.pool.now.pairs (numbers x)) c.in-Some.ensures.cases.0 c.requires.chain) c.split_all.ensures.chained c.split_all.ensures.kept in (
+      before.0 ++ (c.split-born.result ∷ []),
+      c.push.ensures.items ∙ ap (λ x. x ++ (c.split-born.result ∷ [])) before.1 ∙ append_assoc c.args.answers.now.items before.0 (c.split-born.result ∷ []),
+      answers_step c.args.pool.now.pairs c.split_all.new.pool.pairs c.split-born.new.self.pairs c.args.slots.now c.in-Some.first.now c.in-Some.rest.now before.0 c.split-born.result
+          c.in-Some.ensures.cases.0 c.requires.chain before.2 c.split-born.ensures.split.slots own.same c.split-born.ensures.born,
+    )

@@ -15,5 +15,5 @@ returns c =
     let count = m.forest.node_count in
     let node = get_or_default c.self.inside.nodes.items c.args.s blank c.index.result.now (omega arith) ∙ sym c.index.ensures in
     let link = left_across c.self.inside.n c.self.inside.pairs.items c.self.inside.parents.items c.self.inside.nodes.items c.args.s (address_at c.self.inside.pairs.items c.args.s) m.forest m.closed refl live
-        (ap (λ t. has_children t (address_at t c.args.s)) e ∙ c.requires.leaf) in
+    (ap (λ t. has_children t (address_at t c.args.s)) e ∙ c.requires.leaf) in
     subst (λ t. IsAcross t (2 * address_at t c.args.s) c.index.result.now.left) e (subst (λ t. IsAcross c.self.inside.pairs.items (2 * address_at c.self.inside.pairs.items c.args.s) t.left) node link)

@@ -14,7 +14,7 @@ returns-else-index-eq1-clause-none c =
     let within = live_within c.self.inside.pairs.items c.args.s live in
     let top : c.index.result.now ≡ get_or c.self.inside.pairs.items (c.args.s / 2) 0 = c.index.ensures ∙ get_or_default c.self.inside.pairs.items (c.args.s / 2) c.index.result.now 0 within in
     let read = parent_link c.self.inside.pairs.items c.self.inside.parents.items c.args.s c.index-else-index-eq1.result.now live forest.parent_count forest.sound.short forest.upward
-        (λ one. c.if-index-eq1.false (top ∙ one)) c.index-else-index-eq1.ensures in
+    (λ one. c.if-index-eq1.false (top ∙ one)) c.index-else-index-eq1.ensures in
     subst (λ t. (c.index-else-index-eq1.result.now ≡ nowhere → address_at t c.args.s < 4) × (address_at t c.args.s < 4 → c.index-else-index-eq1.result.now ≡ nowhere)) e read.0
 
 pub returns-else-index-eq1-clause-some : goal.returns-else-index-eq1-clause-some
@@ -25,5 +25,5 @@ returns-else-index-eq1-clause-some c =
     let within = live_within c.self.inside.pairs.items c.args.s live in
     let top : c.index.result.now ≡ get_or c.self.inside.pairs.items (c.args.s / 2) 0 = c.index.ensures ∙ get_or_default c.self.inside.pairs.items (c.args.s / 2) c.index.result.now 0 within in
     let read = parent_link c.self.inside.pairs.items c.self.inside.parents.items c.args.s c.index-else-index-eq1.result.now live forest.parent_count forest.sound.short forest.upward
-        (λ one. c.if-index-eq1.false (top ∙ one)) c.index-else-index-eq1.ensures in
+    (λ one. c.if-index-eq1.false (top ∙ one)) c.index-else-index-eq1.ensures in
     subst (λ t. c.index-else-index-eq1.result.now ≢ nowhere → address_at t c.index-else-index-eq1.result.now ≡ address_at t c.args.s / 2) e read.1

@@ -42,13 +42,15 @@ invariant_of-self c =
 
 pub children-j-requires : goal.children-j-requires
 children-j-requires c =
-    record { live = (both c.self.inside.nodes.pairs c.args.self.now.pairs c.args.s.0 c.partner-partner.result c.children-k.result 0 (ap (λ p. p.pairs) c.self.view_is) c.requires.live c.requires.ready c.children-k.ensures
-    c.partner-partner.ensures.none.1 c.partner-partner.ensures.some c.if-partner.false).0 }
+    record {
+      live = (both c.self.inside.nodes.pairs c.args.self.now.pairs c.args.s.0 c.partner-partner.result c.children-k.result 0 (ap (λ p. p.pairs) c.self.view_is) c.requires.live c.requires.ready c.children-k.ensures
+          c.partner-partner.ensures.none.1 c.partner-partner.ensures.some c.if-partner.false).0;
+    }
 
 pub push_pair-requires-else-partner-clause-small : goal.push_pair-requires-else-partner-clause-small
 push_pair-requires-else-partner-clause-small c =
     let all = both c.self.inside.nodes.pairs c.args.self.now.pairs c.args.s.0 c.partner-partner.result c.children-k.result c.children-j.result (ap (λ p. p.pairs) c.self.view_is) c.requires.live c.requires.ready c.children-k.ensures
-        c.partner-partner.ensures.none.1 c.partner-partner.ensures.some c.if-partner.false in
+    c.partner-partner.ensures.none.1 c.partner-partner.ensures.some c.if-partner.false in
     let second = all.3 c.children-j.ensures in
     let within = pair_in c.self.inside.nodes.pairs c.children-j.result (mate_of (address_at c.self.inside.nodes.pairs c.args.s.0)) second.low second.pair in
     let short = c.n-n.ensures.short in omega arith
@@ -67,7 +69,7 @@ index_mut-requires-else-partner c =
 pub index_mut-requires-else-partner-2 : goal.index_mut-requires-else-partner-2
 index_mut-requires-else-partner-2 c =
     let all = both c.self.inside.nodes.pairs c.args.self.now.pairs c.args.s.0 c.partner-partner.result c.children-k.result c.children-j.result (ap (λ p. p.pairs) c.self.view_is) c.requires.live c.requires.ready c.children-k.ensures
-        c.partner-partner.ensures.none.1 c.partner-partner.ensures.some c.if-partner.false in
+    c.partner-partner.ensures.none.1 c.partner-partner.ensures.some c.if-partner.false in
     let space = (pairs_back_two c.self.inside.nodes.n c.self.inside.most c.self.inside.nodes.n c.self.inside.nodes.pairs c.self.inside.free.items c.self.inside.spare c.args.s.0 c.partner-partner.result c.children-k.result c.children-j.result
     (address_at c.self.inside.nodes.pairs c.args.s.0) c.self.invariant c.n-n.ensures.valid all.2 all.1 (all.3 c.children-j.ensures)).0 in
     let len = c.self.inside.free.ok.0 in omega arith
@@ -75,7 +77,7 @@ index_mut-requires-else-partner-2 c =
 pub invariant_of-self-else-partner : goal.invariant_of-self-else-partner
 invariant_of-self-else-partner c =
     let all = both c.self.inside.nodes.pairs c.args.self.now.pairs c.args.s.0 c.partner-partner.result c.children-k.result c.children-j.result (ap (λ p. p.pairs) c.self.view_is) c.requires.live c.requires.ready c.children-k.ensures
-        c.partner-partner.ensures.none.1 c.partner-partner.ensures.some c.if-partner.false in
+    c.partner-partner.ensures.none.1 c.partner-partner.ensures.some c.if-partner.false in
     let P : List ℕ → Type 0 = λ t. HasPairs c.merge_both.new.self.n c.self.inside.most t (set (set c.self.inside.free.items c.self.inside.spare c.children-k.result) (c.self.inside.spare + 1) c.children-j.result) (c.self.inside.spare + 2) in
     subst P (sym c.merge_both.ensures.pairs)
     (pairs_back_two c.self.inside.nodes.n c.self.inside.most c.merge_both.new.self.n c.self.inside.nodes.pairs c.self.inside.free.items c.self.inside.spare c.args.s.0 c.partner-partner.result c.children-k.result c.children-j.result
@@ -99,7 +101,7 @@ pub returns-else-partner-clause-merge : goal.returns-else-partner-clause-merge
 returns-else-partner-clause-merge c =
     let e : c.self.inside.nodes.pairs ≡ c.args.self.now.pairs = ap (λ p. p.pairs) c.self.view_is in
     let all = both c.self.inside.nodes.pairs c.args.self.now.pairs c.args.s.0 c.partner-partner.result c.children-k.result c.children-j.result e c.requires.live c.requires.ready c.children-k.ensures
-        c.partner-partner.ensures.none.1 c.partner-partner.ensures.some c.if-partner.false in
+    c.partner-partner.ensures.none.1 c.partner-partner.ensures.some c.if-partner.false in
     subst (λ t. IsMerge t c.merge_both.new.self.pairs (address_at t c.args.s.0)) e
     (IsMerge-both c.self.inside.nodes.n c.self.inside.nodes.pairs c.merge_both.new.self.pairs c.args.s.0 c.partner-partner.result c.children-k.result c.children-j.result (address_at c.self.inside.nodes.pairs c.args.s.0)
     c.n-n.ensures.valid all.2 all.1 (all.3 c.children-j.ensures) c.merge_both.ensures.pairs)
@@ -108,7 +110,7 @@ pub returns-else-partner-clause-room : goal.returns-else-partner-clause-room
 returns-else-partner-clause-room c =
     let e : c.self.inside.nodes.pairs ≡ c.args.self.now.pairs = ap (λ p. p.pairs) c.self.view_is in
     let all = both c.self.inside.nodes.pairs c.args.self.now.pairs c.args.s.0 c.partner-partner.result c.children-k.result c.children-j.result e c.requires.live c.requires.ready c.children-k.ensures
-        c.partner-partner.ensures.none.1 c.partner-partner.ensures.some c.if-partner.false in
+    c.partner-partner.ensures.none.1 c.partner-partner.ensures.some c.if-partner.false in
     subst (λ t. room_of c.merge_both.new.self.pairs ≡ room_of t + diamond_size (address_at t c.args.s.0)) e
     (back_two c.self.inside.nodes.n c.self.inside.nodes.pairs c.merge_both.new.self.pairs c.args.s.0 c.partner-partner.result c.children-k.result c.children-j.result (address_at c.self.inside.nodes.pairs c.args.s.0)
     c.n-n.ensures.valid all.2 all.1 (all.3 c.children-j.ensures) c.merge_both.ensures.pairs)
