@@ -12,13 +12,15 @@ ghost use Rattle.obj_write.specs.Page.{Passed, Broken};
 ghost use Rattle.obj_write.specs.Written.{mesh_with, Grows, GrowsByPart, IsPartOfMesh};
 ghost use Rattle.obj_write.specs.MeshView.{view_text, IsView, IsShown, vertex_lines, group_text};
 ghost use Rattle.obj_write.specs.VertexMarks.{place_point, is_vertex};
+ghost use Rattle.obj_write.specs.declared.page.TheConstants.{LONGEST_LINE};
 
 use crate::page::{Page, write_numbers, write_rest, write_text};
-use crate::vertices::{place, side};
+use crate::vertices::place;
 use arrayvec::ArrayVec;
 use bintree_addr::{Point, Tri};
 use cull_marks::Planes;
 use mesh_defs::Mark;
+use pgm_grid::side_for;
 use roam_edge::{Failed, MeshSink};
 use wedgie_tree::Wedges;
 
@@ -125,7 +127,7 @@ fn point_at(n: u32, at: usize) -> Point
     ensures value { result ≡ place_point n at }
     ensures within { IsInSquare (2 ^ n) result }
 {
-    let side = side(n);
+    let side = side_for(n);
     Point {
         x: (at % side) as u32,
         y: (at / side) as u32,
@@ -251,7 +253,7 @@ fn is_before(before: Option<Mark>, mark: Mark) -> bool
 /// The group line of a mark.
 fn group_text(mark: Mark) -> &'static [u8]
     ensures value { result.now ≡ group_text mark }
-    ensures short { length result.now ≤ 65 }
+    ensures short { length result.now ≤ LONGEST_LINE }
 {
     match mark {
         Mark::Inside => b"g inside\n",

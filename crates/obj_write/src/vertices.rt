@@ -9,6 +9,7 @@ ghost use Rattle.obj_write.specs.Numbers.{numbers_of};
 ghost use Rattle.obj_write.specs.VertexMarks.{grid_place, vertex_marks, numbered, marked};
 
 use bintree_addr::{Point, Tri};
+use pgm_grid::side_for;
 
 /// Gives each vertex of the leaves its number, counted from 1, and answers how many there are.
 ///
@@ -59,16 +60,7 @@ pub(crate) fn place(n: u32, point: Point) -> usize
     ensures value { result ≡ grid_place n point }
     ensures below { result < side_of n * side_of n }
 {
-    point.y as usize * side(n) + point.x as usize
-}
-
-/// The points of a side.
-pub(crate) fn side(n: u32) -> usize
-    requires { n ≤ 11 }
-    ensures value { result ≡ side_of n }
-    ensures high { result ≤ 2049 }
-{
-    (1 << n) + 1
+    point.y as usize * side_for(n) + point.x as usize
 }
 
 /// Puts in place of each mark how many marks there are up to it, and answers how many there are.

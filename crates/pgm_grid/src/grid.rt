@@ -149,7 +149,7 @@ impl Grid {
 }
 
 /// The number of points of a side of a grid with this n.
-fn side_for(n: u32) -> usize
+pub fn side_for(n: u32) -> usize
     requires { n ≤ 11 }
     ensures value { result ≡ side_of n }
     ensures high { result ≤ 2049 }

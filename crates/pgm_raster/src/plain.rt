@@ -2,7 +2,8 @@
 
 ghost use Rattle.std.specs.Prelude.{◌≡◌, ◌+◌, ◌^◌, ◌<◌, ◌≤◌, ◌++◌, ◌∷◌, ℕ, List, length, vec_len, OnOk, IfOk, IfErr};
 ghost use Rattle.std.specs.Vec.{vec_capacity};
-ghost use Rattle.pgm_raster.specs.Progress.{Answer, after, is_space, reads, ended_then, no_digits};
+ghost use Rattle.text_laws.specs.Blanks.{is_white};
+ghost use Rattle.pgm_raster.specs.Progress.{Answer, after, reads, ended_then, no_digits};
 ghost use Rattle.pgm_raster.specs.Stage.{HasRoom, IsPart, IsDigits};
 ghost use Rattle.pgm_raster.specs.declared.part.Part.TheVariants as part;
 
@@ -23,7 +24,7 @@ impl Digits {
 /// Whether the byte is a blank, a TAB, a CR or an LF.
 #[inline(always)]
 fn is_whitespace(byte: u8) -> bool
-    ensures { result ≡ is_space byte }
+    ensures { result ≡ is_white byte }
 {
     byte == b' ' || byte == b'\t' || byte == b'\r' || byte == b'\n'
 }
