@@ -9,6 +9,7 @@ use Rattle.std.specs.Prelude.{◌≡◌, ℕ, ◌+◌, ◌-◌, ◌*◌, ◌^◌
 use Rattle.std.specs.Char.{is_ascii_digit}
 use Rattle.std.specs.Fmt.{decimal}
 use Rattle.std.specs.List.{flat_map, list_all}
+use Rattle.pgm_header.specs.declared.reader.TheConstants.{MOST_HEADER_BYTES}
 use Rattle.text_laws.specs.Digits.{value_of}
 use Rattle.text_laws.specs.Blanks.{is_white, is_line_end}
 use Rattle.pgm_header.specs.declared.machine.HeaderValues.{HeaderValues}
@@ -96,10 +97,10 @@ pub record IsUnfitAt (bytes : List ℕ) (place : ℕ) : Type 0 where
   pub good : IsProperFront (take place bytes)
   pub bad : IsFront (take (place + 1) bytes) → ⊥
 
--- the bytes begin with a header's text of at most 65,536 bytes, which has these values
+-- the bytes begin with a header's text of at most `MOST_HEADER_BYTES`, which has these values
 pub record BeginsWithHeader (bytes : List ℕ) (values : HeaderValues) : Type 0 where
   pub header : List ℕ
   pub rest : List ℕ
   pub is_text : IsHeaderText header values
-  pub short : length header ≤ 65536
+  pub short : length header ≤ MOST_HEADER_BYTES
   pub text : bytes ≡ header ++ rest
