@@ -6,6 +6,7 @@
 -- next_place, refusal_of, IsSettled.
 use Rattle.std.specs.Prelude.{◌≡◌, ℕ, ◌+◌, ◌-◌, ◌*◌, Bool, ◌&&◌, ◌||◌, cond, List, [], ◌∷◌, ◌++◌, length, Option, Some, None, Result, Ok, Err, nat_eq, nat_lt}
 use Rattle.std.specs.Char.{is_ascii_digit}
+use Rattle.pgm_raster.specs.declared.plain.TheConstants.{MOST_BYTES}
 use Rattle.text_laws.specs.Blanks.{is_white}
 use Rattle.pgm_raster.specs.declared.fault.RasterFault.{RasterFault}
 use Rattle.pgm_raster.specs.declared.fault.RasterFault.TheVariants.{BadSample, AboveMaxval, Trailing, Truncated, TooLong}
@@ -16,9 +17,9 @@ use Rattle.pgm_raster.specs.declared.part.Digits.{Digits}
 use Rattle.pgm_raster.specs.declared.part.Part.{Part}
 use Rattle.pgm_raster.specs.declared.part.Part.TheVariants as part
 
--- a file has at most 2 ^ 28 bytes: a limit of this project's own
+-- a file has at most so many bytes, 2 ^ 28: a limit of this project's own
 abbrev pub most_bytes : ℕ
-most_bytes = 268435456
+most_bytes = MOST_BYTES
 
 -- the samples that bytes are, or why they are refused
 abbrev pub Answer : Type 0
