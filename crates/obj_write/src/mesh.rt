@@ -7,7 +7,6 @@ ghost use Rattle.mesh_defs.specs.MeshText.{vertex_line, vertex_number, face_line
 ghost use Rattle.bintree_laws.specs.Corners.{IsInSquare};
 ghost use Rattle.roam_edge.specs.Fault.{HasCause};
 ghost use Rattle.roam_edge.specs.MeshSink.{Mesh};
-ghost use Rattle.roam_edge.specs.declared.mesh_sink.TheConstants.{LONGEST_PREFIX, GREATEST_NUMBER};
 ghost use Rattle.pgm_header.specs.declared.accepted.TheConstants.{GREATEST_LEVEL};
 ghost use Rattle.obj_write.specs.declared.mesh.TheConstants.{GREATEST_SPACING};
 ghost use Rattle.obj_write.specs.Numbers.{numbers_of};
@@ -63,9 +62,9 @@ pub fn write_mesh<M: MeshSink>(
     requires spacing_high { view.now.spacing ≤ GREATEST_SPACING }
     requires idle { M.under_way out.old ≡ false }
     requires prefix_some { 0 < length prefix.now }
-    requires prefix_short { length prefix.now ≤ LONGEST_PREFIX }
+    requires prefix_short { length prefix.now ≤ 200 }
     requires number_low { 1 ≤ number }
-    requires number_high { number ≤ GREATEST_NUMBER }
+    requires number_high { number ≤ 999999 }
     ensures ok { OnOk result (Grows (M.meshes out.old) (M.meshes out.new)
         (mesh_with prefix.now number (view_text view.now) true ∷ [])) }
     ensures idle { OnOk result (M.under_way out.new ≡ false) }

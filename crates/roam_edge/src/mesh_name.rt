@@ -1,7 +1,6 @@
 //! The name of the file of a mesh.
 
 ghost use Rattle.std.specs.Prelude.{◌≡◌, ◌+◌, ◌/◌, ◌%◌, ◌<◌, ◌≤◌, ◌∷◌, [], ◌++◌, length};
-ghost use Rattle.roam_edge.specs.declared.mesh_sink.TheConstants.{LONGEST_PREFIX};
 ghost use Rattle.roam_edge.specs.MeshName.{digit, file_name};
 
 use arrayvec::ArrayString;
@@ -11,7 +10,7 @@ pub(crate) const LONGEST_NAME: usize = 210;
 
 /// The prefix, the number in six digits with leading zeros, and `.obj`.
 pub(crate) fn mesh_name(prefix: &str, number: u32) -> ArrayString<LONGEST_NAME>
-    requires { length prefix.now ≤ LONGEST_PREFIX }
+    requires { length prefix.now ≤ 200 }
     ensures { result.bytes ≡ file_name prefix.now number }
 {
     let mut name = ArrayString::new();

@@ -2,16 +2,9 @@
 
 ghost use Rattle.std.specs.Prelude.{◌≡◌, ◌<◌, ◌≤◌, ℕ, List, Option, Bool, true, false, is_ok, is_err, length};
 ghost use Rattle.roam_edge.specs.Fault.{HasCause};
-ghost use Rattle.roam_edge.specs.declared.mesh_sink.TheConstants.{LONGEST_PREFIX, GREATEST_NUMBER};
 ghost use Rattle.roam_edge.specs.MeshSink.{Mesh, Begins, Writes, Finishes};
 
 use crate::Failed;
-
-/// The most bytes of the prefix of a mesh's name.
-pub const LONGEST_PREFIX: usize = 200;
-
-/// The greatest number of a mesh: a name has six digits.
-pub const GREATEST_NUMBER: u32 = 999_999;
 
 /// A sink of meshes, each named by a prefix and a number, written one after the other.
 pub trait MeshSink {
@@ -28,9 +21,9 @@ pub trait MeshSink {
     fn begin(&mut self, prefix: &str, number: u32) -> Result<(), Failed>
         requires idle { under_way self.old ≡ false }
         requires prefix_some { 0 < length prefix.now }
-        requires prefix_short { length prefix.now ≤ LONGEST_PREFIX }
+        requires prefix_short { length prefix.now ≤ 200 }
         requires number_low { 1 ≤ number }
-        requires number_high { number ≤ GREATEST_NUMBER }
+        requires number_high { number ≤ 999999 }
         ensures mesh { Begins (meshes self.old) (meshes self.new) prefix.now number result }
         ensures under_way { under_way self.new ≡ is_ok result }
         ensures faults { HasCause (faults self.old) (faults self.new) result };

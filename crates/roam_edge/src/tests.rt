@@ -1,6 +1,5 @@
 //! Tests of each implementation through its trait, and of the adapters on real files.
 
-ghost use Rattle.roam_edge.specs.declared.mesh_sink.TheConstants.{LONGEST_PREFIX, GREATEST_NUMBER};
 ghost use Rattle.std.specs.Prelude.{◌≡◌, ◌<◌, ◌≤◌, ◌^◌, false, length};
 
 use crate::{
@@ -24,9 +23,9 @@ fn read_front<F: Shelf>(shelf: &mut F, name: &str, buf: &mut [u8]) -> Result<usi
 fn put_mesh<M: MeshSink>(meshes: &mut M, prefix: &str, number: u32) -> Result<(), Failed>
     requires idle { M.under_way meshes.old ≡ false }
     requires prefix_some { 0 < length prefix.now }
-    requires prefix_short { length prefix.now ≤ LONGEST_PREFIX }
+    requires prefix_short { length prefix.now ≤ 200 }
     requires number_low { 1 ≤ number }
-    requires number_high { number ≤ GREATEST_NUMBER }
+    requires number_high { number ≤ 999999 }
 {
     meshes.begin(prefix, number)?;
     meshes.write(b"v 0 0 0\n")?;
@@ -156,7 +155,7 @@ fn a_mesh_sink_over_real_files_names_and_fills_them(rt: HostRuntime) -> Result<(
 fn put_at<M: MeshSink>(meshes: &mut M, prefix: &str, number: u32) -> Result<(), Failed>
     requires idle { M.under_way meshes.old ≡ false }
     requires number_low { 1 ≤ number }
-    requires number_high { number ≤ GREATEST_NUMBER }
+    requires number_high { number ≤ 999999 }
 {
     if prefix.is_empty() || prefix.len() > 200 {
         return Err(Failed);
