@@ -239,7 +239,6 @@ plain-form false maxval = (λ e. absurd (raw-form (nat_lt maxval 256) e), λ e. 
     raw-form true e = cc
     raw-form false e = cc
 
-
 -- a raster that is read is not too long
 raster-short : laws.ReadRastersAreShort → (h : Header) (at : ℕ) (heights rest : List ℕ) → IsHeader h → at ≤ 65536 → length heights ≡ points_of h.n
     → IsRaster (form_of h.plain h.maxval) heights rest → samples_at h at rest ≡ Ok heights → at + length rest ≤ most_bytes

@@ -244,7 +244,10 @@ fn a_header_has_65536_bytes_at_most(rt: HostRuntime) -> Result<(), Fail> {
     assert_eq!(rt; reader.finish().err(), Some(PgmFault::Truncated));
     let mut reader = PgmReader::new(rt.alloc());
     assert_eq!(rt; reader.feed(b"P5 #a"), Ok(()));
-    assert_eq!(rt; reader.feed(letters.as_slice()), Err(PgmFault::HeaderTooLong));
+    assert_eq!(rt;
+        reader.feed(letters.as_slice()),
+        Err(PgmFault::HeaderTooLong)
+    );
     assert_eq!(rt; reader.finish().err(), Some(PgmFault::HeaderTooLong));
     Ok(())
 }
@@ -254,8 +257,14 @@ fn blanks_after_the_magic_are_refused_with_the_second_piece(rt: HostRuntime) -> 
     let blanks = many(rt.alloc(), b' ', 65536)?;
     let mut reader = PgmReader::new(rt.alloc());
     assert_eq!(rt; reader.feed(b"P2"), Ok(()));
-    assert_eq!(rt; reader.feed(blanks.as_slice()), Err(PgmFault::HeaderTooLong));
-    assert_eq!(rt; reader.feed(blanks.as_slice()), Err(PgmFault::HeaderTooLong));
+    assert_eq!(rt;
+        reader.feed(blanks.as_slice()),
+        Err(PgmFault::HeaderTooLong)
+    );
+    assert_eq!(rt;
+        reader.feed(blanks.as_slice()),
+        Err(PgmFault::HeaderTooLong)
+    );
     assert_eq!(rt; reader.finish().err(), Some(PgmFault::HeaderTooLong));
     Ok(())
 }
