@@ -2,6 +2,7 @@
 use Rattle.std.proofs.Common.{◌≡◌, ℕ, zero, suc, Bool, true, false, List, [], ◌∷◌, get_or, refl, sym, ◌∙◌, arith, if◌then◌else◌, ℤ, pos, ◌≤ℤ◌, int_lt}
 use Rattle.std.specs.List.{list_any, list_all}
 use Rattle.std.proofs.lemmas.Int.{ints}
+use Rattle.text_laws.proofs.TestLemmas.{by_bool}
 use Rattle.mesh_defs.specs.BoundingBox.{BoundingBox}
 use Rattle.mesh_defs.specs.View.{ViewPlane, is_outside, outside_corners, is_all_outside, is_some_outside}
 use Rattle.cull_marks.specs.Plane.{value_of, far_end, far_value, near_value}
@@ -23,10 +24,6 @@ any-true [] k e = e
 any-true (x ∷ xs) zero e = rw e refl
 any-true (true ∷ xs) (suc k) e = refl
 any-true (false ∷ xs) (suc k) e = any-true xs k e
-
-by_bool : {P : Type 0} (b : Bool) → (b ≡ true → P) → (b ≡ false → P) → P
-by_bool true h k = h refl
-by_bool false h k = k refl
 
 -- ---- values in a box
 

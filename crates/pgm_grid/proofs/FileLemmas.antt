@@ -3,6 +3,7 @@ use Rattle.std.proofs.Common.{◌≡◌, ◌≢◌, ℕ, ◌+◌, ◌-◌, ◌*�
 use Rattle.std.specs.List.{flat_map}
 use Rattle.std.specs.List.{AllByRecursion}
 use Rattle.std.proofs.lemmas.List.Elements.{recursion_from_All, All-from_recursion}
+use Rattle.text_laws.proofs.WordLemmas.{length-flat}
 use Rattle.mesh_defs.specs.HeightField.{HeightField, IsHeightField}
 use Rattle.pgm_header.specs.declared.accepted.Header.{Header}
 use Rattle.pgm_header.specs.declared.fault.HeaderFault.{HeaderFault}
@@ -14,7 +15,7 @@ use Rattle.pgm_raster.specs.declared.fault.RasterFault.{RasterFault}
 use Rattle.pgm_raster.specs.declared.fault.RasterFault.TheVariants as raster
 use Rattle.pgm_raster.specs.declared.form.RasterForm.{RasterForm}
 use Rattle.pgm_raster.specs.declared.form.RasterForm.TheVariants as form
-use Rattle.pgm_raster.specs.RasterText.{IsRaster, two_bytes, IsCutShort, IsTrailingAt, IsBadSampleAt}
+use Rattle.pgm_raster.specs.RasterText.{IsRaster, IsCutShort, IsTrailingAt, IsBadSampleAt}
 use Rattle.pgm_raster.specs.Laws as laws
 use Rattle.pgm_raster.specs.Progress as samples
 use Rattle.pgm_grid.specs.declared.fault.PgmFault.{PgmFault}
@@ -238,10 +239,6 @@ plain-form false maxval = (λ e. absurd (raw-form (nat_lt maxval 256) e), λ e. 
     raw-form true e = cc
     raw-form false e = cc
 
-length-words : (heights : List ℕ) → length (flat_map two_bytes heights) ≡ 2 * length heights
-length-words [] = refl
-length-words (height ∷ heights) = omega (arith, length-words heights)
-
 -- a raster that is read is not too long
 raster-short : laws.ReadRastersAreShort → (h : Header) (at : ℕ) (heights rest : List ℕ) → IsHeader h → at ≤ 65536 → length heights ≡ points_of h.n
     → IsRaster (form_of h.plain h.maxval) heights rest → samples_at h at rest ≡ Ok heights → at + length rest ≤ most_bytes
@@ -253,7 +250,7 @@ raster-short short h at heights rest valid near many is e = by-form (form_of h.p
 
     by-form : (f : RasterForm) → IsRaster f heights rest → samples.raster_of f (points_of h.n) h.maxval at rest ≡ Ok heights → at + length rest ≤ most_bytes
     by-form form.Bytes is e = (let same = ap length is in omega (arith, same, few, near))
-    by-form form.Words is e = (let same = ap length is ∙ length-words heights in omega (arith, same, few, near))
+    by-form form.Words is e = (let same = ap length is ∙ length-flat heights in omega (arith, same, few, near))
     by-form form.Plain is e = omega (arith, short (points_of h.n) h.maxval at heights rest e (omega (arith, near)))
 
 -- The laws.

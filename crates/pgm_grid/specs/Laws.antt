@@ -2,6 +2,7 @@
 -- any length is refused by the first byte that is wrong; in plain files a byte at place 2 ^ 28 is wrong itself.
 -- Words: AreBytes, and a law a word.
 use Rattle.std.specs.Prelude.{◌≡◌, ◌≢◌, ◌↔◌, ◌⊎◌, ℕ, ◌+◌, ◌-◌, ◌<◌, ◌≤◌, true, List, length, take, All, Ok, Err, IfErr}
+use Rattle.pgm_header.specs.declared.reader.TheConstants.{MOST_HEADER_BYTES}
 use Rattle.mesh_defs.specs.HeightField.{HeightField, IsHeightField, side_of}
 use Rattle.pgm_header.specs.declared.accepted.Header.{Header}
 use Rattle.pgm_header.specs.declared.machine.HeaderValues.{HeaderValues}
@@ -36,11 +37,11 @@ BadMagicsAreRefused = (bytes : List ℕ) → (grid_of bytes ≡ Err BadMagic) �
 
 -- a bad header exactly at the place of the byte that continues none
 abbrev pub BadHeadersAreRefused : Type 0
-BadHeadersAreRefused = (bytes : List ℕ) (place : ℕ) → (grid_of bytes ≡ Err (BadHeader place)) ↔ ((2 ≤ place) × (place < 65536) × IsUnfitAt bytes place)
+BadHeadersAreRefused = (bytes : List ℕ) (place : ℕ) → (grid_of bytes ≡ Err (BadHeader place)) ↔ ((2 ≤ place) × (place < MOST_HEADER_BYTES) × IsUnfitAt bytes place)
 
 -- a header is too long exactly where 65,536 bytes are a part of one
 abbrev pub LongHeadersAreRefused : Type 0
-LongHeadersAreRefused = (bytes : List ℕ) → (grid_of bytes ≡ Err HeaderTooLong) ↔ ((65536 ≤ length bytes) × IsProperFront (take 65536 bytes))
+LongHeadersAreRefused = (bytes : List ℕ) → (grid_of bytes ≡ Err HeaderTooLong) ↔ ((MOST_HEADER_BYTES ≤ length bytes) × IsProperFront (take MOST_HEADER_BYTES bytes))
 
 -- a bad maxval exactly where a whole header has one
 abbrev pub BadMaxvalsAreRefused : Type 0
@@ -60,7 +61,7 @@ BadSidesAreRefused = (bytes : List ℕ) → (grid_of bytes ≡ Err BadSide)
 -- truncated exactly where the bytes end before their header does, or before their samples do
 abbrev pub CutTextsAreRefused : Type 0
 CutTextsAreRefused = (bytes : List ℕ) → AreBytes bytes → (grid_of bytes ≡ Err Truncated)
-    ↔ ((IsProperFront bytes × (length bytes < 65536))
+    ↔ ((IsProperFront bytes × (length bytes < MOST_HEADER_BYTES))
     ⊎ ((header : Header) × (at : ℕ) × (rest : List ℕ) × HasHeader bytes header at rest
     × (IsCutShort (form_of header.plain header.maxval) (points_of header.n) header.maxval rest × IsWithin (form_of header.plain header.maxval) (at + length rest))))
 
@@ -90,6 +91,6 @@ LongFilesAreRefused = (bytes : List ℕ) → (grid_of bytes ≡ Err TooLong)
     ↔ ((header : Header) × (at : ℕ) × (rest : List ℕ) × HasHeader bytes header at rest
     × ((header.plain ≡ true) × (most_bytes < length bytes) × NoneIsRefused (points_of header.n) header.maxval at (take (most_bytes - at) rest)))
 
--- no bytes of a file are want of memory
+-- no bytes of a file are out of memory
 abbrev pub OthersAreAbsent : Type 0
 OthersAreAbsent = (bytes : List ℕ) → IfErr (grid_of bytes) (λ fault. fault ≢ NoMemory)

@@ -3,6 +3,7 @@
 --
 -- Words: points_of, form_of, most_bytes, IsFileText, HasHeader, HasWholeHeader.
 use Rattle.std.specs.Prelude.{◌≡◌, ℕ, ◌*◌, ◌≤◌, Bool, true, false, nat_lt, if◌then◌else◌, List, ◌++◌, length}
+use Rattle.pgm_header.specs.declared.reader.TheConstants.{MOST_HEADER_BYTES}
 use Rattle.mesh_defs.specs.HeightField.{HeightField, side_of}
 use Rattle.pgm_header.specs.declared.machine.HeaderValues.{HeaderValues}
 use Rattle.pgm_header.specs.declared.accepted.Header.{Header}
@@ -26,14 +27,14 @@ form_of false maxval = if nat_lt maxval 256 then form.Bytes else form.Words
 abbrev pub most_bytes : ℕ
 most_bytes = raster.most_bytes
 
--- The bytes are a file text of the grid: a header of at most 65,536 bytes with its side and its maxval, and
+-- The bytes are a file text of the grid: a header of at most `MOST_HEADER_BYTES` with its side and its maxval, and
 -- a raster of its heights; and they are not too many.
 pub record IsFileText (g : HeightField) (bytes : List ℕ) : Type 0 where
   pub header : List ℕ
   pub raster : List ℕ
   pub values : HeaderValues
   pub is_header : IsHeaderText header values
-  pub short_header : length header ≤ 65536
+  pub short_header : length header ≤ MOST_HEADER_BYTES
   pub width : values.width ≡ side_of g.n
   pub height : values.height ≡ side_of g.n
   pub maxval : values.maxval ≡ g.maxval
@@ -46,7 +47,7 @@ pub record HasHeader (bytes : List ℕ) (header : Header) (at : ℕ) (rest : Lis
   pub text : List ℕ
   pub values : HeaderValues
   pub is_text : IsHeaderText text values
-  pub short : length text ≤ 65536
+  pub short : length text ≤ MOST_HEADER_BYTES
   pub accepts : Accepts values header
   pub cut : bytes ≡ text ++ rest
   pub place : at ≡ length text

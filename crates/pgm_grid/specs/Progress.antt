@@ -4,6 +4,7 @@
 -- Words: Progress, header_fault, raster_fault, grid_with, grid_answer, file_answer, resume, grid_of, taken,
 -- IsSettled, StandsFor, EndsHeaderOf, EndsHeader.
 use Rattle.std.specs.Prelude.{◌≡◌, ℕ, ◌+◌, ◌-◌, ◌<◌, List, ◌++◌, length, Result, Ok, Err}
+use Rattle.pgm_header.specs.declared.reader.TheConstants.{MOST_HEADER_BYTES}
 use Rattle.mesh_defs.specs.HeightField.{HeightField}
 use Rattle.pgm_header.specs.declared.accepted.Header.{Header}
 use Rattle.pgm_header.specs.declared.fault.HeaderFault.{HeaderFault}
@@ -92,7 +93,7 @@ pub record EndsHeaderOf (before piece : List ℕ) : Type 0 where
   pub has : HasHeader (before ++ piece) header at rest
   pub later : length before < at
 
--- the reader was still in its header, of which fewer than 65,536 bytes had come, and the piece ends it
+-- the reader was still in its header, of which fewer than `MOST_HEADER_BYTES` had come, and the piece ends it
 pub record EndsHeader (reader : Progress) (piece : List ℕ) : Type 0 where
-  pub early : taken reader < 65536
+  pub early : taken reader < MOST_HEADER_BYTES
   pub ends : (before : List ℕ) → StandsFor reader before → EndsHeaderOf before piece

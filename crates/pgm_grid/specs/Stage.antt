@@ -1,6 +1,8 @@
 -- The fields of a reader: what they have come to, and what holds of them.
 -- Words: progress_of, IsOpenHeader, IsBehind, HasRead, IsStage, BeginsRaster, Takes, Stops.
 use Rattle.std.specs.Prelude.{◌≡◌, ◌≢◌, ℕ, ◌+◌, ◌≤◌, ◌^◌, List, [], ◌++◌, length, All, Err, IfOk, ⊤, ◌⊎◌}
+use Rattle.pgm_header.specs.declared.reader.TheConstants.{LAST_PLACE}
+use Rattle.pgm_raster.specs.declared.plain.TheConstants.{MOST_BYTES}
 use Rattle.pgm_header.specs.declared.accepted.Header.{Header}
 use Rattle.pgm_header.specs.declared.fault.HeaderFault.{HeaderFault}
 use Rattle.pgm_header.specs.Accepted.{IsHeader, Part, Bad}
@@ -23,14 +25,14 @@ progress_of (stage.Stopped fault) = HasRefused fault
 -- a header goes on: it is no whole one, and some bytes would be refused
 pub record IsOpenHeader (reader : reading.Progress) : Type 0 where
   pub part : reading.resume reader [] ≡ Part
-  pub small : reading.taken reader ≤ 65535
+  pub small : reading.taken reader ≤ LAST_PLACE
   pub refusable : (more : List ℕ) × (fault : HeaderFault) × (reading.resume reader more ≡ Bad fault)
 
 -- the reader reads the heights that this header wants
 pub record IsBehind (header : Header) (reader : samples.Progress) : Type 0 where
   pub valid : IsHeader header
   pub wanted : (more : List ℕ) → IfOk (samples.resume reader more) (λ heights. (length heights ≡ points_of header.n) × All (λ h. h ≤ header.maxval) heights)
-  pub small : samples.next_place reader ≤ 2 ^ 28
+  pub small : samples.next_place reader ≤ MOST_BYTES
 
 -- and it has refused no byte
 pub record HasRead (header : Header) (reader : samples.Progress) : Type 0 where
@@ -48,14 +50,14 @@ pub record BeginsRaster (header : Header) (at : ℕ) (rest : List ℕ) (new : Pr
   pub means : (more : List ℕ) → grid_answer header (samples_at header at (rest ++ more)) ≡ resume new more
   pub unsettled : (fault : PgmFault) → IsSettled new fault → ⊥
   pub count : taken new ≡ at + length rest
-  pub limit : taken new ≤ 2 ^ 28
+  pub limit : taken new ≤ MOST_BYTES
 
 -- the piece was taken: what still comes is answered as before, and the bytes are counted
 pub record Takes (old new : Progress) (piece : List ℕ) : Type 0 where
   pub means : (more : List ℕ) → resume old (piece ++ more) ≡ resume new more
   pub unsettled : (fault : PgmFault) → IsSettled new fault → ⊥
   pub count : taken new ≡ taken old + length piece
-  pub limit : taken new ≤ 2 ^ 28
+  pub limit : taken new ≤ MOST_BYTES
 
 -- the piece was refused, or there was no room where it ended the header
 pub record Stops (old : Progress) (piece : List ℕ) (fault : PgmFault) : Type 0 where

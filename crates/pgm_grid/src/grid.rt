@@ -2,11 +2,19 @@
 
 ghost use Rattle.std.specs.Prelude.{◌≡◌, ◌<◌, ◌≤◌, ◌^◌, ◌*◌, ℕ, length, replicate, slice_set, IfOk};
 ghost use Rattle.mesh_defs.specs.HeightField.{IsHeightField, height_at, place_of, side_of};
+ghost use Rattle.pgm_header.specs.declared.accepted.TheConstants.{GREATEST_LEVEL};
+ghost use Rattle.pgm_grid.specs.declared.grid.TheConstants.{MOST_SIDE, MOST_POINTS};
 ghost use Rattle.pgm_grid.specs.PgmText.{points_of};
 
 use roam_edge::NoMemory;
 use std::alloc::Global;
 use std::marker::Model;
+
+/// The most points of a side, 2^11 + 1.
+pub const MOST_SIDE: usize = 2049;
+
+/// The most points of a grid.
+pub const MOST_POINTS: usize = MOST_SIDE * MOST_SIDE;
 
 /// A square grid of heights, of 2^n + 1 points a side.
 ///
@@ -37,10 +45,10 @@ impl Model for Grid {
 impl Grid {
     /// A grid of this level and this bound of heights, whose heights are all 0.
     ///
-    /// Cost (not proved): one step a point, and two bytes a point. The one error is want of memory.
+    /// Cost (not proved): one step a point, and two bytes a point. The one error is out of memory.
     pub fn flat(alloc: Global, n: u32, maxval: u16) -> Result<Grid, NoMemory>
         requires n_low { 1 ≤ n }
-        requires n_high { n ≤ 11 }
+        requires n_high { n ≤ GREATEST_LEVEL }
         requires maxval_low { 1 ≤ maxval }
         ensures value { IfOk result (λ grid. grid
             ≡ record { n = n; maxval = maxval; heights = replicate (side_of n * side_of n) 0 }) }
@@ -65,7 +73,7 @@ impl Grid {
     pub fn n(&self) -> u32
         ensures value { result ≡ self.now.n }
         ensures low { 1 ≤ result }
-        ensures high { result ≤ 11 }
+        ensures high { result ≤ GREATEST_LEVEL }
         ensures valid { IsHeightField self.now }
     {
         self.n
@@ -83,7 +91,7 @@ impl Grid {
     /// The number of points of a side.
     pub fn side(&self) -> usize
         ensures value { result ≡ side_of self.now.n }
-        ensures high { result ≤ 2049 }
+        ensures high { result ≤ MOST_SIDE }
     {
         side_for(self.n)
     }
@@ -91,7 +99,7 @@ impl Grid {
     /// The number of points.
     pub fn points(&self) -> usize
         ensures value { result ≡ points_of self.now.n }
-        ensures high { result ≤ 4198401 }
+        ensures high { result ≤ MOST_POINTS }
         ensures valid { IsHeightField self.now }
     {
         points_for(self.n)
@@ -149,19 +157,19 @@ impl Grid {
 }
 
 /// The number of points of a side of a grid with this n.
-fn side_for(n: u32) -> usize
-    requires { n ≤ 11 }
+pub fn side_for(n: u32) -> usize
+    requires { n ≤ GREATEST_LEVEL }
     ensures value { result ≡ side_of n }
-    ensures high { result ≤ 2049 }
+    ensures high { result ≤ MOST_SIDE }
 {
     (1 << n) + 1
 }
 
 /// The number of points of a grid with this n.
 pub(crate) fn points_for(n: u32) -> usize
-    requires { n ≤ 11 }
+    requires { n ≤ GREATEST_LEVEL }
     ensures value { result ≡ points_of n }
-    ensures high { result ≤ 4198401 }
+    ensures high { result ≤ MOST_POINTS }
 {
     let side = side_for(n);
     side * side

@@ -14,7 +14,7 @@ mod reader;
 mod stage;
 
 pub use fault::PgmFault;
-pub use grid::Grid;
+pub use grid::{Grid, MOST_POINTS, MOST_SIDE, side_for};
 pub use laws::grids_and_texts;
 pub use reader::PgmReader;
 

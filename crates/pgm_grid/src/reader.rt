@@ -2,6 +2,7 @@
 
 ghost use Rattle.std.specs.Prelude.{◌≡◌, ◌≢◌, ◌⊎◌, ◌+◌, ◌^◌, ◌≤◌, [], ◌++◌, List, ℕ, length, OnOk, IfErr};
 ghost use Rattle.std.specs.Result.{IsErrOf};
+ghost use Rattle.pgm_raster.specs.declared.plain.TheConstants.{MOST_BYTES};
 ghost use Rattle.pgm_grid.specs.Progress.{resume, grid_of, taken, IsSettled, EndsHeader};
 
 use crate::fault::PgmFault;
@@ -61,11 +62,11 @@ impl PgmReader {
         ensures unsettled { OnOk result ((fault : PgmFault) → ¬ IsSettled self.new fault) }
         ensures count { OnOk result (taken self.new ≡ taken self.old + length piece.now) }
         // No more bytes are taken, so a loop that feeds what is still to come ends.
-        ensures limit { OnOk result (taken self.new ≤ 2 ^ 28) }
+        ensures limit { OnOk result (taken self.new ≤ MOST_BYTES) }
         // The refusal is that of the file, whatever still comes.
         ensures refusal { IfErr result (λ fault. fault ≢ PgmFault.NoMemory →
             (more : List ℕ) → resume self.old (piece.now ++ more) ≡ Err fault) }
-        // The room is wanted once: where the text of an accepted header ends, of at most 65,536 bytes.
+        // The room is wanted once: where the text of an accepted header ends, which is within its limit.
         ensures no_memory { IsErrOf result PgmFault.NoMemory →
             IsSettled self.old PgmFault.NoMemory ⊎ EndsHeader self.old piece.now }
         ensures err { IfErr result (λ fault. IsSettled self.new fault) }

@@ -1,6 +1,7 @@
 //! What the bytes so far have come to, and what further bytes make of it.
 
 ghost use Rattle.std.specs.Prelude.{◌≡◌, ◌≢◌, ◌<◌, ◌≤◌, ◌+◌, ◌++◌, ℕ, List, [], length, drop, IfOk, IfErr, Err};
+ghost use Rattle.pgm_header.specs.declared.reader.TheConstants.{MOST_HEADER_BYTES};
 ghost use Rattle.pgm_header.specs.Accepted.{IsHeader};
 ghost use Rattle.pgm_grid.specs.PgmText.{form_of};
 ghost use Rattle.pgm_grid.specs.Progress.{InHeader, InRaster, header_fault, raster_fault, resume, grid_answer, samples_at};
@@ -70,7 +71,7 @@ fn bytes_behind(piece: &[u8], index: usize) -> &[u8]
 /// What the bytes after a header make, if there is room for the heights. The first has this place.
 fn raster_begun(alloc: Global, header: Header, at: u64, rest: &[u8]) -> Result<Stage, PgmFault>
     requires valid { IsHeader header }
-    requires place { at ≤ 65536 }
+    requires place { at ≤ MOST_HEADER_BYTES }
     ensures valid { IfOk result IsStage }
     // As if the raster's first bytes came to a reader that has taken none.
     ensures takes { IfOk result (λ next. BeginsRaster header at rest.now (progress_of next)) }

@@ -1,7 +1,7 @@
 //! The bytes of small files: whole, in pieces, cut short and wrong; and long ones.
 
 use crate::{Grid, PgmFault, PgmReader};
-use std::alloc::Global;
+use std::alloc::{AllocError, Global};
 use std::test::Fail;
 
 /// A raw text of two bytes a sample: nine points, the middle one of height 10 and the others of height 0.
@@ -24,6 +24,11 @@ fn read_by_bytes(alloc: Global, bytes: &[u8]) -> Result<Grid, PgmFault> {
         reader.feed(&[*byte])?;
     }
     reader.finish()
+}
+
+/// So many of this byte.
+fn many(alloc: Global, byte: u8, count: usize) -> Result<Vec<u8>, AllocError> {
+    vec![in alloc; byte; count]
 }
 
 #[test]
@@ -231,36 +236,48 @@ fn the_greatest_grid_has_room(rt: HostRuntime) {
 }
 
 #[test]
-fn a_header_has_65536_bytes_at_most(rt: HostRuntime) {
-    let letters = [b'a'; 65532];
+fn a_header_has_65536_bytes_at_most(rt: HostRuntime) -> Result<(), Fail> {
+    let letters = many(rt.alloc(), b'a', 65531)?;
     let mut reader = PgmReader::new(rt.alloc());
     assert_eq!(rt; reader.feed(b"P5 #"), Ok(()));
-    assert_eq!(rt; reader.feed(&letters[1..]), Ok(()), "65,531 letters");
+    assert_eq!(rt; reader.feed(letters.as_slice()), Ok(()), "65,531 letters");
     assert_eq!(rt; reader.finish().err(), Some(PgmFault::Truncated));
     let mut reader = PgmReader::new(rt.alloc());
-    assert_eq!(rt; reader.feed(b"P5 #"), Ok(()));
-    assert_eq!(rt; reader.feed(&letters), Err(PgmFault::HeaderTooLong));
+    assert_eq!(rt; reader.feed(b"P5 #a"), Ok(()));
+    assert_eq!(rt;
+        reader.feed(letters.as_slice()),
+        Err(PgmFault::HeaderTooLong)
+    );
     assert_eq!(rt; reader.finish().err(), Some(PgmFault::HeaderTooLong));
+    Ok(())
 }
 
 #[test]
-fn blanks_after_the_magic_are_refused_with_the_second_piece(rt: HostRuntime) {
-    let blanks = [b' '; 65536];
+fn blanks_after_the_magic_are_refused_with_the_second_piece(rt: HostRuntime) -> Result<(), Fail> {
+    let blanks = many(rt.alloc(), b' ', 65536)?;
     let mut reader = PgmReader::new(rt.alloc());
     assert_eq!(rt; reader.feed(b"P2"), Ok(()));
-    assert_eq!(rt; reader.feed(&blanks), Err(PgmFault::HeaderTooLong));
-    assert_eq!(rt; reader.feed(&blanks), Err(PgmFault::HeaderTooLong));
+    assert_eq!(rt;
+        reader.feed(blanks.as_slice()),
+        Err(PgmFault::HeaderTooLong)
+    );
+    assert_eq!(rt;
+        reader.feed(blanks.as_slice()),
+        Err(PgmFault::HeaderTooLong)
+    );
     assert_eq!(rt; reader.finish().err(), Some(PgmFault::HeaderTooLong));
+    Ok(())
 }
 
 #[test]
 fn a_file_has_268435456_bytes_at_most(rt: HostRuntime) -> Result<(), Fail> {
-    let blanks = [b' '; 65536];
+    let blanks = many(rt.alloc(), b' ', 65536)?;
     let mut reader = PgmReader::new(rt.alloc());
+    let first = many(rt.alloc(), b' ', 65527)?;
     reader.feed(b"P2 3 3 9 ")?;
-    reader.feed(&blanks[9..])?;
+    reader.feed(first.as_slice())?;
     for _ in 1..4096 {
-        reader.feed(&blanks)?;
+        reader.feed(blanks.as_slice())?;
     }
     assert_eq!(rt;
         reader.feed(b""),

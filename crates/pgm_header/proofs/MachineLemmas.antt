@@ -1,11 +1,15 @@
 -- Facts about the machine: what the bytes that lead to a state are, and how it walks over a header's text.
 use Rattle.std.proofs.Common.{◌≡◌, ℕ, suc, ◌+◌, ◌-◌, ◌*◌, ◌^◌, ◌<◌, ◌≤◌, Bool, true, false, not, ◌&&◌, cond, ◌==◌, nat_lt, leb, List, [], ◌∷◌, ◌++◌, length, take, drop, Option, Some, None, refl, sym, ap, ap₂, ◌∙◌, subst, arith, length-append, append_assoc, append-nil, take-append-drop, eqb-true, leb-true, ne_eqb}
+use Rattle.std.specs.Char.{is_ascii_digit}
 use Rattle.std.specs.List.{flat_map, list_all}
 use Rattle.std.proofs.Math.Nat.{pow-succ'}
 use Rattle.std.proofs.lemmas.Bool.{cond_both, and_parts, and_from, not-true, lt-ltb, ltb-true}
 use Rattle.std.proofs.lemmas.List.{length_push, take_at, take-append-le}
 use Rattle.std.proofs.lemmas.List.Concat.{flat_map-append}
 use Rattle.std.proofs.lemmas.List.Folds.{list_all-append}
+use Rattle.text_laws.specs.Digits.{value_of}
+use Rattle.text_laws.specs.Blanks.{is_white, is_line_end}
+use Rattle.text_laws.proofs.DigitLemmas.{value-push}
 use Rattle.pgm_header.specs.declared.machine.HeaderValues.{HeaderValues}
 use Rattle.pgm_header.specs.declared.machine.Fields.{Fields}
 use Rattle.pgm_header.specs.declared.machine.Fields.TheVariants as fields
@@ -14,7 +18,7 @@ use Rattle.pgm_header.specs.declared.machine.State.TheVariants.{Start, Letter, N
 use Rattle.pgm_header.specs.declared.machine.Step.{Step}
 use Rattle.pgm_header.specs.declared.machine.Step.TheVariants.{Goes, Ends, Fails}
 use Rattle.pgm_header.specs.HeaderText as text
-use Rattle.pgm_header.specs.HeaderText.{is_line_end, is_white, is_digit, GapItem, item_bytes, is_comment_text, is_item, IsGap, value_of, IsNumberText, magic_text, IsHeaderText, IsFront, IsProperFront}
+use Rattle.pgm_header.specs.HeaderText.{GapItem, item_bytes, is_comment_text, is_item, IsGap, IsNumberText, magic_text, IsHeaderText, IsFront, IsProperFront}
 use Rattle.pgm_header.specs.Machine.{number_ended, step_of}
 
 -- Gaps.
@@ -38,27 +42,18 @@ gap_more gap item g good =
 
 -- Numbers.
 
--- a digit more at the end
-pub value_of-push : (digits : List ℕ) (d : ℕ) → value_of (digits ++ d ∷ []) ≡ 10 * value_of digits + (d - 48)
-value_of-push [] d = omega arith
-value_of-push (x ∷ digits) d =
-    let size : length (digits ++ d ∷ []) ≡ suc (length digits) = omega (arith, length_push digits d) in
-    let power : 10 ^ length (digits ++ d ∷ []) ≡ 10 * 10 ^ length digits = ap (λ (k : ℕ). 10 ^ k) size ∙ pow-succ' 10 (length digits) in
-    let again : value_of (digits ++ d ∷ []) ≡ 10 * value_of digits + (d - 48) = value_of-push digits d in
-    ap (λ (p : ℕ). (x - 48) * p + value_of (digits ++ d ∷ [])) power ∙ omega (arith, again)
-
 -- one digit is a number
-number_one : (d : ℕ) → is_digit d ≡ true → IsNumberText (d ∷ []) (d - 48)
-number_one d digit = record { some = omega arith; short = omega arith; digits = and_from (is_digit d) true digit refl; value = omega arith }
+number_one : (d : ℕ) → is_ascii_digit d ≡ true → IsNumberText (d ∷ []) (d - 48)
+number_one d digit = record { some = omega arith; short = omega arith; digits = and_from (is_ascii_digit d) true digit refl; value = omega arith }
 
 -- fewer than nine digits and one more
-number_push : (digits : List ℕ) (d value : ℕ) → IsNumberText digits value → length digits < 9 → is_digit d ≡ true → IsNumberText (digits ++ d ∷ []) (10 * value + (d - 48))
+number_push : (digits : List ℕ) (d value : ℕ) → IsNumberText digits value → length digits < 9 → is_ascii_digit d ≡ true → IsNumberText (digits ++ d ∷ []) (10 * value + (d - 48))
 number_push digits d value n room digit =
     record {
       some = omega (arith, length_push digits d);
       short = omega (arith, length_push digits d);
-      digits = list_all-append is_digit digits (d ∷ []) ∙ and_from (list_all is_digit digits) (list_all is_digit (d ∷ [])) n.digits (and_from (is_digit d) true digit refl);
-      value = ap (λ (k : ℕ). 10 * k + (d - 48)) n.value ∙ sym (value_of-push digits d);
+      digits = list_all-append is_ascii_digit digits (d ∷ []) ∙ and_from (list_all is_ascii_digit digits) (list_all is_ascii_digit (d ∷ [])) n.digits (and_from (is_ascii_digit d) true digit refl);
+      value = ap (λ (k : ℕ). 10 * k + (d - 48)) n.value ∙ sym (value-push digits d);
     }
 
 -- The bytes that lead to a state.
@@ -138,11 +133,11 @@ sound (Named p) bytes b l =
     cond_both (is_white b) (Goes (Gap (fields.Magic p))) Fails (λ r. Makes (bytes ++ b ∷ []) r)
     (λ e. (bytes, b ∷ [], l, gap_first b e, refl)) (λ _. tt)
 sound (Gap f) bytes b l =
-    cond_both (is_white b) (Goes (Gap f)) (cond (b == 35) (Goes (Comment f)) (cond (is_digit b) (Goes (Number f 1 (b - 48))) Fails)) (λ r. Makes (bytes ++ b ∷ []) r)
+    cond_both (is_white b) (Goes (Gap f)) (cond (b == 35) (Goes (Comment f)) (cond (is_ascii_digit b) (Goes (Number f 1 (b - 48))) Fails)) (λ r. Makes (bytes ++ b ∷ []) r)
     (λ e. (l.0, l.1 ++ b ∷ [], l.2, gap_more l.1 (text.White b) l.3 e, ap (λ (t : List ℕ). t ++ b ∷ []) l.4 ∙ append_assoc l.0 l.1 (b ∷ [])))
-    (λ _. cond_both (b == 35) (Goes (Comment f)) (cond (is_digit b) (Goes (Number f 1 (b - 48))) Fails) (λ r. Makes (bytes ++ b ∷ []) r)
+    (λ _. cond_both (b == 35) (Goes (Comment f)) (cond (is_ascii_digit b) (Goes (Number f 1 (b - 48))) Fails) (λ r. Makes (bytes ++ b ∷ []) r)
     (λ e. (l.0, l.1, [], l.2, l.3, refl, ap₂ (λ (t : List ℕ) (x : ℕ). t ++ x ∷ []) l.4 (eqb-true b 35 e) ∙ append_assoc l.0 l.1 (35 ∷ [])))
-    (λ _. cond_both (is_digit b) (Goes (Number f 1 (b - 48))) Fails (λ r. Makes (bytes ++ b ∷ []) r)
+    (λ _. cond_both (is_ascii_digit b) (Goes (Number f 1 (b - 48))) Fails (λ r. Makes (bytes ++ b ∷ []) r)
     (λ e. (l.0, l.1, b ∷ [], l.2, l.3, number_one b e, refl, ap (λ (t : List ℕ). t ++ b ∷ []) l.4 ∙ append_assoc l.0 l.1 (b ∷ [])))
     (λ _. tt)))
 sound (Comment f) bytes b l =
@@ -164,10 +159,10 @@ sound (Comment f) bytes b l =
       ap (λ (t : List ℕ). t ++ b ∷ []) l.6 ∙ push_inner l.0 l.1 (35 ∷ l.2) b,
     ))
 sound (Number f k v) bytes b l =
-    cond_both (is_white b) (number_ended f v) (cond (is_digit b && nat_lt k 9) (Goes (Number f (k + 1) (10 * v + (b - 48)))) Fails) (λ r. Makes (bytes ++ b ∷ []) r)
+    cond_both (is_white b) (number_ended f v) (cond (is_ascii_digit b && nat_lt k 9) (Goes (Number f (k + 1) (10 * v + (b - 48)))) Fails) (λ r. Makes (bytes ++ b ∷ []) r)
     (λ e. sound_ended f k v bytes b l e)
-    (λ _. cond_both (is_digit b && nat_lt k 9) (Goes (Number f (k + 1) (10 * v + (b - 48)))) Fails (λ r. Makes (bytes ++ b ∷ []) r)
-    (λ e. let both : (is_digit b ≡ true) × (nat_lt k 9 ≡ true) = and_parts (is_digit b) (nat_lt k 9) e in
+    (λ _. cond_both (is_ascii_digit b && nat_lt k 9) (Goes (Number f (k + 1) (10 * v + (b - 48)))) Fails (λ r. Makes (bytes ++ b ∷ []) r)
+    (λ e. let both : (is_ascii_digit b ≡ true) × (nat_lt k 9 ≡ true) = and_parts (is_ascii_digit b) (nat_lt k 9) e in
     let room : length l.2 < 9 = omega (arith, ltb-true k 9 both.1, l.6) in
     (l.0, l.1, l.2 ++ b ∷ [], l.3, l.4, number_push l.2 b v l.5 room both.0, length_push l.2 b ∙ ap (λ (n : ℕ). n + 1) l.6, ap (λ (t : List ℕ). t ++ b ∷ []) l.7 ∙ push_inner l.0 l.1 l.2 b))
     (λ _. tt))
@@ -253,13 +248,13 @@ walked_front bytes t e =
 -- Over a header's text.
 
 -- a digit is neither whitespace nor a `#`
-not_white : (d : ℕ) → is_digit d ≡ true → is_white d ≡ false
+not_white : (d : ℕ) → is_ascii_digit d ≡ true → is_white d ≡ false
 not_white d digit =
     let both = and_parts (leb 48 d) (leb d 57) digit in
     let low : 48 ≤ d = leb-true 48 d both.0 in
     rw (ne_eqb d 32 (λ e. omega arith), ne_eqb d 9 (λ e. omega arith), ne_eqb d 13 (λ e. omega arith), ne_eqb d 10 (λ e. omega arith)) refl
 
-not_hash : (d : ℕ) → is_digit d ≡ true → (d == 35) ≡ false
+not_hash : (d : ℕ) → is_ascii_digit d ≡ true → (d == 35) ≡ false
 not_hash d digit =
     let both = and_parts (leb 48 d) (leb d 57) digit in
     let low : 48 ≤ d = leb-true 48 d both.0 in ne_eqb d 35 (λ e. omega arith)
@@ -290,13 +285,13 @@ walk_gap : (gap : List ℕ) (s : State) (f : Fields) → ((b : ℕ) → is_white
 walk_gap gap s f begins g =
     ap (λ (t : List ℕ). walk t s) g.text ∙ walk_step s (Gap f) g.first (flat_map item_bytes g.items) (begins g.first g.white) ∙ walk_items g.items f g.valid
 
-walk_digits : (digits : List ℕ) (f : Fields) (k v : ℕ) → list_all is_digit digits ≡ true → k + length digits ≤ 9
+walk_digits : (digits : List ℕ) (f : Fields) (k v : ℕ) → list_all is_ascii_digit digits ≡ true → k + length digits ≤ 9
     → walk digits (Number f k v) ≡ Some (Number f (k + length digits) (v * 10 ^ length digits + value_of digits))
 walk_digits [] f k v good room =
     let at : k ≡ k + length {A = ℕ} [] = omega arith in
     let same : v ≡ v * 10 ^ length {A = ℕ} [] + value_of [] = omega arith in ap₂ (λ (i j : ℕ). Some (Number f i j)) at same
 walk_digits (d ∷ digits) f k v good room =
-    let both : (is_digit d ≡ true) × (list_all is_digit digits ≡ true) = and_parts (is_digit d) (list_all is_digit digits) good in
+    let both : (is_ascii_digit d ≡ true) × (list_all is_ascii_digit digits ≡ true) = and_parts (is_ascii_digit d) (list_all is_ascii_digit digits) good in
     let few : nat_lt k 9 ≡ true = lt-ltb k 9 (omega arith) in
     let step : step_of (Number f k v) d ≡ Goes (Number f (k + 1) (10 * v + (d - 48))) = rw (not_white d both.0, both.0, few) refl in
     let again : walk digits (Number f (k + 1) (10 * v + (d - 48))) ≡ Some (Number f (k + 1 + length digits) ((10 * v + (d - 48)) * 10 ^ length digits + value_of digits)) =
@@ -310,7 +305,7 @@ walk_digits (d ∷ digits) f k v good room =
 walk_number : (digits : List ℕ) (f : Fields) (v : ℕ) → IsNumberText digits v → walk digits (Gap f) ≡ Some (Number f (length digits) v)
 walk_number [] f v n = absurd (omega (arith, n.some))
 walk_number (d ∷ digits) f v n =
-    let both : (is_digit d ≡ true) × (list_all is_digit digits ≡ true) = and_parts (is_digit d) (list_all is_digit digits) n.digits in
+    let both : (is_ascii_digit d ≡ true) × (list_all is_ascii_digit digits ≡ true) = and_parts (is_ascii_digit d) (list_all is_ascii_digit digits) n.digits in
     let step : step_of (Gap f) d ≡ Goes (Number f 1 (d - 48)) = rw (not_white d both.0, not_hash d both.0, both.0) refl in
     let short : 1 + length digits ≤ 9 = omega (arith, n.short) in
     let at : 1 + length digits ≡ length (d ∷ digits) = omega arith in

@@ -2,6 +2,7 @@
 --
 -- Words: IsLevel, IsMaxval, IsHeader, Accepts, level_of, judged, HeaderAnswer.
 use Rattle.std.specs.Prelude.{◌≡◌, ℕ, ◌≤◌, ◌==◌, ◌||◌, not, nat_lt, if◌then◌else◌, List, Option, Some, None, Result, Ok, Err}
+use Rattle.pgm_header.specs.declared.accepted.TheConstants.{GREATEST_LEVEL, GREATEST_MAXVAL}
 use Rattle.mesh_defs.specs.HeightField.{side_of}
 use Rattle.pgm_header.specs.declared.machine.HeaderValues.{HeaderValues}
 use Rattle.pgm_header.specs.declared.accepted.Header.{Header}
@@ -11,12 +12,12 @@ use Rattle.pgm_header.specs.declared.fault.HeaderFault.TheVariants.{BadMaxval, N
 -- a grid may have this n: its side is 3, 5, 9, 17, 33, 65, 129, 257, 513, 1025 or 2049
 pub record IsLevel (n : ℕ) : Type 0 where
   pub low : 1 ≤ n
-  pub high : n ≤ 11
+  pub high : n ≤ GREATEST_LEVEL
 
 -- a grid may have this maxval
 pub record IsMaxval (maxval : ℕ) : Type 0 where
   pub low : 1 ≤ maxval
-  pub high : maxval ≤ 65535
+  pub high : maxval ≤ GREATEST_MAXVAL
 
 -- the numbers of a header that is accepted
 pub record IsHeader (header : Header) : Type 0 where
@@ -36,7 +37,7 @@ abbrev pub level_of : ℕ → Option ℕ
 level_of side =
     if side == 3 then Some 1 else if side == 5 then Some 2 else if side == 9 then Some 3 else if side == 17 then Some 4 else if side == 33 then Some 5
     else if side == 65 then Some 6 else if side == 129 then Some 7 else if side == 257 then Some 8 else if side == 513 then Some 9
-    else if side == 1025 then Some 10 else if side == 2049 then Some 11 else None
+    else if side == 1025 then Some 10 else if side == 2049 then Some GREATEST_LEVEL else None
 
 -- the header of these values with this n
 abbrev pub with_level : HeaderValues → Option ℕ → Result Header HeaderFault
@@ -46,7 +47,7 @@ with_level values (Some n) = Ok (record { plain = values.plain; n = n; maxval = 
 -- the header of these values, or the first of the three tests that fails
 abbrev pub judged : HeaderValues → Result Header HeaderFault
 judged values =
-    if values.maxval == 0 || nat_lt 65535 values.maxval then Err BadMaxval
+    if values.maxval == 0 || nat_lt GREATEST_MAXVAL values.maxval then Err BadMaxval
     else if not (values.width == values.height) then Err NotSquare
     else with_level values (level_of values.width)
 

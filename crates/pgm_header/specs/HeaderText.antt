@@ -2,25 +2,17 @@
 -- comment stands directly after whitespace, that exactly one whitespace byte follows the maxval, and that
 -- a number has at most nine digits are this project's own.
 --
--- Words: is_line_end, is_white, is_digit, GapItem, item_bytes, is_comment_text, is_item, IsGap, value_of,
+-- Words: GapItem, item_bytes, is_comment_text, is_item, IsGap,
 -- IsNumberText, magic_text, IsHeaderText, comment_line, written_header, IsFront, IsProperFront, IsUnfitAt,
 -- BeginsWithHeader.
 use Rattle.std.specs.Prelude.{◌≡◌, ℕ, ◌+◌, ◌-◌, ◌*◌, ◌^◌, ◌<◌, ◌≤◌, Bool, true, false, ◌==◌, ◌||◌, ◌&&◌, not, nat_le, IsTrue, List, [], ◌∷◌, ◌++◌, length, take}
+use Rattle.std.specs.Char.{is_ascii_digit}
 use Rattle.std.specs.Fmt.{decimal}
 use Rattle.std.specs.List.{flat_map, list_all}
+use Rattle.pgm_header.specs.declared.reader.TheConstants.{MOST_HEADER_BYTES}
+use Rattle.text_laws.specs.Digits.{value_of}
+use Rattle.text_laws.specs.Blanks.{is_white, is_line_end}
 use Rattle.pgm_header.specs.declared.machine.HeaderValues.{HeaderValues}
-
--- the byte is a CR (13) or an LF (10)
-abbrev pub is_line_end : ℕ → Bool
-is_line_end byte = byte == 13 || byte == 10
-
--- the byte is whitespace: a blank (32), a TAB (9), a CR or an LF
-abbrev pub is_white : ℕ → Bool
-is_white byte = byte == 32 || (byte == 9 || is_line_end byte)
-
--- the byte is one of `0` (48) to `9` (57)
-abbrev pub is_digit : ℕ → Bool
-is_digit byte = nat_le 48 byte && nat_le byte 57
 
 -- a part of a gap: a whitespace byte, or a comment with the line end that ends it
 pub data GapItem : Type 0 where
@@ -50,16 +42,11 @@ pub record IsGap (bytes : List ℕ) : Type 0 where
   pub valid : IsTrue (list_all is_item items)
   pub text : bytes ≡ first ∷ flat_map item_bytes items
 
--- the number that these digits are: each counts ten times what it would count one place further right
-abbrev pub value_of : List ℕ → ℕ
-value_of [] = 0
-value_of (digit ∷ rest) = (digit - 48) * 10 ^ length rest + value_of rest
-
 -- the bytes are 1 to 9 digits, which are this number; zeros may lead
 pub record IsNumberText (bytes : List ℕ) (number : ℕ) : Type 0 where
   pub some : 1 ≤ length bytes
   pub short : length bytes ≤ 9
-  pub digits : IsTrue (list_all is_digit bytes)
+  pub digits : IsTrue (list_all is_ascii_digit bytes)
   pub value : number ≡ value_of bytes
 
 -- `P2` where the raster is plain, `P5` where it is raw
@@ -110,10 +97,10 @@ pub record IsUnfitAt (bytes : List ℕ) (place : ℕ) : Type 0 where
   pub good : IsProperFront (take place bytes)
   pub bad : IsFront (take (place + 1) bytes) → ⊥
 
--- the bytes begin with a header's text of at most 65,536 bytes, which has these values
+-- the bytes begin with a header's text of at most `MOST_HEADER_BYTES`, which has these values
 pub record BeginsWithHeader (bytes : List ℕ) (values : HeaderValues) : Type 0 where
   pub header : List ℕ
   pub rest : List ℕ
   pub is_text : IsHeaderText header values
-  pub short : length header ≤ 65536
+  pub short : length header ≤ MOST_HEADER_BYTES
   pub text : bytes ≡ header ++ rest

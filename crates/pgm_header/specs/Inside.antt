@@ -1,5 +1,6 @@
 -- The fields of a reader: what they have come to, and what holds of them.
 use Rattle.std.specs.Prelude.{◌≤◌}
+use Rattle.pgm_header.specs.declared.reader.TheConstants.{LAST_PLACE}
 use Rattle.pgm_header.specs.declared.reader.HeaderReader.TheInside.{Inside}
 use Rattle.pgm_header.specs.Machine.{IsState}
 use Rattle.pgm_header.specs.Reading.{Progress}
@@ -11,4 +12,4 @@ progress_of r = record { state = r.state; place = r.place }
 -- the numbers are in their ranges, and the place is one that a header may have
 pub record IsReader (r : Inside) : Type 0 where
   pub valid : IsState r.state
-  pub within : r.place ≤ 65535
+  pub within : r.place ≤ LAST_PLACE

@@ -1,6 +1,7 @@
 -- What bytes mean, in the words of the format.
 use Rattle.std.specs.Prelude.{◌≡◌, ◌≢◌, ◌↔◌, ℕ, ◌^◌, ◌<◌, ◌≤◌, IsTrue, List, [], ◌++◌, length, take}
 use Rattle.std.specs.List.{list_all}
+use Rattle.pgm_header.specs.declared.reader.TheConstants.{MOST_HEADER_BYTES}
 use Rattle.mesh_defs.specs.HeightField.{side_of}
 use Rattle.pgm_header.specs.declared.machine.HeaderValues.{HeaderValues}
 use Rattle.pgm_header.specs.declared.accepted.Header.{Header}
@@ -10,15 +11,15 @@ use Rattle.pgm_header.specs.HeaderText.{is_comment_text, IsHeaderText, written_h
 use Rattle.pgm_header.specs.Accepted.{IsLevel, IsMaxval, Accepts, Part, Whole, Bad}
 use Rattle.pgm_header.specs.Reading.{header_of}
 
--- a header's text of at most 65,536 bytes whose values are accepted is read, whatever follows
+-- a header's text of at most `MOST_HEADER_BYTES` whose values are accepted is read, whatever follows
 abbrev pub TextsAreRead : Type 0
-TextsAreRead = (text rest : List ℕ) (values : HeaderValues) (header : Header) → IsHeaderText text values → length text ≤ 65536 → Accepts values header
+TextsAreRead = (text rest : List ℕ) (values : HeaderValues) (header : Header) → IsHeaderText text values → length text ≤ MOST_HEADER_BYTES → Accepts values header
     → header_of (text ++ rest) ≡ Whole header rest
 
 -- what is read is such a text, and then what is left
 abbrev pub ReadTextsAreHeaders : Type 0
 ReadTextsAreHeaders = (bytes rest : List ℕ) (header : Header) → header_of bytes ≡ Whole header rest
-    → (text : List ℕ) × (values : HeaderValues) × IsHeaderText text values × (length text ≤ 65536) × Accepts values header × (bytes ≡ text ++ rest)
+    → (text : List ℕ) × (values : HeaderValues) × IsHeaderText text values × (length text ≤ MOST_HEADER_BYTES) × Accepts values header × (bytes ≡ text ++ rest)
 
 -- a header as programs write it is a header's text, with any comment lines
 abbrev pub WrittenHeadersAreTexts : Type 0
@@ -30,9 +31,9 @@ abbrev pub NoTextGoesOn : Type 0
 NoTextGoesOn = (text more : List ℕ) (values others : HeaderValues) → IsHeaderText text values → IsHeaderText (text ++ more) others
     → (more ≡ []) × (others ≡ values)
 
--- bytes are a part of a header exactly where they are a proper front of one, and fewer than 65,536
+-- bytes are a part of a header exactly where they are a proper front of one, and fewer than `MOST_HEADER_BYTES`
 abbrev pub PartsAreFronts : Type 0
-PartsAreFronts = (bytes : List ℕ) → (header_of bytes ≡ Part) ↔ (IsProperFront bytes × (length bytes < 65536))
+PartsAreFronts = (bytes : List ℕ) → (header_of bytes ≡ Part) ↔ (IsProperFront bytes × (length bytes < MOST_HEADER_BYTES))
 
 -- a bad magic is answered exactly where the first or the second byte continues no header
 abbrev pub BadMagicsAreRefused : Type 0
@@ -40,11 +41,11 @@ BadMagicsAreRefused = (bytes : List ℕ) → (header_of bytes ≡ Bad BadMagic) 
 
 -- a bad header is answered exactly at the place of a later byte that continues none
 abbrev pub BadHeadersAreRefused : Type 0
-BadHeadersAreRefused = (bytes : List ℕ) (place : ℕ) → (header_of bytes ≡ Bad (BadHeader place)) ↔ ((2 ≤ place) × (place < 65536) × IsUnfitAt bytes place)
+BadHeadersAreRefused = (bytes : List ℕ) (place : ℕ) → (header_of bytes ≡ Bad (BadHeader place)) ↔ ((2 ≤ place) × (place < MOST_HEADER_BYTES) × IsUnfitAt bytes place)
 
--- a header is too long exactly where 65,536 bytes are a proper front of one
+-- a header is too long exactly where as many bytes as it may have are a proper front of one
 abbrev pub LongHeadersAreRefused : Type 0
-LongHeadersAreRefused = (bytes : List ℕ) → (header_of bytes ≡ Bad HeaderTooLong) ↔ ((65536 ≤ length bytes) × IsProperFront (take 65536 bytes))
+LongHeadersAreRefused = (bytes : List ℕ) → (header_of bytes ≡ Bad HeaderTooLong) ↔ ((MOST_HEADER_BYTES ≤ length bytes) × IsProperFront (take MOST_HEADER_BYTES bytes))
 
 -- the maxval is tested first
 abbrev pub BadMaxvalsAreRefused : Type 0

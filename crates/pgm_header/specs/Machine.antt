@@ -3,7 +3,8 @@
 --
 -- Words: gap_step, number_ended, number_step, step_of, IsState, IsStep.
 use Rattle.std.specs.Prelude.{ℕ, ◌+◌, ◌-◌, ◌*◌, ◌^◌, ◌<◌, ◌≤◌, true, false, ◌==◌, ◌&&◌, nat_lt, if◌then◌else◌, ⊤}
-use Rattle.pgm_header.specs.HeaderText.{is_line_end, is_white, is_digit}
+use Rattle.std.specs.Char.{is_ascii_digit}
+use Rattle.text_laws.specs.Blanks.{is_white, is_line_end}
 use Rattle.pgm_header.specs.declared.machine.Fields.{Fields}
 use Rattle.pgm_header.specs.declared.machine.Fields.TheVariants as fields
 use Rattle.pgm_header.specs.declared.machine.State.{State}
@@ -18,7 +19,7 @@ letter_step byte = if byte == 50 then Goes (Named true) else if byte == 53 then 
 -- a byte in the gap after these fields, outside comments
 abbrev pub gap_step : Fields → ℕ → Step
 gap_step before byte =
-    if is_white byte then Goes (Gap before) else if byte == 35 then Goes (Comment before) else if is_digit byte then Goes (Number before 1 (byte - 48))
+    if is_white byte then Goes (Gap before) else if byte == 35 then Goes (Comment before) else if is_ascii_digit byte then Goes (Number before 1 (byte - 48))
     else Fails
 
 -- whitespace after the number that follows these fields
@@ -31,7 +32,7 @@ number_ended (fields.Height plain width height) value = Ends (record { plain = p
 abbrev pub number_step : Fields → ℕ → ℕ → ℕ → Step
 number_step before digits value byte =
     if is_white byte then number_ended before value
-    else if is_digit byte && nat_lt digits 9 then Goes (Number before (digits + 1) (10 * value + (byte - 48))) else Fails
+    else if is_ascii_digit byte && nat_lt digits 9 then Goes (Number before (digits + 1) (10 * value + (byte - 48))) else Fails
 
 -- a byte
 abbrev pub step_of : State → ℕ → Step

@@ -2,6 +2,7 @@
 --
 -- Words: Progress, unfit, whole_answer, after_step, run, resume, header_of, taken.
 use Rattle.std.specs.Prelude.{ℕ, ◌+◌, ◌==◌, nat_lt, if◌then◌else◌, List, [], ◌∷◌, Result, Ok, Err}
+use Rattle.pgm_header.specs.declared.reader.TheConstants.{LAST_PLACE}
 use Rattle.pgm_header.specs.declared.accepted.Header.{Header}
 use Rattle.pgm_header.specs.declared.fault.HeaderFault.{HeaderFault}
 use Rattle.pgm_header.specs.declared.fault.HeaderFault.TheVariants.{BadMagic, BadHeader, HeaderTooLong}
@@ -28,7 +29,7 @@ whole_answer (Err fault) rest = Bad fault
 
 -- the answer after the step of the byte at this place, where these follow, and a state answers as told
 abbrev pub after_step : Step → ℕ → List ℕ → (State → HeaderAnswer) → HeaderAnswer
-after_step (Goes state) place more within = if place == 65535 then Bad HeaderTooLong else within state
+after_step (Goes state) place more within = if place == LAST_PLACE then Bad HeaderTooLong else within state
 after_step (Ends values) place more within = whole_answer (judged values) more
 after_step Fails place more within = Bad (unfit place)
 

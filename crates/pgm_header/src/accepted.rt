@@ -6,6 +6,12 @@ ghost use Rattle.pgm_header.specs.Accepted.{level_of, judged};
 use crate::fault::HeaderFault;
 use crate::machine::HeaderValues;
 
+/// The greatest n of a grid: its side is 2^n + 1.
+pub const GREATEST_LEVEL: u32 = 11;
+
+/// The greatest maxval: a sample has at most two bytes.
+pub const GREATEST_MAXVAL: u32 = 65_535;
+
 /// A header that is accepted.
 #[derive(Clone, Copy, Debug, PartialEq, Eq)]
 pub struct Header {
@@ -32,7 +38,7 @@ fn level_for(side: u32) -> Option<u32>
         257 => Some(8),
         513 => Some(9),
         1025 => Some(10),
-        2049 => Some(11),
+        2049 => Some(GREATEST_LEVEL),
         _ => None,
     }
 }
@@ -41,7 +47,7 @@ fn level_for(side: u32) -> Option<u32>
 pub(crate) fn judge(values: HeaderValues) -> Result<Header, HeaderFault>
     ensures { result ≡ judged values }
 {
-    if values.maxval == 0 || values.maxval > 65535 {
+    if values.maxval == 0 || values.maxval > GREATEST_MAXVAL {
         return Err(HeaderFault::BadMaxval);
     }
     if values.width != values.height {

@@ -14,11 +14,11 @@ mod laws;
 mod machine;
 mod reader;
 
-pub use accepted::Header;
+pub use accepted::{GREATEST_LEVEL, GREATEST_MAXVAL, Header};
 pub use fault::HeaderFault;
 pub use laws::header_laws;
 pub use machine::HeaderValues;
-pub use reader::HeaderReader;
+pub use reader::{HeaderReader, LAST_PLACE, MOST_HEADER_BYTES};
 
 #[cfg(test)]
 mod tests;

@@ -1,7 +1,8 @@
 //! The header as a machine of bytes, without places and without a limit of length.
 
 ghost use Rattle.std.specs.Prelude.{◌≡◌};
-ghost use Rattle.pgm_header.specs.HeaderText.{is_white, is_line_end, is_digit};
+ghost use Rattle.std.specs.Char.{is_ascii_digit};
+ghost use Rattle.text_laws.specs.Blanks.{is_white, is_line_end};
 ghost use Rattle.pgm_header.specs.Machine.{step_of, gap_step, number_step, number_ended, IsState, IsStep};
 
 /// The values that stand in the text of a header, whether they are accepted or not.
@@ -91,7 +92,7 @@ fn is_newline(byte: u8) -> bool
 
 /// Whether the byte is a decimal digit.
 fn is_decimal(byte: u8) -> bool
-    ensures { result ≡ is_digit byte }
+    ensures { result ≡ is_ascii_digit byte }
 {
     byte >= b'0' && byte <= b'9'
 }

@@ -2,6 +2,7 @@
 
 ghost use Rattle.std.specs.Prelude.{◌≡◌, ◌+◌, ◌≤◌, [], ◌∷◌, List, ℕ, IfOk, IfErr, OnErr, IfSome, IfNone};
 ghost use Rattle.pgm_header.specs.declared.fault.HeaderFault.{HeaderFault as Fault};
+ghost use Rattle.pgm_header.specs.declared.reader.TheConstants.{LAST_PLACE};
 ghost use Rattle.pgm_header.specs.Accepted.{IsHeader, Part, Whole, Bad};
 ghost use Rattle.pgm_header.specs.Reading.{resume, header_of, taken, unfit};
 
@@ -10,8 +11,11 @@ use crate::fault::HeaderFault;
 use crate::machine::{State, Step, step_from};
 use std::marker::Model;
 
-/// The place of the last byte that a header may have: it has at most 65,536 bytes.
-const LAST_PLACE: u32 = 65535;
+/// The most bytes of a header: a limit of this project's own, since comments may go on without end.
+pub const MOST_HEADER_BYTES: u32 = 65_536;
+
+/// The place of the last byte that a header may have.
+pub const LAST_PLACE: u32 = MOST_HEADER_BYTES - 1;
 
 /// A reader of the bytes of a PGM file's header, one after the other.
 ///
@@ -57,7 +61,7 @@ impl HeaderReader {
     #[tactic(auto, using(crate::proofs::ReadingLemmas::taken_place))]
     pub fn place(&self) -> u32
         ensures value { result ≡ taken self.now }
-        ensures bound { result ≤ 65535 }
+        ensures bound { result ≤ LAST_PLACE }
     {
         self.place
     }
@@ -73,7 +77,7 @@ impl HeaderReader {
         ensures refusable { IfOk result (λ ended. IfNone ended
             ((more : List ℕ) × (fault : Fault) × (resume self.new more ≡ Bad fault))) }
         ensures count { IfOk result (λ ended. IfNone ended (taken self.new ≡ taken self.old + 1)) }
-        ensures limit { IfOk result (λ ended. IfNone ended (taken self.new ≤ 65535)) }
+        ensures limit { IfOk result (λ ended. IfNone ended (taken self.new ≤ LAST_PLACE)) }
         // The header is that of the text, whatever follows, and what follows is left.
         ensures ends { IfOk result (λ ended. IfSome ended (λ header.
             (more : List ℕ) → resume self.old (byte ∷ more) ≡ Whole header more)) }

@@ -2,7 +2,7 @@
 
 use crate::{Header, HeaderFault, HeaderReader};
 
-/// The header at the front of the bytes and how many bytes it has, nothing if they end before it does, or the refusal.
+/// The header that the bytes begin with and how many bytes it has, nothing if they end before it does, or the refusal.
 fn read(bytes: &[u8]) -> Result<Option<(Header, usize)>, HeaderFault> {
     let mut reader = HeaderReader::new();
     for (i, byte) in bytes.iter().enumerate() {

@@ -7,25 +7,30 @@ use Rattle.std.proofs.lemmas.List.Concat.{flat_map-append}
 use Rattle.std.proofs.lemmas.List.Elements.{All-nil, All-cons, All-head, All-tail, All-append, All-push, All-take, All-drop}
 use Rattle.std.proofs.lemmas.Bool.{cases_lt, lt-ltb, le-ltb, cond-true, cond-false, ne_eqb, and_left, and_right}
 use Rattle.std.proofs.Math.Nat.{pow-succ'}
-use Rattle.roam_lanes.specs.Words.{words_of}
+use Rattle.text_laws.specs.Digits.{IsDigit, value_of}
+use Rattle.text_laws.specs.Blanks.{IsWhite, is_white}
+use Rattle.text_laws.specs.Words.{two_bytes, words_of}
+use Rattle.text_laws.proofs.TestLemmas.{by_bool}
+use Rattle.text_laws.proofs.DigitLemmas.{value-push, digit-yes, digit-no, digit-is, digit-isnt}
+use Rattle.text_laws.proofs.BlankLemmas.{white-yes, white-no, white-is, white-isnt, digit-no_white}
+use Rattle.text_laws.proofs.WordLemmas.{length-flat, words-flat}
 use Rattle.pgm_raster.specs.declared.fault.RasterFault.TheVariants.{BadSample, AboveMaxval, Trailing, Truncated, TooLong}
 use Rattle.pgm_raster.specs.declared.form.RasterForm.{RasterForm}
 use Rattle.pgm_raster.specs.declared.form.RasterForm.TheVariants.{Bytes, Words, Plain}
 use Rattle.pgm_raster.specs.declared.part.Limits.{Limits}
 use Rattle.pgm_raster.specs.declared.part.Digits.{Digits}
-use Rattle.pgm_raster.specs.RasterText.{two_bytes, IsSpace, IsDigit, value_of, IsSampleText, IsSample, AreEndedTexts, AreEnded, IsRaster, IsCut, IsCutShort, IsStray, IsTrailingAt, EndsThere, IsAboveAt, IsBadSampleAt}
-use Rattle.pgm_raster.specs.Progress.{Answer, after, sample_then, end_at, bytes_from, words_from, is_space, no_digits, with_digit, ended_then, rest_of, nothing_of, raster_of}
+use Rattle.pgm_raster.specs.RasterText.{IsSampleText, IsSample, AreEndedTexts, AreEnded, IsRaster, IsCut, IsCutShort, IsStray, IsTrailingAt, EndsThere, IsAboveAt, IsBadSampleAt}
+use Rattle.pgm_raster.specs.Progress.{Answer, after, sample_then, end_at, bytes_from, words_from, no_digits, with_digit, ended_then, rest_of, nothing_of, raster_of}
 use Rattle.pgm_raster.specs.Laws.{RastersAreRead, ReadBytesAreRasters}
 use Rattle.pgm_raster.proofs.RasterLemmas.{after-append, after-nil, sample-passed, sample-refused, samples-passed, bytes-samples, words-samples}
-use Rattle.pgm_raster.proofs.PlainLemmas.{by_test, space-yes, space-no, space-is, space-isnt, digit-yes, digit-no, digit-is, digit-isnt, digit-no_space}
 use Rattle.pgm_raster.proofs.UnlimitedLemmas.{plain_unlimited, rest_unlimited, unlimited-space, unlimited-full, unlimited-digit, rest-within, agreed}
 
 -- ---- texts that are joined
 
 pub ended_texts-append : (a b p q : List ℕ) → AreEndedTexts a p → AreEndedTexts b q → AreEndedTexts (a ++ b) (p ++ q)
-ended_texts-append [] [] p q x y = All-append IsSpace p q x y
+ended_texts-append [] [] p q x y = All-append IsWhite p q x y
 ended_texts-append [] (s ∷ b) p q x y =
-    (p ++ y.0, y.1, y.2, y.3, ap (λ (t : List ℕ). p ++ t) y.4 ∙ sym (append_assoc p y.0 (y.1 ++ y.2 ∷ y.3)), All-append IsSpace p y.0 x y.5, y.6, y.7, y.8)
+    (p ++ y.0, y.1, y.2, y.3, ap (λ (t : List ℕ). p ++ t) y.4 ∙ sym (append_assoc p y.0 (y.1 ++ y.2 ∷ y.3)), All-append IsWhite p y.0 x y.5, y.6, y.7, y.8)
 ended_texts-append (s ∷ a) b p q x y =
     (x.0, x.1, x.2, x.3 ++ q, ap (λ (t : List ℕ). t ++ q) x.4 ∙ append_assoc x.0 (x.1 ++ x.2 ∷ x.3) q ∙ ap (λ (t : List ℕ). x.0 ++ t) (append_assoc x.1 (x.2 ∷ x.3) q), x.5, x.6, x.7, ended_texts-append a b x.3 q x.8 y)
 
@@ -53,12 +58,12 @@ raster-append Plain a b p q x (inr y) = inr (
 nothing-ended : (f : RasterForm) → AreEnded f [] []
 nothing-ended Bytes = refl
 nothing-ended Words = refl
-nothing-ended Plain = All-nil IsSpace
+nothing-ended Plain = All-nil IsWhite
 
 nothing-raster : (f : RasterForm) → IsRaster f [] []
 nothing-raster Bytes = refl
 nothing-raster Words = refl
-nothing-raster Plain = inl (All-nil IsSpace)
+nothing-raster Plain = inl (All-nil IsWhite)
 
 nothing-cut : (f : RasterForm) → IsCut f []
 nothing-cut Bytes = refl
@@ -242,14 +247,6 @@ words-told l (high ∷ low ∷ more) index at room all =
 
 -- ---- what the bytes of a plain raster are
 
--- one more digit
-value-push : (text : List ℕ) (byte : ℕ) → value_of (text ++ byte ∷ []) ≡ 10 * value_of text + (byte - 48)
-value-push [] byte = omega arith
-value-push (digit ∷ text) byte =
-    let power : 10 ^ length (text ++ byte ∷ []) ≡ 10 * 10 ^ length text = ap (λ (n : ℕ). 10 ^ n) (length_push text byte ∙ add-one (length text)) ∙ pow-succ' 10 (length text) in
-    let first : (digit - 48) * 10 ^ length (text ++ byte ∷ []) ≡ (digit - 48) * (10 * 10 ^ length text) = ap (λ (n : ℕ). (digit - 48) * n) power in
-    omega (arith, first, value-push text byte)
-
 -- the digits of this text
 abbrev pub digits_of : List ℕ → Digits
 digits_of text = record { count = length text; value = value_of text }
@@ -271,7 +268,7 @@ plain-end l index at (digit ∷ text) room are short wanted =
     (last (digit ∷ text) (record { some = omega arith; short = short; digits = are; value = refl }) (wanted (omega arith)))
   where
     open_end : (t : List ℕ) → IsSampleText t (value_of t) → IsRaster Plain (value_of t ∷ []) t
-    open_end t is = inr ([], value_of t, [], t, refl, refl, All-nil IsSpace, is)
+    open_end t is = inr ([], value_of t, [], t, refl, refl, All-nil IsWhite, is)
 
     whole : (t : List ℕ) → IsSampleText t (value_of t) → index < l.count → value_of t ≤ l.maxval → Told Plain l index at t (after (value_of t ∷ []) (end_at l (index + 1)))
     whole t is less fits =
@@ -298,7 +295,7 @@ plain-end l index at (digit ∷ text) room are short wanted =
               more = [];
               whole = sym (append-nil t);
               at = refl;
-              ended = All-nil IsSpace;
+              ended = All-nil IsWhite;
               next = is;
               ends = tt;
               bound = All-nil (λ h. h ≤ l.maxval);
@@ -310,12 +307,12 @@ plain-end l index at (digit ∷ text) room are short wanted =
         ])
 
 -- whitespace comes
-plain-ended : (l : Limits) (byte : ℕ) (more : List ℕ) → PlainTold l more → IsSpace byte → (index at : ℕ) (text : List ℕ) → index ≤ l.count → All IsDigit text → length text ≤ 9 → (0 < length text → index < l.count)
+plain-ended : (l : Limits) (byte : ℕ) (more : List ℕ) → PlainTold l more → IsWhite byte → (index at : ℕ) (text : List ℕ) → index ≤ l.count → All IsDigit text → length text ≤ 9 → (0 < length text → index < l.count)
     → Told Plain l index at (text ++ byte ∷ more) (ended_then l index (digits_of text) (λ i. plain_unlimited l i no_digits (at + length text + 1) more))
 plain-ended l byte more again space index at [] room are short wanted =
     let e : at + 1 + 0 ≡ at + 0 + 1 = omega arith in
     let i : index ≡ index + 0 = omega arith in
-    let before : All IsSpace (byte ∷ []) = All-cons IsSpace byte [] space (All-nil IsSpace) in
+    let before : All IsWhite (byte ∷ []) = All-cons IsWhite byte [] space (All-nil IsWhite) in
     let rest : Told Plain l index (at + 1) more (plain_unlimited l index no_digits (at + 0 + 1) more) =
     subst (λ (p : ℕ). Told Plain l index (at + 1) more (plain_unlimited l index no_digits p more)) e (again index (at + 1) [] room (All-nil IsDigit) (omega arith) (λ some. absurd (omega arith))) in
     subst (Told Plain l index at (byte ∷ more)) (after-nil (plain_unlimited l index no_digits (at + 0 + 1) more))
@@ -328,7 +325,7 @@ plain-ended l byte more again space index at (digit ∷ text) room are short wan
     ending : (t : List ℕ) → IsSampleText t (value_of t) → index < l.count → Told Plain l index at (t ++ byte ∷ more) (sample_then l index (value_of t) (plain_unlimited l (index + 1) no_digits (at + length t + 1) more))
     ending t is less =
         let e : at + length (t ++ byte ∷ []) + 0 ≡ at + length t + 1 = omega (arith, length_push t byte) in
-        let one : AreEndedTexts (value_of t ∷ []) (t ++ byte ∷ []) = ([], t, byte, [], refl, All-nil IsSpace, is, space, All-nil IsSpace) in
+        let one : AreEndedTexts (value_of t ∷ []) (t ++ byte ∷ []) = ([], t, byte, [], refl, All-nil IsWhite, is, space, All-nil IsWhite) in
         let rest : Told Plain l (index + 1) (at + length (t ++ byte ∷ [])) more (plain_unlimited l (index + 1) no_digits (at + length t + 1) more) =
         subst (λ (p : ℕ). Told Plain l (index + 1) (at + length (t ++ byte ∷ [])) more (plain_unlimited l (index + 1) no_digits p more)) e
         (again (index + 1) (at + length (t ++ byte ∷ [])) [] (omega arith) (All-nil IsDigit) (omega arith) (λ some. absurd (omega arith))) in
@@ -336,10 +333,10 @@ plain-ended l byte more again space index at (digit ∷ text) room are short wan
         (told-sample Plain l index at (value_of t) t (t ++ byte ∷ []) more (plain_unlimited l (index + 1) no_digits (at + length t + 1) more) less is one (byte ∷ more) (append_assoc t (byte ∷ []) more) space rest)
 
 -- another byte comes
-plain-other : (l : Limits) (byte : ℕ) (more : List ℕ) → PlainTold l more → is_space byte ≡ false → (index at : ℕ) (text : List ℕ) → index < l.count → All IsDigit text → length text ≤ 9
+plain-other : (l : Limits) (byte : ℕ) (more : List ℕ) → PlainTold l more → is_white byte ≡ false → (index at : ℕ) (text : List ℕ) → index < l.count → All IsDigit text → length text ≤ 9
     → Told Plain l index at (text ++ byte ∷ more) (plain_unlimited l index (digits_of text) (at + length text) (byte ∷ more))
 plain-other l byte more again space index at text wanted are short =
-    by_test (is_ascii_digit byte) (λ digit. elim (cases_lt (length text) 9) as (λ _. Told Plain l index at (text ++ byte ∷ more) (plain_unlimited l index (digits_of text) (at + length text) (byte ∷ more))) [
+    by_bool (is_ascii_digit byte) (λ digit. elim (cases_lt (length text) 9) as (λ _. Told Plain l index at (text ++ byte ∷ more) (plain_unlimited l index (digits_of text) (at + length text) (byte ∷ more))) [
       | inl fewer ↦
           let e : at + length (text ++ byte ∷ []) ≡ at + length text + 1 = omega (arith, length_push text byte) in
           subst (Told Plain l index at (text ++ byte ∷ more)) (sym (unlimited-digit l index (digits_of text) (at + length text) byte more space wanted digit fewer
@@ -364,40 +361,40 @@ plain-other l byte more again space index at text wanted are short =
             more = more;
             whole = refl;
             at = omega arith;
-            ended = All-nil IsSpace;
+            ended = All-nil IsWhite;
             short = short;
             are = are;
-            no_space = space-no byte space;
+            no_space = white-no byte space;
             bad = why;
             bound = All-nil (λ h. h ≤ l.maxval);
             wanted = omega arith;
           },
         )
 
-plain-behind : (l : Limits) (byte : ℕ) (more : List ℕ) → PlainTold l more → is_space byte ≡ false → (index at : ℕ) (text : List ℕ) → index ≤ l.count → All IsDigit text → length text ≤ 9 → (0 < length text → index < l.count)
+plain-behind : (l : Limits) (byte : ℕ) (more : List ℕ) → PlainTold l more → is_white byte ≡ false → (index at : ℕ) (text : List ℕ) → index ≤ l.count → All IsDigit text → length text ≤ 9 → (0 < length text → index < l.count)
     → Told Plain l index at (text ++ byte ∷ more) (plain_unlimited l index (digits_of text) (at + length text) (byte ∷ more))
 plain-behind l byte more again space index at [] room are short wanted =
     let e : at + 0 ≡ at = omega arith in
     elim (cases_lt index l.count) as (λ _. Told Plain l index at (byte ∷ more) (plain_unlimited l index (digits_of []) (at + 0) (byte ∷ more))) [
       | inl less ↦ plain-other l byte more again space index at [] less are short
-      | inr full ↦ subst (Told Plain l index at (byte ∷ more)) (ap (λ (p : ℕ). let r : Answer = Err (Trailing p) in r) (sym e) ∙ sym (unlimited-full l index (digits_of []) (at + 0) byte more space full)) (told-trailing Plain l index at byte more (omega arith) (space-no byte space))
+      | inr full ↦ subst (Told Plain l index at (byte ∷ more)) (ap (λ (p : ℕ). let r : Answer = Err (Trailing p) in r) (sym e) ∙ sym (unlimited-full l index (digits_of []) (at + 0) byte more space full)) (told-trailing Plain l index at byte more (omega arith) (white-no byte space))
     ]
 plain-behind l byte more again space index at (digit ∷ text) room are short wanted = plain-other l byte more again space index at (digit ∷ text) (wanted (omega arith)) are short
 
 plain-told : (l : Limits) (bytes : List ℕ) → PlainTold l bytes
 plain-told l [] index at text room are short wanted = plain-end l index at text room are short wanted
 plain-told l (byte ∷ more) index at text room are short wanted =
-    by_test (is_space byte)
-    (λ yes. subst (Told Plain l index at (text ++ byte ∷ more)) (sym (unlimited-space l index (digits_of text) (at + length text) byte more yes)) (plain-ended l byte more (plain-told l more) (space-yes byte yes) index at text room are short wanted))
+    by_bool (is_white byte)
+    (λ yes. subst (Told Plain l index at (text ++ byte ∷ more)) (sym (unlimited-space l index (digits_of text) (at + length text) byte more yes)) (plain-ended l byte more (plain-told l more) (white-yes byte yes) index at text room are short wanted))
     (λ no. plain-behind l byte more (plain-told l more) no index at text room are short wanted)
 
 -- ---- how texts are read
 
-spaces-read : (l : Limits) (gap : List ℕ) (index at : ℕ) (more : List ℕ) → All IsSpace gap → plain_unlimited l index no_digits at (gap ++ more) ≡ plain_unlimited l index no_digits (at + length gap) more
+spaces-read : (l : Limits) (gap : List ℕ) (index at : ℕ) (more : List ℕ) → All IsWhite gap → plain_unlimited l index no_digits at (gap ++ more) ≡ plain_unlimited l index no_digits (at + length gap) more
 spaces-read l [] index at more all = let e : at ≡ at + 0 = omega arith in ap (λ (p : ℕ). plain_unlimited l index no_digits p more) e
 spaces-read l (byte ∷ gap) index at more all =
     let e : at + 1 + length gap ≡ at + suc (length gap) = omega arith in
-    unlimited-space l index no_digits at byte (gap ++ more) (space-is byte (All-head IsSpace byte gap all)) ∙ spaces-read l gap index (at + 1) more (All-tail IsSpace byte gap all)
+    unlimited-space l index no_digits at byte (gap ++ more) (white-is byte (All-head IsWhite byte gap all)) ∙ spaces-read l gap index (at + 1) more (All-tail IsWhite byte gap all)
     ∙ ap (λ (p : ℕ). plain_unlimited l index no_digits p more) e
 
 pub digits-read : (l : Limits) (text before : List ℕ) (index at : ℕ) (more : List ℕ) → index < l.count → All IsDigit text → length before + length text ≤ 9
@@ -408,16 +405,16 @@ digits-read l [] before index at more wanted all short =
 digits-read l (byte ∷ text) before index at more wanted all short =
     let e : at + 1 + length text ≡ at + suc (length text) = omega arith in
     let digit : IsDigit byte = All-head IsDigit byte text all in
-    unlimited-digit l index (digits_of before) at byte (text ++ more) (digit-no_space byte digit) wanted (digit-is byte digit) (omega arith)
+    unlimited-digit l index (digits_of before) at byte (text ++ more) (digit-no_white byte digit) wanted (digit-is byte digit) (omega arith)
     ∙ ap (λ (d : Digits). plain_unlimited l index d (at + 1) (text ++ more)) (digits-push before byte)
     ∙ digits-read l text (before ++ byte ∷ []) index (at + 1) more wanted (All-tail IsDigit byte text all) (omega (arith, length_push before byte))
     ∙ ap₂ (λ (t : List ℕ) (p : ℕ). plain_unlimited l index (digits_of t) p more) (append_assoc before (byte ∷ []) text) e
 
 -- a text that whitespace or the end of the file ends
-text-ended : (l : Limits) (text : List ℕ) (sample index at : ℕ) (space : ℕ) (more : List ℕ) → IsSampleText text sample → IsSpace space
+text-ended : (l : Limits) (text : List ℕ) (sample index at : ℕ) (space : ℕ) (more : List ℕ) → IsSampleText text sample → IsWhite space
     → plain_unlimited l index (digits_of text) at (space ∷ more) ≡ sample_then l index sample (plain_unlimited l (index + 1) no_digits (at + 1) more)
 text-ended l text sample index at space more is space_is =
-    unlimited-space l index (digits_of text) at space more (space-is space space_is) ∙ pending l index text (λ i. plain_unlimited l i no_digits (at + 1) more) (omega (arith, is.some))
+    unlimited-space l index (digits_of text) at space more (white-is space space_is) ∙ pending l index text (λ i. plain_unlimited l i no_digits (at + 1) more) (omega (arith, is.some))
     ∙ ap (λ (v : ℕ). sample_then l index v (plain_unlimited l (index + 1) no_digits (at + 1) more)) is.value
 
 text-last : (l : Limits) (text : List ℕ) (sample index at : ℕ) → IsSampleText text sample → plain_unlimited l index (digits_of text) at [] ≡ sample_then l index sample (end_at l (index + 1))
@@ -443,14 +440,6 @@ plain-read l (s ∷ samples) front index at more x room all =
     ∙ ap (after (s ∷ [])) (plain-read l samples x.3 (index + 1) (at + length x.0 + length x.1 + 1) more x.8 (omega arith) (All-tail (λ h. h ≤ l.maxval) s samples all))
     ∙ sym (after-append (s ∷ []) samples (plain_unlimited l (index + 1 + length samples) no_digits (at + length x.0 + length x.1 + 1 + length x.3) more))
     ∙ ap₂ (λ (k : ℕ) (q : ℕ). after (s ∷ samples) (plain_unlimited l k no_digits q more)) i p
-
-pub length-flat : (samples : List ℕ) → length (flat_map two_bytes samples) ≡ 2 * length samples
-length-flat [] = refl
-length-flat (s ∷ samples) = omega (arith, length-flat samples)
-
-words-flat : (samples : List ℕ) → words_of (flat_map two_bytes samples) ≡ samples
-words-flat [] = refl
-words-flat (s ∷ samples) = let e : 256 * (s / 256) + s % 256 ≡ s = omega arith in ap₂ (λ (x : ℕ) (xs : List ℕ). x ∷ xs) e (words-flat samples)
 
 -- samples that are ended, and then more
 front-read : (f : RasterForm) (l : Limits) (samples front : List ℕ) (index at : ℕ) (more : List ℕ) → AreEnded f samples front → index + length samples ≤ l.count → All (λ h. h ≤ l.maxval) samples
@@ -529,7 +518,7 @@ cut-read Plain l bytes at w =
 stray-read : (f : RasterForm) (l : Limits) (index at byte : ℕ) (more : List ℕ) → l.count ≤ index → IsStray f byte → rest_unlimited l index (nothing_of f) at (byte ∷ more) ≡ Err (Trailing at)
 stray-read Bytes l index at byte more full stray = cond-false _ _ _ (le-ltb index l.count full)
 stray-read Words l index at byte more full stray = cond-false _ _ _ (le-ltb index l.count full)
-stray-read Plain l index at byte more full stray = unlimited-full l index no_digits at byte more (space-isnt byte stray) full
+stray-read Plain l index at byte more full stray = unlimited-full l index no_digits at byte more (white-isnt byte stray) full
 
 pub trailing-read : (f : RasterForm) (l : Limits) (bytes : List ℕ) (at place p : ℕ) → p ≡ at + place → IsTrailingAt f l.count l.maxval bytes place → rest_unlimited l 0 (nothing_of f) at bytes ≡ Err (Trailing p)
 trailing-read f l bytes at place p e w =
@@ -571,7 +560,7 @@ bad-read l bytes at place p e w =
     ap (plain_unlimited l 0 no_digits at) w.whole ∙ plain-read l w.samples w.front 0 at (w.digits ++ w.byte ∷ w.more) w.ended (omega (arith, w.wanted)) w.bound
     ∙ ap (after w.samples) (
     digits-read l w.digits [] (0 + length w.samples) (at + length w.front) (w.byte ∷ w.more) (omega (arith, w.wanted)) w.are (omega (arith, w.short))
-    ∙ cond-false _ _ _ (space-isnt w.byte w.no_space) ∙ cond-true _ _ _ (lt-ltb (0 + length w.samples) l.count (omega (arith, w.wanted))) ∙ cond-false _ _ _ (test w.bad)
+    ∙ cond-false _ _ _ (white-isnt w.byte w.no_space) ∙ cond-true _ _ _ (lt-ltb (0 + length w.samples) l.count (omega (arith, w.wanted))) ∙ cond-false _ _ _ (test w.bad)
     )
     ∙ ap (λ (k : ℕ). err_at k) here
   where

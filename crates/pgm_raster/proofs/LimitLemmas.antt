@@ -5,17 +5,21 @@ use Rattle.std.specs.Prelude.{⊤}
 use Rattle.std.proofs.lemmas.List.{length_push}
 use Rattle.std.proofs.lemmas.List.Elements.{All-head}
 use Rattle.std.proofs.lemmas.Bool.{cases_lt, cases_eq, lt-ltb, le-ltb, eq-eqb, ne_eqb, cond-true, cond-false}
+use Rattle.text_laws.specs.Digits.{IsDigit}
+use Rattle.text_laws.specs.Blanks.{IsWhite, is_white}
+use Rattle.text_laws.proofs.TestLemmas.{by_bool}
+use Rattle.text_laws.proofs.BlankLemmas.{white-yes, white-is, digit-no_white}
 use Rattle.pgm_raster.specs.declared.fault.RasterFault.{RasterFault}
 use Rattle.pgm_raster.specs.declared.fault.RasterFault.TheVariants.{BadSample, AboveMaxval, Trailing, Truncated, TooLong}
 use Rattle.pgm_raster.specs.declared.form.RasterForm.{RasterForm}
 use Rattle.pgm_raster.specs.declared.form.RasterForm.TheVariants.{Bytes, Words, Plain}
 use Rattle.pgm_raster.specs.declared.part.Limits.{Limits}
 use Rattle.pgm_raster.specs.declared.part.Digits.{Digits}
-use Rattle.pgm_raster.specs.RasterText.{IsSpace, IsDigit, IsCutShort, IsTrailingAt, EndsThere, IsAboveAt, IsBadSampleAt}
-use Rattle.pgm_raster.specs.Progress.{most_bytes, Answer, after, sample_then, end_at, is_space, no_digits, with_digit, ended_then, plain_from, rest_of, nothing_of, raster_of}
+use Rattle.pgm_raster.specs.RasterText.{IsCutShort, IsTrailingAt, EndsThere, IsAboveAt, IsBadSampleAt}
+use Rattle.pgm_raster.specs.Progress.{most_bytes, Answer, after, sample_then, end_at, no_digits, with_digit, ended_then, plain_from, rest_of, nothing_of, raster_of}
 use Rattle.pgm_raster.specs.Laws.{IsWithin, ending, IsAboveWithin, CutRastersAreRefused, TrailingBytesAreRefused, GreatSamplesAreRefused, BadSamplesAreRefused}
 use Rattle.pgm_raster.proofs.RasterLemmas.{sample-passed, sample-refused, after-nil}
-use Rattle.pgm_raster.proofs.PlainLemmas.{by_test, space-yes, space-is, plain-space, plain-full, plain-digit, plain-bad, digit-no_space}
+use Rattle.pgm_raster.proofs.PlainLemmas.{plain-space, plain-full, plain-digit, plain-bad}
 use Rattle.pgm_raster.proofs.UnlimitedLemmas.{plain_unlimited, plain-within, plain-agrees}
 use Rattle.pgm_raster.proofs.LongLemmas.{front-cases}
 use Rattle.pgm_raster.proofs.LawLemmas.{Told, told-by, cut-read, trailing-read, above-read, bad-read, no_fewer, All-front, All-back}
@@ -63,11 +67,11 @@ plain-placed l (byte ∷ more) index digits at end room is =
           let within : at < most_bytes = omega arith in
           let next : at + 1 ≤ most_bytes = omega arith in
           let ends : end ≡ at + 1 + length more = omega (arith, is) in
-          by_test (is_space byte)
+          by_bool (is_white byte)
           (λ yes. subst (Placed end) (sym (plain-space l index digits at byte more within yes))
           (placed-ended l index end digits (λ i. plain_from l i no_digits (at + 1) more) (λ i. plain-placed l more i no_digits (at + 1) end next ends)))
           (λ no. elim (cases_lt index l.count) as (λ _. Placed end (plain_from l index digits at (byte ∷ more))) [
-            | inl wanted ↦ by_test (is_ascii_digit byte && nat_lt digits.count 9)
+            | inl wanted ↦ by_bool (is_ascii_digit byte && nat_lt digits.count 9)
                 (λ digit. subst (Placed end) (sym (plain-digit l index digits at byte more within no wanted digit)) (plain-placed l more index (with_digit digits byte) (at + 1) end next ends))
                 (λ bad. subst (Placed end) (sym (plain-bad l index digits at byte more within no wanted bad)) within)
             | inr full ↦ subst (Placed end) (sym (plain-full l index digits at byte more within no full)) within
@@ -91,7 +95,7 @@ after-refused samples (Err other) fault e = e
 abbrev Settles : Limits → ℕ → Digits → ℕ → List ℕ → ℕ → Type 0
 Settles l index digits at bytes k =
     (at + length bytes ≤ most_bytes)
-    ⊎ ((front : List ℕ) × (space : ℕ) × (rest : List ℕ) × (bytes ≡ front ++ space ∷ rest) × IsSpace space × (at + length front < most_bytes)
+    ⊎ ((front : List ℕ) × (space : ℕ) × (rest : List ℕ) × (bytes ≡ front ++ space ∷ rest) × IsWhite space × (at + length front < most_bytes)
     × ((more : List ℕ) → plain_from l index digits at (front ++ space ∷ more) ≡ Err (AboveMaxval k)))
 
 settles-step : (l : Limits) (index i : ℕ) (digits next : Digits) (at byte : ℕ) (samples more : List ℕ) (k : ℕ)
@@ -128,7 +132,7 @@ plain-settles l (byte ∷ more) index digits at k room e =
       | inr other ↦
           let within : at < most_bytes = omega arith in
           let next : at + 1 ≤ most_bytes = omega arith in
-          by_test (is_space byte)
+          by_bool (is_white byte)
           (λ yes. elim (cases_eq digits.count 0) as (λ _. Settles l index digits at (byte ∷ more) k) [
             | inl none ↦
                 let step : (m : List ℕ) → plain_from l index digits at (byte ∷ m) ≡ plain_from l index no_digits (at + 1) m =
@@ -142,7 +146,7 @@ plain-settles l (byte ∷ more) index digits at k room e =
                   | inl above ↦
                       let refused : (m : List ℕ) → plain_from l index digits at (byte ∷ m) ≡ Err (AboveMaxval index) = λ m. step m ∙ sample-refused l index digits.value _ above in
                       let same : index ≡ k = above-same index k (sym (refused more) ∙ e) in
-                      inr ([], byte, more, refl, space-yes byte yes, omega (arith, within), λ m. refused m ∙ ap (λ (i : ℕ). let r : Answer = Err (AboveMaxval i) in r) same)
+                      inr ([], byte, more, refl, white-yes byte yes, omega (arith, within), λ m. refused m ∙ ap (λ (i : ℕ). let r : Answer = Err (AboveMaxval i) in r) same)
                   | inr fits ↦
                       let passed : (m : List ℕ) → plain_from l index digits at (byte ∷ m) ≡ after (digits.value ∷ []) (plain_from l (index + 1) no_digits (at + 1) m) = λ m. step m ∙ sample-passed l index digits.value _ fits in
                       settles-step l index (index + 1) digits no_digits at byte (digits.value ∷ []) more k passed
@@ -150,7 +154,7 @@ plain-settles l (byte ∷ more) index digits at k room e =
                 ]
           ])
           (λ no. elim (cases_lt index l.count) as (λ _. Settles l index digits at (byte ∷ more) k) [
-            | inl wanted ↦ by_test (is_ascii_digit byte && nat_lt digits.count 9)
+            | inl wanted ↦ by_bool (is_ascii_digit byte && nat_lt digits.count 9)
                 (λ digit.
                 let step : (m : List ℕ) → plain_from l index digits at (byte ∷ m) ≡ plain_from l index (with_digit digits byte) (at + 1) m = λ m. plain-digit l index digits at byte m within no wanted digit in
                 settles-step l index index digits (with_digit digits byte) at byte [] more k (λ m. step m ∙ sym (after-nil (plain_from l index (with_digit digits byte) (at + 1) m)))
@@ -161,10 +165,10 @@ plain-settles l (byte ∷ more) index digits at k room e =
     ]
 
 -- digits that end with whitespace are none
-digits-end : (front text before : List ℕ) (space : ℕ) → All IsDigit text → 1 ≤ length text → IsSpace space → before ++ space ∷ [] ≡ front ++ text → ⊥
+digits-end : (front text before : List ℕ) (space : ℕ) → All IsDigit text → 1 ≤ length text → IsWhite space → before ++ space ∷ [] ≡ front ++ text → ⊥
 digits-end [] text before space are some is whole =
     let digit : IsDigit space = All-head IsDigit space [] (All-back IsDigit before (space ∷ []) (subst (All IsDigit) (sym whole) are)) in
-    let e : true ≡ false = sym (space-is space is) ∙ digit-no_space space digit in cc
+    let e : true ≡ false = sym (white-is space is) ∙ digit-no_white space digit in cc
 digits-end (byte ∷ front) text [] space are some is whole =
     let size : 1 ≡ suc (length (front ++ text)) = ap length whole in omega (arith, size, length-append front text)
 digits-end (byte ∷ front) text (other ∷ before) space are some is whole =
@@ -174,7 +178,7 @@ digits-end (byte ∷ front) text (other ∷ before) space are some is whole =
     same-rest xs ys x y e = cc
 
 -- the bytes that follow change nothing
-above-longer : (count maxval at index : ℕ) (front : List ℕ) (space : ℕ) (rest bytes : List ℕ) → bytes ≡ front ++ space ∷ rest → IsSpace space → at + length front < most_bytes
+above-longer : (count maxval at index : ℕ) (front : List ℕ) (space : ℕ) (rest bytes : List ℕ) → bytes ≡ front ++ space ∷ rest → IsWhite space → at + length front < most_bytes
     → IsAboveAt Plain count maxval (front ++ space ∷ []) index → IsAboveWithin Plain count maxval at bytes index
 above-longer count maxval at index front space rest bytes whole is within a = by-more a.more refl
   where
@@ -302,13 +306,13 @@ above-within l at index bytes w = by-more w.above.more refl
         let fits : at + length w.above.front + length w.above.text + 1 ≤ most_bytes = subst (λ (m : List ℕ). at + length w.above.front + length w.above.text + ending m ≤ most_bytes) more w.within in
         let size : length text ≡ length w.above.front + length w.above.text = length-append w.above.front w.above.text in
         let within : at + length text < most_bytes = omega (arith, size, fits) in
-        let space : IsSpace byte = subst (EndsThere Plain) more w.above.ends in
+        let space : IsWhite byte = subst (EndsThere Plain) more w.above.ends in
         let cut : bytes ≡ text ++ byte ∷ m = whole ∙ ap (λ (s : List ℕ). text ++ s) more in
         elim (front-cases l text 0 no_digits at (omega (arith, within))) as (λ _. plain_from l 0 no_digits at bytes ≡ Err (AboveMaxval index)) [
           | inl f ↦ settled-same l at bytes f.0 (AboveMaxval index) f.1 (ap (plain_from l 0 no_digits at) cut ∙ f.2 (byte ∷ m)) free
           | inr f ↦
               let step : (s : List ℕ) → plain_from l 0 no_digits at (text ++ byte ∷ s) ≡ after f.0 (ended_then l f.1 f.2 (λ i. plain_from l i no_digits (at + length text + 1) s)) =
-              λ s. f.3 (byte ∷ s) ∙ ap (after f.0) (plain-space l f.1 f.2 (at + length text) byte s within (space-is byte space)) in
+              λ s. f.3 (byte ∷ s) ∙ ap (after f.0) (plain-space l f.1 f.2 (at + length text) byte s within (white-is byte space)) in
               let short : IsAboveAt Plain l.count l.maxval (text ++ byte ∷ []) index = record {
                 samples = w.above.samples;
                 front = w.above.front;

@@ -3,15 +3,17 @@ use Rattle.std.proofs.Common.{◌≡◌, ℕ, suc, ◌+◌, ◌-◌, ◌*◌, �
 use Rattle.std.specs.Char.{is_ascii_digit}
 use Rattle.std.specs.Prelude.{⊤}
 use Rattle.std.proofs.lemmas.Bool.{cases_lt, cases_eq, lt-ltb, le-ltb, eq-eqb, ne_eqb, cond-true, cond-false}
+use Rattle.text_laws.specs.Blanks.{is_white}
+use Rattle.text_laws.proofs.TestLemmas.{by_bool}
 use Rattle.pgm_raster.specs.declared.fault.RasterFault.{RasterFault}
 use Rattle.pgm_raster.specs.declared.fault.RasterFault.TheVariants.{BadSample, AboveMaxval, Trailing, TooLong}
 use Rattle.pgm_raster.specs.declared.form.RasterForm.TheVariants.{Bytes, Words, Plain}
 use Rattle.pgm_raster.specs.declared.part.Limits.{Limits}
 use Rattle.pgm_raster.specs.declared.part.Digits.{Digits}
-use Rattle.pgm_raster.specs.Progress.{most_bytes, Answer, after, sample_then, end_at, bytes_from, words_from, is_space, no_digits, with_digit, ended_then, plain_from, raster_of}
+use Rattle.pgm_raster.specs.Progress.{most_bytes, Answer, after, sample_then, end_at, bytes_from, words_from, no_digits, with_digit, ended_then, plain_from, raster_of}
 use Rattle.pgm_raster.specs.Laws.{ReadRastersAreShort, LongRastersAreRefused}
 use Rattle.pgm_raster.proofs.RasterLemmas.{after-append, after-nil, sample-passed, sample-refused}
-use Rattle.pgm_raster.proofs.PlainLemmas.{by_test, plain-space, plain-full, plain-digit, plain-bad, plain-long}
+use Rattle.pgm_raster.proofs.PlainLemmas.{plain-space, plain-full, plain-digit, plain-bad, plain-long}
 use Rattle.pgm_raster.proofs.UnlimitedLemmas.{plain_unlimited, plain-within}
 use Rattle.pgm_raster.proofs.OpenLemmas.{plain-open}
 
@@ -71,10 +73,10 @@ ended-short l index digits rest w =
 unlimited-short : (l : Limits) (bytes : List ℕ) (index : ℕ) (digits : Digits) (at : ℕ) → IsShort (plain_unlimited l index digits at bytes)
 unlimited-short l [] index digits at = ended-short l index digits (λ i. end_at l i) (λ i. short-end l i)
 unlimited-short l (byte ∷ more) index digits at =
-    by_test (is_space byte)
+    by_bool (is_white byte)
     (λ yes. subst IsShort (sym (cond-true _ _ _ yes)) (ended-short l index digits (λ i. plain_unlimited l i no_digits (at + 1) more) (λ i. unlimited-short l more i no_digits (at + 1))))
-    (λ no. subst IsShort (sym (cond-false _ _ _ no)) (by_test (nat_lt index l.count)
-    (λ wanted. subst IsShort (sym (cond-true _ _ _ wanted)) (by_test (is_ascii_digit byte && nat_lt digits.count 9)
+    (λ no. subst IsShort (sym (cond-false _ _ _ no)) (by_bool (nat_lt index l.count)
+    (λ wanted. subst IsShort (sym (cond-true _ _ _ wanted)) (by_bool (is_ascii_digit byte && nat_lt digits.count 9)
     (λ digit. subst IsShort (sym (cond-true _ _ _ digit)) (unlimited-short l more index (with_digit digits byte) (at + 1)))
     (λ bad. subst IsShort (sym (cond-false _ _ _ bad)) tt)))
     (λ full. subst IsShort (sym (cond-false _ _ _ full)) tt)))
@@ -112,7 +114,7 @@ front-cases l [] index digits at room =
 front-cases l (byte ∷ front) index digits at room =
     let within : at < most_bytes = omega arith in
     let next_room : at + 1 + length front ≤ most_bytes = omega arith in
-    by_test (is_space byte)
+    by_bool (is_white byte)
     (λ yes. elim (cases_eq digits.count 0) as (λ _. Front l index digits at (byte ∷ front)) [
       | inl none ↦ front-none l index index digits no_digits at byte front (λ more. plain-space l index digits at byte more within yes ∙ cond-true _ _ _ (eq-eqb digits.count 0 none)) (front-cases l front index no_digits (at + 1) next_room)
       | inr some ↦ elim (cases_lt l.maxval digits.value) as (λ _. Front l index digits at (byte ∷ front)) [
@@ -121,13 +123,13 @@ front-cases l (byte ∷ front) index digits at room =
       ]
     ])
     (λ no. elim (cases_lt index l.count) as (λ _. Front l index digits at (byte ∷ front)) [
-      | inl less ↦ by_test (is_ascii_digit byte && nat_lt digits.count 9)
+      | inl less ↦ by_bool (is_ascii_digit byte && nat_lt digits.count 9)
           (λ digit. front-none l index index digits (with_digit digits byte) at byte front (λ more. plain-digit l index digits at byte more within no less digit) (front-cases l front index (with_digit digits byte) (at + 1) next_room))
           (λ bad. inl (BadSample at, λ e. absurd (cc), λ more. plain-bad l index digits at byte (front ++ more) within no less bad))
       | inr full ↦ inl (Trailing at, λ e. absurd (cc), λ more. plain-full l index digits at byte (front ++ more) within no full)
     ])
   where
-    sample : at < most_bytes → is_space byte ≡ true → (digits.count ≡ 0 → ⊥) → (more : List ℕ) → plain_from l index digits at (byte ∷ more) ≡ sample_then l index digits.value (plain_from l (index + 1) no_digits (at + 1) more)
+    sample : at < most_bytes → is_white byte ≡ true → (digits.count ≡ 0 → ⊥) → (more : List ℕ) → plain_from l index digits at (byte ∷ more) ≡ sample_then l index digits.value (plain_from l (index + 1) no_digits (at + 1) more)
     sample within space some more = plain-space l index digits at byte more within space ∙ cond-false _ _ _ (ne_eqb digits.count 0 some)
 
 -- ---- bytes that go beyond the limit

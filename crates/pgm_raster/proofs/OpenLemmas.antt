@@ -4,6 +4,7 @@ use Rattle.std.proofs.lemmas.List.{length-replicate}
 use Rattle.std.proofs.lemmas.Bool.{cases_lt, cases_eq, lt-ltb, le-ltb, eq-eqb, ne_eqb, cond-true, cond-false}
 use Rattle.std.proofs.lemmas.List.Elements.{All-replicate}
 use Rattle.std.specs.Prelude.{⊤}
+use Rattle.text_laws.proofs.WordLemmas.{length-flat}
 use Rattle.pgm_raster.specs.declared.fault.RasterFault.{RasterFault}
 use Rattle.pgm_raster.specs.declared.fault.RasterFault.TheVariants.{BadSample, AboveMaxval, Trailing, Truncated, TooLong}
 use Rattle.pgm_raster.specs.declared.form.RasterForm.TheVariants.{Bytes, Words}
@@ -16,7 +17,7 @@ use Rattle.pgm_raster.specs.Progress.{most_bytes, Answer, after, sample_then, en
 use Rattle.pgm_raster.specs.Stage.{IsPart, IsPlace}
 use Rattle.pgm_raster.proofs.RasterLemmas.{sample-passed, sample-refused}
 use Rattle.pgm_raster.proofs.PlainLemmas.{plain-full, plain-bad, plain-long}
-use Rattle.pgm_raster.proofs.LawLemmas.{Told, bytes-told, words-told, length-flat}
+use Rattle.pgm_raster.proofs.LawLemmas.{Told, bytes-told, words-told}
 
 -- a refusal behind samples is one of the rest
 pub after-err : (samples : List ℕ) (r : Answer) (f : RasterFault) → after samples r ≡ Err f → r ≡ Err f

@@ -4,16 +4,21 @@ use Rattle.std.specs.Char.{is_ascii_digit}
 use Rattle.std.proofs.lemmas.List.{length_push}
 use Rattle.std.proofs.lemmas.List.Elements.{All-nil, All-cons, All-append, All-push}
 use Rattle.std.proofs.lemmas.Bool.{cases_lt, lt-ltb, le-ltb, ne_eqb, cond-true, cond-false}
+use Rattle.text_laws.specs.Digits.{IsDigit, value_of}
+use Rattle.text_laws.specs.Blanks.{IsWhite, is_white}
+use Rattle.text_laws.proofs.TestLemmas.{by_bool}
+use Rattle.text_laws.proofs.DigitLemmas.{digit-yes}
+use Rattle.text_laws.proofs.BlankLemmas.{white-yes}
 use Rattle.pgm_raster.specs.declared.fault.RasterFault.{RasterFault}
 use Rattle.pgm_raster.specs.declared.fault.RasterFault.TheVariants.{BadSample, AboveMaxval, Trailing, TooLong}
 use Rattle.pgm_raster.specs.declared.form.RasterForm.TheVariants.{Plain}
 use Rattle.pgm_raster.specs.declared.part.Limits.{Limits}
 use Rattle.pgm_raster.specs.declared.part.Digits.{Digits}
-use Rattle.pgm_raster.specs.RasterText.{IsSpace, IsDigit, value_of, AreEndedTexts, IsOpen}
-use Rattle.pgm_raster.specs.Progress.{most_bytes, after, sample_then, is_space, no_digits, plain_from, raster_of}
+use Rattle.pgm_raster.specs.RasterText.{AreEndedTexts, IsOpen}
+use Rattle.pgm_raster.specs.Progress.{most_bytes, after, sample_then, no_digits, plain_from, raster_of}
 use Rattle.pgm_raster.specs.Laws.{OpenRastersAreUnrefused}
 use Rattle.pgm_raster.proofs.RasterLemmas.{sample-passed, sample-refused}
-use Rattle.pgm_raster.proofs.PlainLemmas.{by_test, space-yes, digit-yes, plain-space, plain-full, plain-digit, plain-bad}
+use Rattle.pgm_raster.proofs.PlainLemmas.{plain-space, plain-full, plain-digit, plain-bad}
 use Rattle.pgm_raster.proofs.UnlimitedLemmas.{plain_unlimited, plain-within, agreed}
 use Rattle.pgm_raster.proofs.LawLemmas.{ended_texts-append, digits_of, digits-push, plain-read, digits-read}
 use Rattle.pgm_raster.proofs.OpenLemmas.{IsEndFault, after-err, same_fault, digits-end}
@@ -41,12 +46,12 @@ OpenOr l index at text bytes =
     ((fault : RasterFault) × ((more : List ℕ) → plain_from l index (digits_of text) at (bytes ++ more) ≡ Err fault)) ⊎ IsOpen (l.count - index) l.maxval (text ++ bytes)
 
 -- whitespace behind no digits, and behind some
-space-none : (l : Limits) (index at byte : ℕ) (bytes : List ℕ) → at < most_bytes → is_space byte ≡ true → OpenOr l index (at + 1) [] bytes → OpenOr l index at [] (byte ∷ bytes)
+space-none : (l : Limits) (index at byte : ℕ) (bytes : List ℕ) → at < most_bytes → is_white byte ≡ true → OpenOr l index (at + 1) [] bytes → OpenOr l index at [] (byte ∷ bytes)
 space-none l index at byte bytes within space (inl w) = inl (w.0, λ more. plain-space l index no_digits at byte (bytes ++ more) within space ∙ w.1 more)
 space-none l index at byte bytes within space (inr w) =
-    inr (open-more (l.count - index) (l.count - index) l.maxval [] (byte ∷ []) bytes (All-cons IsSpace byte [] (space-yes byte space) (All-nil IsSpace)) (All-nil (λ h. h ≤ l.maxval)) (omega arith) w)
+    inr (open-more (l.count - index) (l.count - index) l.maxval [] (byte ∷ []) bytes (All-cons IsWhite byte [] (white-yes byte space) (All-nil IsWhite)) (All-nil (λ h. h ≤ l.maxval)) (omega arith) w)
 
-space-some : (l : Limits) (index at byte : ℕ) (text bytes : List ℕ) → at < most_bytes → is_space byte ≡ true → 0 < length text → length text ≤ 9 → All IsDigit text → index < l.count → OpenOr l (index + 1) (at + 1) [] bytes
+space-some : (l : Limits) (index at byte : ℕ) (text bytes : List ℕ) → at < most_bytes → is_white byte ≡ true → 0 < length text → length text ≤ 9 → All IsDigit text → index < l.count → OpenOr l (index + 1) (at + 1) [] bytes
     → OpenOr l index at text (byte ∷ bytes)
 space-some l index at byte text bytes within space some short are wanted again =
     elim (cases_lt l.maxval (value_of text)) as (λ _. OpenOr l index at text (byte ∷ bytes)) [
@@ -59,12 +64,12 @@ space-some l index at byte text bytes within space some short are wanted again =
     ]
   where
     one : AreEndedTexts (value_of text ∷ []) (text ++ byte ∷ [])
-    one = ([], text, byte, [], refl, All-nil IsSpace, record { some = some; short = short; digits = are; value = refl }, space-yes byte space, All-nil IsSpace)
+    one = ([], text, byte, [], refl, All-nil IsWhite, record { some = some; short = short; digits = are; value = refl }, white-yes byte space, All-nil IsWhite)
 
     sample : (more : List ℕ) → plain_from l index (digits_of text) at (byte ∷ (bytes ++ more)) ≡ sample_then l index (value_of text) (plain_from l (index + 1) no_digits (at + 1) (bytes ++ more))
     sample more = plain-space l index (digits_of text) at byte (bytes ++ more) within space ∙ cond-false _ _ _ (ne_eqb (length text) 0 (λ e. omega arith))
 
-space-open : (l : Limits) (index at byte : ℕ) (text bytes : List ℕ) → at < most_bytes → is_space byte ≡ true → length text ≤ 9 → All IsDigit text → (0 < length text → index < l.count)
+space-open : (l : Limits) (index at byte : ℕ) (text bytes : List ℕ) → at < most_bytes → is_white byte ≡ true → length text ≤ 9 → All IsDigit text → (0 < length text → index < l.count)
     → OpenOr l index (at + 1) [] bytes → (index < l.count → OpenOr l (index + 1) (at + 1) [] bytes) → OpenOr l index at text (byte ∷ bytes)
 space-open l index at byte [] bytes within space short are wanted same next = space-none l index at byte bytes within space same
 space-open l index at byte (digit ∷ text) bytes within space short are wanted same next =
@@ -72,7 +77,7 @@ space-open l index at byte (digit ∷ text) bytes within space short are wanted 
     space-some l index at byte (digit ∷ text) bytes within space (omega arith) short are less (next less)
 
 -- one more digit
-digit-open : (l : Limits) (index at byte : ℕ) (text bytes : List ℕ) → at < most_bytes → is_space byte ≡ false → index < l.count → (is_ascii_digit byte && nat_lt (length text) 9) ≡ true
+digit-open : (l : Limits) (index at byte : ℕ) (text bytes : List ℕ) → at < most_bytes → is_white byte ≡ false → index < l.count → (is_ascii_digit byte && nat_lt (length text) 9) ≡ true
     → OpenOr l index (at + 1) (text ++ byte ∷ []) bytes → OpenOr l index at text (byte ∷ bytes)
 digit-open l index at byte text bytes within space wanted digit (inl w) =
     inl (w.0, λ more. plain-digit l index (digits_of text) at byte (bytes ++ more) within space wanted digit ∙ ap (λ (d : Digits). plain_from l index d (at + 1) (bytes ++ more)) (digits-push text byte) ∙ w.1 more)
@@ -80,7 +85,7 @@ digit-open l index at byte text bytes within space wanted digit (inr w) = inr (s
 
 digit-both : (byte n : ℕ) → (is_ascii_digit byte && nat_lt n 9) ≡ true → IsDigit byte × (n < 9)
 digit-both byte n h =
-    by_test (is_ascii_digit byte)
+    by_bool (is_ascii_digit byte)
     (λ digit. elim (cases_lt n 9) as (λ _. IsDigit byte × (n < 9)) [
       | inl fewer ↦ (digit-yes byte digit, fewer)
       | inr nine ↦ absurd (let bad : true ≡ false = sym h ∙ ap₂ (λ (a : _) (b : _). a && b) digit (le-ltb n 9 nine) in cc)
@@ -93,7 +98,7 @@ open-or l [] index at text room are short wanted place = inr (record {
   front = [];
   digits = text;
   whole = append-nil text;
-  ended = All-nil IsSpace;
+  ended = All-nil IsWhite;
   short = short;
   are = are;
   bound = All-nil (λ h. h ≤ l.maxval);
@@ -103,12 +108,12 @@ open-or l [] index at text room are short wanted place = inr (record {
 open-or l (byte ∷ bytes) index at text room are short wanted place =
     let within : at < most_bytes = omega arith in
     let next_place : at + 1 + length bytes ≤ most_bytes = omega arith in
-    by_test (is_space byte)
+    by_bool (is_white byte)
     (λ space. space-open l index at byte text bytes within space short are wanted
     (open-or l bytes index (at + 1) [] room (All-nil IsDigit) (omega arith) (λ some. absurd (omega arith)) next_place)
     (λ less. open-or l bytes (index + 1) (at + 1) [] (omega arith) (All-nil IsDigit) (omega arith) (λ some. absurd (omega arith)) next_place))
     (λ other. elim (cases_lt index l.count) as (λ _. OpenOr l index at text (byte ∷ bytes)) [
-      | inl less ↦ by_test (is_ascii_digit byte && nat_lt (length text) 9)
+      | inl less ↦ by_bool (is_ascii_digit byte && nat_lt (length text) 9)
           (λ digit. let both = digit-both byte (length text) digit in
           digit-open l index at byte text bytes within other less digit
           (open-or l bytes index (at + 1) (text ++ byte ∷ []) room (All-push IsDigit text byte are both.0) (omega (arith, length_push text byte, both.1)) (λ _. less) next_place))

@@ -3,7 +3,8 @@ use Rattle.std.proofs.Common.{◌≡◌, ℕ, zero, suc, ◌+◌, ◌*◌, ◌<�
 use Rattle.std.proofs.lemmas.List.{drop_all}
 use Rattle.std.proofs.lemmas.Bool.{lt-ltb, le-ltb, cond-true, cond-false}
 use Rattle.std.proofs.lemmas.List.Elements.{All-head, All-tail}
-use Rattle.roam_lanes.specs.Words.{words_of}
+use Rattle.text_laws.specs.Words.{words_of}
+use Rattle.text_laws.proofs.WordLemmas.{words-append}
 use Rattle.pgm_raster.specs.declared.fault.RasterFault.{RasterFault}
 use Rattle.pgm_raster.specs.declared.fault.RasterFault.TheVariants.{AboveMaxval, Trailing}
 use Rattle.pgm_raster.specs.declared.part.Limits.{Limits}
@@ -80,20 +81,6 @@ chunk-refused l old xs ys all fault e step rest =
     ap (λ (s : List ℕ). after old (samples_then l (length old) s rest)) e
     ∙ ap (after old) (samples-append l (length old) xs ys rest)
     ∙ step (samples_then l (length old + length xs) ys rest)
-
--- the samples of whole pairs of bytes and of what follows
-pub words-append : (xs ys : List ℕ) (k : ℕ) → length xs ≡ 2 * k → words_of (xs ++ ys) ≡ words_of xs ++ words_of ys
-words-append [] ys k e = refl
-words-append (high ∷ []) ys k e = absurd (omega arith)
-words-append (high ∷ low ∷ xs) ys zero e = absurd (omega arith)
-words-append (high ∷ low ∷ xs) ys (suc k) e = ap (λ (ws : List ℕ). (256 * high + low) ∷ ws) (words-append xs ys k (omega arith))
-
--- pairs of bytes have half as many samples
-pub length-words : (bytes : List ℕ) (k : ℕ) → length bytes ≡ 2 * k → length (words_of bytes) ≡ k
-length-words [] k e = omega arith
-length-words (high ∷ []) k e = absurd (omega arith)
-length-words (high ∷ low ∷ bytes) zero e = absurd (omega arith)
-length-words (high ∷ low ∷ bytes) (suc k) e = ap suc (length-words bytes k (omega arith))
 
 -- a list and its two parts
 pub parts : (left front back : List ℕ) (n : ℕ) → front ≡ take n left → back ≡ drop n left → left ≡ front ++ back

@@ -2,6 +2,7 @@
 use Rattle.std.proofs.Common.{◌≡◌, ℕ, ◌+◌, ◌^◌, ◌<◌, ◌≤◌, ◌⊎◌, inl, inr, Bool, true, false, ◌&&◌, nat_eq, nat_lt, cond, List, [], ◌∷◌, length, Err, refl, sym, ap, ap₂, ◌∙◌, subst, arith}
 use Rattle.std.specs.Char.{is_ascii_digit}
 use Rattle.std.proofs.lemmas.Bool.{cases_lt, cases_eq, lt-ltb, le-ltb, eq-eqb, ne_eqb, cond-true, cond-false, and_from}
+use Rattle.text_laws.specs.Blanks.{is_white}
 use Rattle.pgm_raster.specs.declared.fault.RasterFault.TheVariants.{BadSample, Trailing, TooLong}
 use Rattle.pgm_raster.specs.declared.form.RasterForm.{RasterForm}
 use Rattle.pgm_raster.specs.declared.form.RasterForm.TheVariants.{Bytes, Words, Plain}
@@ -9,14 +10,14 @@ use Rattle.pgm_raster.specs.declared.part.Limits.{Limits}
 use Rattle.pgm_raster.specs.declared.part.Digits.{Digits}
 use Rattle.pgm_raster.specs.declared.part.Part.{Part}
 use Rattle.pgm_raster.specs.declared.part.Part.TheVariants as part
-use Rattle.pgm_raster.specs.Progress.{most_bytes, Answer, after, sample_then, end_at, bytes_from, words_from, is_space, no_digits, with_digit, ended_then, plain_from, rest_of, nothing_of}
+use Rattle.pgm_raster.specs.Progress.{most_bytes, Answer, after, sample_then, end_at, bytes_from, words_from, no_digits, with_digit, ended_then, plain_from, rest_of, nothing_of}
 use Rattle.pgm_raster.proofs.RasterLemmas.{sample-passed, sample-refused}
 
 -- the bytes of a plain raster, with no limit on their number
 abbrev pub plain_unlimited : Limits → ℕ → Digits → ℕ → List ℕ → Answer
 plain_unlimited l index digits at [] = ended_then l index digits (λ i. end_at l i)
 plain_unlimited l index digits at (byte ∷ more) =
-    cond (is_space byte) (ended_then l index digits (λ i. plain_unlimited l i no_digits (at + 1) more))
+    cond (is_white byte) (ended_then l index digits (λ i. plain_unlimited l i no_digits (at + 1) more))
     (cond (nat_lt index l.count)
     (cond (is_ascii_digit byte && nat_lt digits.count 9) (plain_unlimited l index (with_digit digits byte) (at + 1) more) (Err (BadSample at)))
     (Err (Trailing at)))
@@ -27,13 +28,13 @@ rest_unlimited l index part.Bytes at more = bytes_from l index at more
 rest_unlimited l index (part.Words high) at more = words_from l index high at more
 rest_unlimited l index (part.Plain digits) at more = plain_unlimited l index digits at more
 
-pub unlimited-space : (l : Limits) (index : ℕ) (digits : Digits) (at byte : ℕ) (more : List ℕ) → is_space byte ≡ true → plain_unlimited l index digits at (byte ∷ more) ≡ ended_then l index digits (λ i. plain_unlimited l i no_digits (at + 1) more)
+pub unlimited-space : (l : Limits) (index : ℕ) (digits : Digits) (at byte : ℕ) (more : List ℕ) → is_white byte ≡ true → plain_unlimited l index digits at (byte ∷ more) ≡ ended_then l index digits (λ i. plain_unlimited l i no_digits (at + 1) more)
 unlimited-space l index digits at byte more space = cond-true _ _ _ space
 
-pub unlimited-full : (l : Limits) (index : ℕ) (digits : Digits) (at byte : ℕ) (more : List ℕ) → is_space byte ≡ false → l.count ≤ index → plain_unlimited l index digits at (byte ∷ more) ≡ Err (Trailing at)
+pub unlimited-full : (l : Limits) (index : ℕ) (digits : Digits) (at byte : ℕ) (more : List ℕ) → is_white byte ≡ false → l.count ≤ index → plain_unlimited l index digits at (byte ∷ more) ≡ Err (Trailing at)
 unlimited-full l index digits at byte more space full = cond-false _ _ _ space ∙ cond-false _ _ _ (le-ltb index l.count full)
 
-pub unlimited-digit : (l : Limits) (index : ℕ) (digits : Digits) (at byte : ℕ) (more : List ℕ) → is_space byte ≡ false → index < l.count → is_ascii_digit byte ≡ true → digits.count < 9 → plain_unlimited l index digits at (byte ∷ more) ≡ plain_unlimited l index (with_digit digits byte) (at + 1) more
+pub unlimited-digit : (l : Limits) (index : ℕ) (digits : Digits) (at byte : ℕ) (more : List ℕ) → is_white byte ≡ false → index < l.count → is_ascii_digit byte ≡ true → digits.count < 9 → plain_unlimited l index digits at (byte ∷ more) ≡ plain_unlimited l index (with_digit digits byte) (at + 1) more
 unlimited-digit l index digits at byte more space wanted digit short =
     cond-false _ _ _ space ∙ cond-true _ _ _ (lt-ltb index l.count wanted) ∙ cond-true _ _ _ (and_from _ _ digit (lt-ltb digits.count 9 short))
 
@@ -44,10 +45,10 @@ pub plain-within : (l : Limits) (bytes : List ℕ) (index : ℕ) (digits : Digit
 plain-within l [] index digits at within = refl
 plain-within l (byte ∷ more) index digits at within =
     cond-false _ _ _ (ne_eqb at most_bytes (λ e. omega arith))
-    ∙ ap₂ (λ (x : Answer) (y : Answer). cond (is_space byte) (cond (nat_eq digits.count 0) x (sample_then l index digits.value y))
+    ∙ ap₂ (λ (x : Answer) (y : Answer). cond (is_white byte) (cond (nat_eq digits.count 0) x (sample_then l index digits.value y))
     (cond (nat_lt index l.count) (cond (is_ascii_digit byte && nat_lt digits.count 9) (plain_from l index (with_digit digits byte) (at + 1) more) (Err (BadSample at))) (Err (Trailing at))))
     (plain-within l more index no_digits (at + 1) (omega arith)) (plain-within l more (index + 1) no_digits (at + 1) (omega arith))
-    ∙ ap (λ (x : Answer). cond (is_space byte) (ended_then l index digits (λ i. plain_unlimited l i no_digits (at + 1) more))
+    ∙ ap (λ (x : Answer). cond (is_white byte) (ended_then l index digits (λ i. plain_unlimited l i no_digits (at + 1) more))
     (cond (nat_lt index l.count) (cond (is_ascii_digit byte && nat_lt digits.count 9) x (Err (BadSample at))) (Err (Trailing at))))
     (plain-within l more index (with_digit digits byte) (at + 1) (omega arith))
 
@@ -95,7 +96,7 @@ plain-agrees l (byte ∷ more) index digits at =
     elim (cases_eq at most_bytes) as (λ _. Agrees (plain_from l index digits at (byte ∷ more)) (plain_unlimited l index digits at (byte ∷ more))) [
       | inl here ↦ inl (cond-true _ _ _ (eq-eqb at most_bytes here))
       | inr other ↦ agrees-by _ _ _ _ (cond-false _ _ _ (ne_eqb at most_bytes other)) refl
-          (agrees-cond (is_space byte) _ _ _ _ (agrees-ended l index digits _ _ (λ i. plain-agrees l more i no_digits (at + 1)))
+          (agrees-cond (is_white byte) _ _ _ _ (agrees-ended l index digits _ _ (λ i. plain-agrees l more i no_digits (at + 1)))
           (agrees-cond (nat_lt index l.count) _ _ _ _ (agrees-cond (is_ascii_digit byte && nat_lt digits.count 9) _ _ _ _ (plain-agrees l more index (with_digit digits byte) (at + 1)) (inr refl)) (inr refl)))
     ]
 

@@ -3,14 +3,15 @@ use Rattle.std.proofs.Common.{◌≡◌, ℕ, ◌+◌, ◌*◌, ◌<◌, ◌≤�
 use Rattle.std.specs.Char.{is_ascii_digit}
 use Rattle.std.proofs.lemmas.Bool.{cases_lt, cases_eq, lt-ltb, le-ltb, eq-eqb, ne_eqb, cond-true, cond-false}
 use Rattle.std.proofs.lemmas.List.Elements.{All-nil, All-cons}
+use Rattle.text_laws.specs.Blanks.{is_white}
+use Rattle.text_laws.proofs.TestLemmas.{by_bool}
 use Rattle.pgm_raster.specs.declared.form.RasterForm.{RasterForm}
 use Rattle.pgm_raster.specs.declared.form.RasterForm.TheVariants.{Bytes, Words, Plain}
 use Rattle.pgm_raster.specs.declared.part.Limits.{Limits}
 use Rattle.pgm_raster.specs.declared.part.Digits.{Digits}
-use Rattle.pgm_raster.specs.Progress.{Answer, after, sample_then, end_at, bytes_from, words_from, is_space, no_digits, with_digit, ended_then, nothing_of, raster_of}
+use Rattle.pgm_raster.specs.Progress.{Answer, after, sample_then, end_at, bytes_from, words_from, no_digits, with_digit, ended_then, nothing_of, raster_of}
 use Rattle.pgm_raster.specs.Laws.{OnlyWantedSamplesAreRead}
 use Rattle.pgm_raster.proofs.RasterLemmas.{sample-passed, sample-refused}
-use Rattle.pgm_raster.proofs.PlainLemmas.{by_test}
 use Rattle.pgm_raster.proofs.UnlimitedLemmas.{plain_unlimited, rest_unlimited, agreed}
 
 -- the samples that are wanted behind so many
@@ -72,10 +73,10 @@ wanted-ended l index digits rest room wanted again =
 plain-wanted : (l : Limits) (bytes : List ℕ) (index : ℕ) (digits : Digits) (at : ℕ) → index ≤ l.count → (0 < digits.count → index < l.count) → Wanted l index (plain_unlimited l index digits at bytes)
 plain-wanted l [] index digits at room wanted = wanted-ended l index digits (λ i. end_at l i) room wanted (wanted-end l)
 plain-wanted l (byte ∷ more) index digits at room wanted =
-    by_test (is_space byte)
+    by_bool (is_white byte)
     (λ space. subst (Wanted l index) (sym (cond-true _ _ _ space)) (wanted-ended l index digits (λ i. plain_unlimited l i no_digits (at + 1) more) room wanted (λ i within. plain-wanted l more i no_digits (at + 1) within (λ some. absurd (omega arith)))))
     (λ other. elim (cases_lt index l.count) as (λ _. Wanted l index (plain_unlimited l index digits at (byte ∷ more))) [
-      | inl less ↦ by_test (is_ascii_digit byte && nat_lt digits.count 9)
+      | inl less ↦ by_bool (is_ascii_digit byte && nat_lt digits.count 9)
           (λ digit. subst (Wanted l index) (sym (cond-false _ _ _ other ∙ cond-true _ _ _ (lt-ltb index l.count less) ∙ cond-true _ _ _ digit)) (plain-wanted l more index (with_digit digits byte) (at + 1) room (λ _. less)))
           (λ bad. subst (Wanted l index) (sym (cond-false _ _ _ other ∙ cond-true _ _ _ (lt-ltb index l.count less) ∙ cond-false _ _ _ bad)) tt)
       | inr full ↦ subst (Wanted l index) (sym (cond-false _ _ _ other ∙ cond-false _ _ _ (le-ltb index l.count full))) tt

@@ -1,11 +1,13 @@
 -- What further bytes of a raster mean, read byte by byte: the samples, or the first refusal. The laws of
 -- `Laws` say in the format's own words what these answers are.
 --
--- Words: most_bytes, Answer, after, sample_then, samples_then, end_at, bytes_from, words_from, is_space,
+-- Words: most_bytes, Answer, after, sample_then, samples_then, end_at, bytes_from, words_from,
 -- no_digits, with_digit, ended_then, plain_from, rest_of, reads, nothing_of, raster_of, Progress, resume,
 -- next_place, refusal_of, IsSettled.
 use Rattle.std.specs.Prelude.{◌≡◌, ℕ, ◌+◌, ◌-◌, ◌*◌, Bool, ◌&&◌, ◌||◌, cond, List, [], ◌∷◌, ◌++◌, length, Option, Some, None, Result, Ok, Err, nat_eq, nat_lt}
 use Rattle.std.specs.Char.{is_ascii_digit}
+use Rattle.pgm_raster.specs.declared.plain.TheConstants.{MOST_BYTES}
+use Rattle.text_laws.specs.Blanks.{is_white}
 use Rattle.pgm_raster.specs.declared.fault.RasterFault.{RasterFault}
 use Rattle.pgm_raster.specs.declared.fault.RasterFault.TheVariants.{BadSample, AboveMaxval, Trailing, Truncated, TooLong}
 use Rattle.pgm_raster.specs.declared.form.RasterForm.{RasterForm}
@@ -15,9 +17,9 @@ use Rattle.pgm_raster.specs.declared.part.Digits.{Digits}
 use Rattle.pgm_raster.specs.declared.part.Part.{Part}
 use Rattle.pgm_raster.specs.declared.part.Part.TheVariants as part
 
--- a file has at most 2 ^ 28 bytes: a limit of this project's own
+-- a file has at most so many bytes, 2 ^ 28: a limit of this project's own
 abbrev pub most_bytes : ℕ
-most_bytes = 268435456
+most_bytes = MOST_BYTES
 
 -- the samples that bytes are, or why they are refused
 abbrev pub Answer : Type 0
@@ -52,10 +54,6 @@ words_from l index high at [] = end_at l index
 words_from l index None at (byte ∷ more) = cond (nat_lt index l.count) (words_from l index (Some byte) (at + 1) more) (Err (Trailing at))
 words_from l index (Some high) at (byte ∷ more) = sample_then l index (256 * high + byte) (words_from l (index + 1) None (at + 1) more)
 
--- whether the byte is whitespace
-abbrev pub is_space : ℕ → Bool
-is_space byte = nat_eq byte 32 || (nat_eq byte 9 || (nat_eq byte 13 || nat_eq byte 10))
-
 -- no digit of a sample has come
 abbrev pub no_digits : Digits
 no_digits = record { count = 0; value = 0 }
@@ -74,7 +72,7 @@ abbrev pub plain_from : Limits → ℕ → Digits → ℕ → List ℕ → Answe
 plain_from l index digits at [] = ended_then l index digits (λ i. end_at l i)
 plain_from l index digits at (byte ∷ more) =
     cond (nat_eq at most_bytes) (Err TooLong)
-    (cond (is_space byte) (ended_then l index digits (λ i. plain_from l i no_digits (at + 1) more))
+    (cond (is_white byte) (ended_then l index digits (λ i. plain_from l i no_digits (at + 1) more))
     (cond (nat_lt index l.count)
     (cond (is_ascii_digit byte && nat_lt digits.count 9) (plain_from l index (with_digit digits byte) (at + 1) more) (Err (BadSample at)))
     (Err (Trailing at))))

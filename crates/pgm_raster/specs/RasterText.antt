@@ -1,30 +1,16 @@
 -- The raster of a PGM file: what stands behind its header. The forms are those of the Netpbm manual,
 -- "pgm": raw (`P5`) with one or two bytes a sample, and plain (`P2`) with decimal texts.
 --
--- Words: two_bytes, IsSpace, IsDigit, value_of, IsSampleText, IsSample, AreEndedTexts, AreEnded, HasOpenEnd,
+-- Words: IsSampleText, IsSample, AreEndedTexts, AreEnded, HasOpenEnd,
 -- IsRaster; IsCut, IsCutShort, IsStray, IsTrailingAt, EndsThere, IsAboveAt, IsBadSampleAt,
 -- IsOpen.
 use Rattle.std.specs.Prelude.{◌≡◌, ℕ, ◌+◌, ◌-◌, ◌*◌, ◌/◌, ◌%◌, ◌^◌, ◌<◌, ◌≤◌, ⊤, ◌⊎◌, List, [], ◌∷◌, ◌++◌, length, All}
 use Rattle.std.specs.List.{flat_map}
+use Rattle.text_laws.specs.Digits.{IsDigit, value_of}
+use Rattle.text_laws.specs.Blanks.{IsWhite}
+use Rattle.text_laws.specs.Words.{two_bytes}
 use Rattle.pgm_raster.specs.declared.form.RasterForm.{RasterForm}
 use Rattle.pgm_raster.specs.declared.form.RasterForm.TheVariants as form
-
--- a sample as two bytes, the most significant first
-abbrev pub two_bytes : ℕ → List ℕ
-two_bytes sample = sample / 256 ∷ sample % 256 ∷ []
-
--- the byte is a blank (32), a TAB (9), a CR (13) or an LF (10)
-abbrev pub IsSpace : ℕ → Type 0
-IsSpace byte = (byte ≡ 32) ⊎ ((byte ≡ 9) ⊎ ((byte ≡ 13) ⊎ (byte ≡ 10)))
-
--- the byte is one of `0` (48) to `9` (57)
-abbrev pub IsDigit : ℕ → Type 0
-IsDigit byte = (48 ≤ byte) × (byte ≤ 57)
-
--- the number that these digits are: each counts ten times what it would count one place further right
-abbrev pub value_of : List ℕ → ℕ
-value_of [] = 0
-value_of (digit ∷ rest) = (digit - 48) * 10 ^ length rest + value_of rest
 
 -- the text is 1 to 9 digits, which are this sample; zeros may lead
 pub record IsSampleText (text : List ℕ) (sample : ℕ) : Type 0 where
@@ -41,9 +27,9 @@ IsSample form.Plain text sample = IsSampleText text sample
 
 -- the texts of samples, a whitespace byte behind each, and any whitespace before and behind
 abbrev pub AreEndedTexts : List ℕ → List ℕ → Type 0
-AreEndedTexts [] bytes = All IsSpace bytes
+AreEndedTexts [] bytes = All IsWhite bytes
 AreEndedTexts (sample ∷ samples) bytes = (gap : List ℕ) × (text : List ℕ) × (space : ℕ) × (rest : List ℕ) × (bytes ≡ gap ++ (text ++ space ∷ rest))
-    × All IsSpace gap × IsSampleText text sample × IsSpace space × AreEndedTexts samples rest
+    × All IsWhite gap × IsSampleText text sample × IsWhite space × AreEndedTexts samples rest
 
 -- the bytes are these samples, each of them ended
 abbrev pub AreEnded : RasterForm → List ℕ → List ℕ → Type 0
@@ -85,7 +71,7 @@ pub record IsCutShort (form : RasterForm) (count maxval : ℕ) (bytes : List ℕ
 abbrev pub IsStray : RasterForm → ℕ → Type 0
 IsStray form.Bytes byte = ⊤
 IsStray form.Words byte = ⊤
-IsStray form.Plain byte = IsSpace byte → ⊥
+IsStray form.Plain byte = IsWhite byte → ⊥
 
 -- behind all samples, each of them ended, a byte stands at this place that may not stand there
 pub record IsTrailingAt (form : RasterForm) (count maxval : ℕ) (bytes : List ℕ) (place : ℕ) : Type 0 where
@@ -105,7 +91,7 @@ abbrev pub EndsThere : RasterForm → List ℕ → Type 0
 EndsThere form.Bytes more = ⊤
 EndsThere form.Words more = ⊤
 EndsThere form.Plain [] = ⊤
-EndsThere form.Plain (byte ∷ more) = IsSpace byte
+EndsThere form.Plain (byte ∷ more) = IsWhite byte
 
 -- behind so many samples stands the text of one that is above maxval
 pub record IsAboveAt (form : RasterForm) (count maxval : ℕ) (bytes : List ℕ) (index : ℕ) : Type 0 where
@@ -135,7 +121,7 @@ pub record IsBadSampleAt (count maxval : ℕ) (bytes : List ℕ) (place : ℕ) :
   pub ended : AreEndedTexts samples front
   pub short : length digits ≤ 9
   pub are : All IsDigit digits
-  pub no_space : IsSpace byte → ⊥
+  pub no_space : IsWhite byte → ⊥
   pub bad : (IsDigit byte → ⊥) ⊎ (length digits ≡ 9)
   pub bound : All (λ h. h ≤ maxval) samples
   pub wanted : length samples < count

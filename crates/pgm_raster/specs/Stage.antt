@@ -3,6 +3,7 @@ use Rattle.std.specs.Prelude.{ℕ, ◌+◌, ◌-◌, ◌*◌, ◌^◌, ◌<◌, 
 use Rattle.std.specs.Vec.{vec_capacity}
 use Rattle.std.specs.declared.vec.Vec.{Vec}
 use Rattle.std.specs.declared.alloc.Global.{Global}
+use Rattle.pgm_raster.specs.declared.plain.TheConstants.{MOST_BYTES}
 use Rattle.pgm_raster.specs.declared.fault.RasterFault.{RasterFault}
 use Rattle.pgm_raster.specs.declared.part.Limits.{Limits}
 use Rattle.pgm_raster.specs.declared.part.Digits.{Digits}
@@ -28,12 +29,12 @@ IsPart l index (part.Words None) = ⊤
 IsPart l index (part.Words (Some high)) = index < l.count
 IsPart l index (part.Plain digits) = IsDigits l index digits
 
--- the samples that are still wanted fit a file of 2 ^ 28 bytes; in the plain form so do the bytes so far
+-- the samples that are still wanted fit a file; in the plain form so do the bytes so far
 abbrev pub IsPlace : Limits → ℕ → Part → ℕ → Type 0
-IsPlace l index part.Bytes at = at + (l.count - index) ≤ 2 ^ 28
-IsPlace l index (part.Words None) at = at + 2 * (l.count - index) ≤ 2 ^ 28
-IsPlace l index (part.Words (Some high)) at = at + 2 * (l.count - index) ≤ 2 ^ 28 + 1
-IsPlace l index (part.Plain digits) at = at ≤ 2 ^ 28
+IsPlace l index part.Bytes at = at + (l.count - index) ≤ MOST_BYTES
+IsPlace l index (part.Words None) at = at + 2 * (l.count - index) ≤ MOST_BYTES
+IsPlace l index (part.Words (Some high)) at = at + 2 * (l.count - index) ≤ MOST_BYTES + 1
+IsPlace l index (part.Plain digits) at = at ≤ MOST_BYTES
 
 -- the fields of a reader that has refused no byte agree
 abbrev pub IsReader : Option RasterFault → Limits → Vec ℕ Global → Part → ℕ → Type 0

@@ -2,7 +2,7 @@
 
 ghost use Rattle.std.specs.Prelude.{◌≡◌, ◌+◌, ◌*◌, ◌/◌, ◌≤◌, length, vec_len, OnOk, IfErr};
 ghost use Rattle.std.specs.Vec.{vec_capacity};
-ghost use Rattle.roam_lanes.specs.Words.{words_of};
+ghost use Rattle.text_laws.specs.Words.{words_of};
 ghost use Rattle.pgm_raster.specs.Progress.{Answer, after, samples_then};
 
 use crate::fault::RasterFault;

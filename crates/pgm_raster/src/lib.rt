@@ -21,4 +21,5 @@ mod tests;
 pub use fault::RasterFault;
 pub use form::RasterForm;
 pub use laws::raster_laws;
-pub use reader::RasterReader;
+pub use plain::MOST_BYTES;
+pub use reader::{LAST_START, RasterReader};

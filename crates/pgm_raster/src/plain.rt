@@ -2,9 +2,11 @@
 
 ghost use Rattle.std.specs.Prelude.{◌≡◌, ◌+◌, ◌^◌, ◌<◌, ◌≤◌, ◌++◌, ◌∷◌, ℕ, List, length, vec_len, OnOk, IfOk, IfErr};
 ghost use Rattle.std.specs.Vec.{vec_capacity};
-ghost use Rattle.pgm_raster.specs.Progress.{Answer, after, is_space, reads, ended_then, no_digits};
+ghost use Rattle.text_laws.specs.Blanks.{is_white};
+ghost use Rattle.pgm_raster.specs.Progress.{Answer, after, reads, ended_then, no_digits};
 ghost use Rattle.pgm_raster.specs.Stage.{HasRoom, IsPart, IsDigits};
 ghost use Rattle.pgm_raster.specs.declared.part.Part.TheVariants as part;
+ghost use Rattle.pgm_raster.specs.declared.plain.TheConstants.{MOST_BYTES};
 
 use crate::fault::RasterFault;
 use crate::part::{Digits, Limits};
@@ -12,8 +14,8 @@ use crate::part::{Digits, Limits};
 /// The most digits of a sample: each such number fits 32 bits.
 const LONGEST: u32 = 9;
 
-/// The most bytes of a file: a limit of this project's own, since whitespace may go on without end.
-const MOST_BYTES: u64 = 1 << 28;
+/// The most bytes of a file, 2^28: a limit of this project's own, since whitespace may go on without end.
+pub const MOST_BYTES: u64 = 268_435_456;
 
 impl Digits {
     /// No digit.
@@ -23,7 +25,7 @@ impl Digits {
 /// Whether the byte is a blank, a TAB, a CR or an LF.
 #[inline(always)]
 fn is_whitespace(byte: u8) -> bool
-    ensures { result ≡ is_space byte }
+    ensures { result ≡ is_white byte }
 {
     byte == b' ' || byte == b'\t' || byte == b'\r' || byte == b'\n'
 }
@@ -67,7 +69,7 @@ fn plain_step(
 ) -> Result<Digits, RasterFault>
     requires room { HasRoom limits heights.old }
     requires part { IsPart limits (vec_len heights.old) (part.Plain digits) }
-    requires place { at < 2 ^ 28 }
+    requires place { at < MOST_BYTES }
     ensures ok { IfOk result (λ next. (more : List ℕ) →
         reads limits heights.old.items (part.Plain digits) at (byte ∷ more)
         ≡ reads limits heights.new.items (part.Plain next) (at + 1) more) }
@@ -103,7 +105,7 @@ pub(crate) fn plain_after(
 ) -> Result<Digits, RasterFault>
     requires room { HasRoom limits heights.old }
     requires part { IsPart limits (vec_len heights.old) (part.Plain digits) }
-    requires place { at + length piece.now ≤ 2 ^ 28 }
+    requires place { at + length piece.now ≤ MOST_BYTES }
     ensures ok { IfOk result (λ next. (more : List ℕ) →
         reads limits heights.old.items (part.Plain digits) at (piece.now ++ more)
         ≡ reads limits heights.new.items (part.Plain next) (at + length piece.now) more) }
@@ -130,7 +132,7 @@ pub(crate) fn plain_within(
 ) -> Result<Digits, RasterFault>
     requires room { HasRoom limits heights.old }
     requires part { IsPart limits (vec_len heights.old) (part.Plain digits) }
-    requires place { at ≤ 2 ^ 28 }
+    requires place { at ≤ MOST_BYTES }
     ensures ok { IfOk result (λ next. (more : List ℕ) →
         reads limits heights.old.items (part.Plain digits) at (piece.now ++ more)
         ≡ reads limits heights.new.items (part.Plain next) (at + length piece.now) more) }
@@ -138,7 +140,7 @@ pub(crate) fn plain_within(
         reads limits heights.old.items (part.Plain digits) at (piece.now ++ more) ≡ Err fault) }
     ensures valid { OnOk result (HasRoom limits heights.new) }
     ensures part { IfOk result (λ next. IsPart limits (vec_len heights.new) (part.Plain next)) }
-    ensures place { OnOk result (at + length piece.now ≤ 2 ^ 28) }
+    ensures place { OnOk result (at + length piece.now ≤ MOST_BYTES) }
 {
     let left = (MOST_BYTES - at) as usize;
     if piece.len() <= left {

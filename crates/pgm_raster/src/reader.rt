@@ -3,6 +3,8 @@
 ghost use Rattle.std.specs.Prelude.{◌≡◌, ◌+◌, ◌^◌, ◌<◌, ◌≤◌, [], ◌++◌, List, ℕ, Ok, Err, Some, None, IfSome, length, vec_len, OnOk, IfOk, IfErr};
 ghost use Rattle.pgm_raster.specs.Progress.{resume, raster_of, next_place, refusal_of, IsSettled, after, end_at, nothing_of, reads};
 ghost use Rattle.pgm_raster.specs.Stage.{HasRoom, IsPart, IsPlace};
+ghost use Rattle.pgm_raster.specs.declared.plain.TheConstants.{MOST_BYTES};
+ghost use Rattle.pgm_raster.specs.declared.reader.TheConstants.{LAST_START};
 
 use crate::fault::RasterFault;
 use crate::form::RasterForm;
@@ -12,6 +14,9 @@ use crate::raw::{bytes_after, words_after, words_after_half};
 use roam_edge::NoMemory;
 use std::alloc::Global;
 use std::marker::Model;
+
+/// The last place where a raster may begin: a header has at most as many bytes.
+pub const LAST_START: u64 = 65_536;
 
 /// A reader of the bytes of a raster, in pieces of any length.
 ///
@@ -48,7 +53,7 @@ impl RasterReader {
     /// A reader that has taken no byte of a raster of so many samples, none above `maxval`, whose first
     /// byte stands at this place of the file, counted from 0.
     ///
-    /// The room for the samples is taken here. The one error is want of memory.
+    /// The room for the samples is taken here. The one error is out of memory.
     pub fn new(
         alloc: Global,
         form: RasterForm,
@@ -56,7 +61,7 @@ impl RasterReader {
         maxval: u16,
         place: u64,
     ) -> Result<RasterReader, NoMemory>
-        requires place_small { place ≤ 65536 }
+        requires place_small { place ≤ LAST_START }
         requires count_small { count ≤ 2 ^ 23 }
         ensures value { IfOk result (λ reader. (more : List ℕ) → resume reader more ≡ raster_of form count maxval place more) }
         ensures place { IfOk result (λ reader. next_place reader ≡ place) }
@@ -93,7 +98,7 @@ impl RasterReader {
         // What the bytes mean together is not changed by where they are cut.
         ensures ok { OnOk result ((more : List ℕ) → resume self.old (piece.now ++ more) ≡ resume self.new more) }
         ensures place { OnOk result (next_place self.new ≡ next_place self.old + length piece.now) }
-        ensures limit { OnOk result (next_place self.new ≤ 2 ^ 28) }
+        ensures limit { OnOk result (next_place self.new ≤ MOST_BYTES) }
         // No byte so far is refused: what still comes decides.
         ensures unsettled { OnOk result ((fault : RasterFault) → ¬ IsSettled self.new fault) }
         // The refusal is that of the file, whatever still comes.

@@ -4,7 +4,7 @@ ghost use Rattle.std.specs.Prelude.{◌^◌, ◌≤◌};
 
 use crate::{RasterFault, RasterForm, RasterReader};
 use roam_edge::NoMemory;
-use std::alloc::Global;
+use std::alloc::{AllocError, Global};
 use std::test::Fail;
 
 /// A reader of so many samples, none above `maxval`, where the raster begins at place 15.
@@ -17,6 +17,11 @@ fn reader_of(
     requires count_small { count ≤ 2 ^ 23 }
 {
     RasterReader::new(alloc, form, count, maxval, 15)
+}
+
+/// So many blanks.
+fn blanks_of(alloc: Global, count: usize) -> Result<Vec<u8>, AllocError> {
+    vec![in alloc; b' '; count]
 }
 
 /// What a reader answers to pieces of this length, at least 1.
@@ -260,12 +265,13 @@ fn long_rows_are_read_past_the_lanes_and_the_chunk(rt: HostRuntime) -> Result<()
 
 #[test]
 fn a_file_ends_at_its_limit(rt: HostRuntime) -> Result<(), Fail> {
-    let blanks = [b' '; 65536];
+    let blanks = blanks_of(rt.alloc(), 65536)?;
     let mut reader = RasterReader::new(rt.alloc(), RasterForm::Plain, 1, 9, 65536)?;
+    let first = blanks_of(rt.alloc(), 65535)?;
     reader.feed(b"7")?;
-    reader.feed(&blanks[1..])?;
+    reader.feed(first.as_slice())?;
     for _ in 2..4096 {
-        reader.feed(&blanks)?;
+        reader.feed(blanks.as_slice())?;
     }
     assert_eq!(rt; reader.place(), 268435456);
     assert_eq!(rt; reader.feed(b""), Ok(()));
@@ -275,10 +281,10 @@ fn a_file_ends_at_its_limit(rt: HostRuntime) -> Result<(), Fail> {
 
 #[test]
 fn a_byte_behind_the_limit_is_refused_before_it_is_read(rt: HostRuntime) -> Result<(), Fail> {
-    let blanks = [b' '; 65536];
+    let blanks = blanks_of(rt.alloc(), 65536)?;
     let mut reader = RasterReader::new(rt.alloc(), RasterForm::Plain, 1, 9, 65535)?;
     for _ in 1..4096 {
-        reader.feed(&blanks)?;
+        reader.feed(blanks.as_slice())?;
     }
     assert_eq!(rt; reader.place(), 268435455);
     assert_eq!(rt; reader.feed(b" x"), Err(RasterFault::TooLong));

@@ -9,7 +9,7 @@ use Rattle.std.proofs.lemmas.List.FromFn.{length-map-range_with_len, get_or-map-
 use Rattle.mesh_defs.specs.HeightField.{IsHeightField, side_of}
 use Rattle.pgm_header.specs.HeaderText.{IsHeaderText}
 use Rattle.pgm_header.specs.Laws.{WrittenHeadersAreTexts}
-use Rattle.pgm_raster.specs.RasterText.{two_bytes}
+use Rattle.text_laws.specs.Words.{two_bytes}
 use Rattle.pgm_grid.specs.PgmText.{IsFileText}
 use Rattle.roam_script.specs.declared.line.Line.{Line}
 use Rattle.roam_script.specs.declared.line.Line.TheVariants.{Camera, Set, Frame}

@@ -5,7 +5,7 @@ use Rattle.std.proofs.Math.Nat.{div-add-mod', mod-lt, le_refl, add-mul, one-mul}
 use Rattle.std.proofs.lemmas.Nat.{same_from_place, row-Below}
 use Rattle.std.proofs.lemmas.Grind.{flat_map-append}
 use Rattle.mesh_defs.specs.HeightField.{HeightField, side_of, place_of, height_at}
-use Rattle.pgm_raster.specs.RasterText.{two_bytes}
+use Rattle.text_laws.specs.Words.{two_bytes}
 use Rattle.roam_gen.specs.Generated.{made_height, height_of_place, made_grid}
 use Rattle.roam_gen.specs.Rows.{HasOctaves}
 

@@ -6,7 +6,7 @@ use Rattle.std.specs.List.{flat_map}
 use Rattle.mesh_defs.specs.HeightField.{HeightField, side_of}
 use Rattle.pgm_header.specs.declared.machine.HeaderValues.{HeaderValues}
 use Rattle.pgm_header.specs.HeaderText.{written_header}
-use Rattle.pgm_raster.specs.RasterText.{two_bytes}
+use Rattle.text_laws.specs.Words.{two_bytes}
 use Rattle.roam_script.specs.declared.line.Line.{Line}
 use Rattle.roam_script.specs.declared.line.Line.TheVariants.{Blank, Camera, Set, Frame, Plane, NoPlanes, Budget, Raise}
 use Rattle.roam_gen.specs.Generated.{made_grid, made_lines}

@@ -7,7 +7,7 @@ ghost use Rattle.arrayvec.specs.ArrayVec.{array_vec_len};
 ghost use Rattle.roam_edge.specs.Fault.{HasCause};
 ghost use Rattle.roam_edge.specs.Sink.{Appends};
 ghost use Rattle.mesh_defs.specs.HeightField.{side_of};
-ghost use Rattle.pgm_raster.specs.RasterText.{two_bytes};
+ghost use Rattle.text_laws.specs.Words.{two_bytes};
 ghost use Rattle.roam_gen.specs.Generated.{made_grid};
 ghost use Rattle.roam_gen.specs.Written.{line_text, number_text, script_text, header_text, grid_text};
 

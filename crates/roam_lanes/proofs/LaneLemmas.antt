@@ -9,26 +9,13 @@ use Rattle.std.proofs.lemmas.Slice.{take-put_mid, drop-put_mid}
 use borrow.Rule.Slice.PartMut.{put_mid}
 use Rattle.std.proofs.lemmas.List.Elements.{All-nil, All-cons, All-head, All-tail, All-append, All-same, All-weaker, All-contains, All-contains_itself, Contains-append_left, Contains-append_right, Contains-append_cases, Contains-push, Contains-get_or}
 use Rattle.std.proofs.lemmas.Simd.{tops_compared, zip2_splat_left, mask_l-mod, none_from_empty_mask, put_chunk_whole, length-chunk}
-use Rattle.roam_lanes.specs.Words.{words_of}
 use Rattle.roam_lanes.specs.Raising.{brought_into, raised}
 use Rattle.std.proofs.lemmas.Int.{ints}
+use Rattle.text_laws.specs.Words.{words_of}
+use Rattle.text_laws.proofs.WordLemmas.{words-append, length-words}
 use Rattle.roam_lanes.specs.Extremes.{IsLeast, IsGreatest}
 
 -- ---- samples of two bytes
-
--- the samples of whole pairs of bytes and of what follows
-pub words-append : (xs ys : List ℕ) (k : ℕ) → length xs ≡ 2 * k → words_of (xs ++ ys) ≡ words_of xs ++ words_of ys
-words-append [] ys k e = refl
-words-append (high ∷ []) ys k e = absurd (omega arith)
-words-append (high ∷ low ∷ xs) ys zero e = absurd (omega arith)
-words-append (high ∷ low ∷ xs) ys (suc k) e = ap (λ (ws : List ℕ). (256 * high + low) ∷ ws) (words-append xs ys k (omega arith))
-
--- pairs of bytes have half as many samples
-pub length-words : (bytes : List ℕ) (k : ℕ) → length bytes ≡ 2 * k → length (words_of bytes) ≡ k
-length-words [] k e = omega arith
-length-words (high ∷ []) k e = absurd (omega arith)
-length-words (high ∷ low ∷ bytes) zero e = absurd (omega arith)
-length-words (high ∷ low ∷ bytes) (suc k) e = ap suc (length-words bytes k (omega arith))
 
 -- the bytes of each pair, exchanged
 abbrev pub exchanged : List ℕ → List ℕ

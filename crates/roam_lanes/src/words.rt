@@ -1,7 +1,7 @@
 //! Samples of two bytes, the most significant first.
 
 ghost use Rattle.std.specs.Prelude.{◌≡◌, ◌*◌, length};
-ghost use Rattle.roam_lanes.specs.Words.{words_of};
+ghost use Rattle.text_laws.specs.Words.{words_of};
 
 use std::simd::prelude::*;
 

@@ -12,7 +12,8 @@ use Rattle.std.specs.Fmt.{signed_decimal}
 use Rattle.std.proofs.lemmas.List.Elements.{All-get_or}
 use Rattle.std.proofs.lemmas.Fmt.{decimal_nonempty, length-decimal-le, digits_decimal, digits_value-decimal}
 use Rattle.std.proofs.Math.Nat.{pow-le-pow_right}
-use Rattle.roam_num.specs.DecText.{value_of, is_dec_text, IsDigit, number_in, signed_in, IsDecText, IsSignedTextOf}
+use Rattle.text_laws.specs.Digits.{IsDigit, value_of}
+use Rattle.roam_num.specs.DecText.{is_dec_text, number_in, signed_in, IsDecText, IsSignedTextOf}
 use Rattle.std.specs.Option.{SomeIff, option_map}
 
 -- the texts of digits and their numbers are those of the standard library

@@ -1,19 +1,11 @@
 -- Decimal texts of numbers, and the numbers that they are. The digits are those of ASCII; the rest is
 -- this project's own: which lengths are accepted, and one optional `-`.
 --
--- Words: value_of, IsDecText, is_dec_text, number_in, IsPlainText, IsMinusText, IsSignedTextOf, signed_in.
-use Rattle.std.specs.Prelude.{◌≡◌, ℕ, ◌+◌, ◌-◌, ◌*◌, ◌^◌, ◌≤◌, Bool, ◌&&◌, ◌==◌, if◌then◌else◌, List, [], ◌∷◌, length, All, ◌⊎◌, Option, Some, None, ℤ, pos, neg_ℤ, nat_le}
+-- Words: IsDecText, is_dec_text, number_in, IsPlainText, IsMinusText, IsSignedTextOf, signed_in.
+use Rattle.std.specs.Prelude.{◌≡◌, ℕ, ◌≤◌, Bool, ◌&&◌, ◌==◌, if◌then◌else◌, List, [], ◌∷◌, length, All, ◌⊎◌, Option, Some, None, ℤ, pos, neg_ℤ, nat_le}
 use Rattle.std.specs.Option.{option_map}
 use Rattle.std.specs.Str.{all_ascii_digits}
-
--- the number that these digits are: each counts ten times what it would count one place further right
-abbrev pub value_of : List ℕ → ℕ
-value_of [] = 0
-value_of (digit ∷ rest) = (digit - 48) * 10 ^ length rest + value_of rest
-
--- the byte is one of `0` (48) to `9` (57)
-abbrev pub IsDigit : ℕ → Type 0
-IsDigit byte = (48 ≤ byte) × (byte ≤ 57)
+use Rattle.text_laws.specs.Digits.{IsDigit, value_of}
 
 -- the bytes are 1 to `longest` digits; zeros may lead
 pub record IsDecText (longest : ℕ) (bytes : List ℕ) : Type 0 where

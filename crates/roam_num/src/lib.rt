@@ -15,4 +15,4 @@ mod writing;
 
 pub use laws::numbers_and_texts;
 pub use reading::{read_dec, read_signed};
-pub use writing::{dec, put_dec};
+pub use writing::{LONGEST_TEXT, dec, push_bytes, push_number, put_dec};

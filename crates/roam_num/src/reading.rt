@@ -3,7 +3,8 @@
 ghost use Rattle.std.specs.Prelude.{◌≡◌, ◌^◌, ◌<◌, ◌≤◌, ◌↔◌, ◌≤ℤ◌, ℤ, pos, neg_ℤ, Some, IsSome, IfSome, IsTrue, length, unsigned_abs};
 ghost use Rattle.std.specs.Option.{SomeIff, option_map};
 ghost use Rattle.std.specs.Str.{all_ascii_digits};
-ghost use Rattle.roam_num.specs.DecText.{value_of, IsDecText, number_in, IsSignedTextOf, signed_in};
+ghost use Rattle.text_laws.specs.Digits.{value_of};
+ghost use Rattle.roam_num.specs.DecText.{IsDecText, number_in, IsSignedTextOf, signed_in};
 
 /// The most digits of an unsigned number: each such number is below 2^64.
 const UNSIGNED_DIGITS: usize = 19;

@@ -1,6 +1,7 @@
 //! Texts and numbers, worked by hand.
 
-use crate::{dec, put_dec, read_dec, read_signed};
+use crate::{dec, push_bytes, push_number, put_dec, read_dec, read_signed};
+use arrayvec::ArrayVec;
 use roam_edge::{Failed, MemSink};
 use std::test::Fail;
 
@@ -52,6 +53,15 @@ fn a_number_is_written_without_leading_zeros(rt: HostRuntime) {
     for (number, text) in cases {
         assert_eq!(rt; dec(number).as_slice(), text);
     }
+}
+
+#[test]
+fn a_number_is_appended_to_a_text(rt: HostRuntime) {
+    let mut text = ArrayVec::<u8, 26>::new();
+    push_bytes(&mut text, b"line ");
+    push_number(&mut text, u64::MAX);
+    push_bytes(&mut text, b".");
+    assert_eq!(rt; text.as_slice(), b"line 18446744073709551615.".as_slice());
 }
 
 #[test]

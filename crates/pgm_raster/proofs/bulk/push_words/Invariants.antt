@@ -1,5 +1,5 @@
 use Rattle.std.proofs.Common.{◌≡◌, ◌+◌, ◌*◌, ◌/◌, ◌≤◌, length, vec_len, vec_capacity}
-use Rattle.roam_lanes.specs.Words.{words_of}
+use Rattle.text_laws.specs.Words.{words_of}
 use Rattle.pgm_raster.proofs.RasterLemmas.{Left}
 use Rattle.pgm_raster.proofs.bulk.push_words.Given as goal
 

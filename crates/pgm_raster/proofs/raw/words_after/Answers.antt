@@ -1,6 +1,6 @@
 use Rattle.std.proofs.Common.{◌≡◌, ◌∙◌, ◌*◌, ◌++◌, ℕ, length, take, arith, subst, List, None, Err, sym}
 use Rattle.std.proofs.lemmas.Bool.{eqb-true, eqb-false}
-use Rattle.roam_lanes.specs.Words.{words_of}
+use Rattle.text_laws.specs.Words.{words_of}
 use Rattle.pgm_raster.specs.Progress.{after, words_from}
 use Rattle.pgm_raster.specs.declared.fault.RasterFault.{RasterFault}
 use Rattle.pgm_raster.proofs.RasterLemmas.{Refuses, passed_on, words-taken, words-cut_half, words-trailing, words-front-refused}

@@ -1,6 +1,6 @@
 use Rattle.std.proofs.Common.{◌≡◌, ◌*◌, length, take}
 use Rattle.std.specs.List.{flat_map}
-use Rattle.pgm_raster.specs.RasterText.{two_bytes}
+use Rattle.text_laws.specs.Words.{two_bytes}
 use Rattle.roam_gen.proofs.writing.row_bytes.Given as goal
 
 abbrev pub invariant-loop-sample : goal.invariant-loop-sample

@@ -1,7 +1,7 @@
 use Rattle.std.proofs.Common.{List, [], ◌++◌, ℕ, sym, ap, ◌∙◌, subst}
 use Rattle.std.specs.List.{flat_map}
 use Rattle.std.proofs.lemmas.Result.{err_from_is_err_and}
-use Rattle.pgm_raster.specs.RasterText.{two_bytes}
+use Rattle.text_laws.specs.Words.{two_bytes}
 use Rattle.roam_gen.specs.Generated.{made_grid}
 use Rattle.roam_gen.specs.Written.{header_text, grid_text}
 use Rattle.roam_gen.specs.Rows.{Wrote}

@@ -2,7 +2,7 @@ use Rattle.std.proofs.Common.{◌≡◌, ℕ, ◌+◌, ◌-◌, ◌*◌, ◌^◌
 use Rattle.std.specs.List.{flat_map}
 use Rattle.std.proofs.lemmas.Result.{err_from_is_err_and}
 use Rattle.mesh_defs.specs.HeightField.{side_of}
-use Rattle.pgm_raster.specs.RasterText.{two_bytes}
+use Rattle.text_laws.specs.Words.{two_bytes}
 use Rattle.roam_gen.specs.Generated.{made_grid}
 use Rattle.roam_gen.specs.Rows.{Wrote, HasOctaves}
 use Rattle.roam_gen.proofs.OctaveLemmas.{width-small}

@@ -1,6 +1,6 @@
 use Rattle.std.proofs.Common.{◌≡◌, ◌/◌, ◌*◌, ◌∙◌, ap, subst, ℕ, length, take, arith}
 use Rattle.std.proofs.lemmas.List.{take_rest}
-use Rattle.roam_lanes.specs.Words.{words_of}
+use Rattle.text_laws.specs.Words.{words_of}
 use Rattle.roam_lanes.proofs.LaneLemmas.{words_block, words_rest}
 use Rattle.roam_lanes.proofs.words.be16.Goals as goal
 

@@ -1,5 +1,5 @@
 use Rattle.std.proofs.Common.{◌≡◌, ◌*◌, take}
-use Rattle.roam_lanes.specs.Words.{words_of}
+use Rattle.text_laws.specs.Words.{words_of}
 use Rattle.roam_lanes.proofs.words.be16.Given as goal
 
 -- the samples of the first k blocks are written

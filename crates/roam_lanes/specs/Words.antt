@@ -1,8 +1,0 @@
--- Two-byte samples in bytes, as the Netpbm manual, "pgm", lays them out.
-use Rattle.std.specs.Prelude.{ℕ, ◌+◌, ◌*◌, List, [], ◌∷◌}
-
--- the samples of these bytes, each of two bytes with the most significant first; a last odd byte is none
-abbrev pub words_of : List ℕ → List ℕ
-words_of [] = []
-words_of (high ∷ []) = []
-words_of (high ∷ low ∷ bytes) = (256 * high + low) ∷ words_of bytes

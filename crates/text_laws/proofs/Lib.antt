@@ -1,0 +1,4 @@
+pub mod TestLemmas
+pub mod DigitLemmas
+pub mod BlankLemmas
+pub mod WordLemmas

@@ -1,0 +1,28 @@
+-- Samples of two bytes each, in bytes.
+use Rattle.std.proofs.Common.{◌≡◌, ℕ, zero, suc, ◌+◌, ◌*◌, ◌/◌, ◌%◌, List, [], ◌∷◌, ◌++◌, length, refl, ap, ap₂, arith}
+use Rattle.std.specs.List.{flat_map}
+use Rattle.text_laws.specs.Words.{two_bytes, words_of}
+
+-- behind an even number of bytes the samples go on with those of the rest
+pub words-append : (xs ys : List ℕ) (k : ℕ) → length xs ≡ 2 * k → words_of (xs ++ ys) ≡ words_of xs ++ words_of ys
+words-append [] ys k e = refl
+words-append (high ∷ []) ys k e = absurd (omega arith)
+words-append (high ∷ low ∷ xs) ys zero e = absurd (omega arith)
+words-append (high ∷ low ∷ xs) ys (suc k) e = ap (λ (ws : List ℕ). (256 * high + low) ∷ ws) (words-append xs ys k (omega arith))
+
+-- each two bytes are one sample
+pub length-words : (bytes : List ℕ) (k : ℕ) → length bytes ≡ 2 * k → length (words_of bytes) ≡ k
+length-words [] k e = omega arith
+length-words (high ∷ []) k e = absurd (omega arith)
+length-words (high ∷ low ∷ bytes) zero e = absurd (omega arith)
+length-words (high ∷ low ∷ bytes) (suc k) e = ap suc (length-words bytes k (omega arith))
+
+-- each sample is two bytes
+pub length-flat : (samples : List ℕ) → length (flat_map two_bytes samples) ≡ 2 * length samples
+length-flat [] = refl
+length-flat (s ∷ samples) = omega (arith, length-flat samples)
+
+-- the bytes of samples are read as these samples
+pub words-flat : (samples : List ℕ) → words_of (flat_map two_bytes samples) ≡ samples
+words-flat [] = refl
+words-flat (s ∷ samples) = let e : 256 * (s / 256) + s % 256 ≡ s = omega arith in ap₂ (λ (x : ℕ) (xs : List ℕ). x ∷ xs) e (words-flat samples)

@@ -1,0 +1,3 @@
+pub mod Digits
+pub mod Blanks
+pub mod Words
