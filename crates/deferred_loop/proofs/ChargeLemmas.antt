@@ -32,7 +32,7 @@ use Rattle.deferred_loop.specs.declared.queued.Last.{Last}
 use Rattle.deferred_loop.specs.declared.limit.Limit.{Limit}
 use Rattle.deferred_loop.specs.declared.limit.Limit.TheVariants.{Over, After, Zero}
 use Rattle.deferred_loop.proofs.KeyLemmas.{present, present_is, best_key-stamp, best_key-above, unsure, worst_key-lower, worst_key-above, before_then, can_merge_with}
-use Rattle.deferred_loop.proofs.HeadLemmas.{none_or_some, last_key, last_value}
+use Rattle.deferred_loop.proofs.HeadLemmas.{positive_or_zero, last_key, last_value}
 
 -- an entry that may be asked: its call is in the reserve, or it is open and was not asked
 abbrev pub MayAsk : (w : DeferredFrame) (asked reserve : List ℕ) (t : ℕ) → Type 0
@@ -145,7 +145,7 @@ module _ (w : DeferredFrame) (is : IsDeferredFrame w) (s : SeenMesh) (settled : 
       let here = subst (λ z. Contains (leaves_of z (among s.set.members)) h.rank.tri) settled.grid head.leaf in
       let straddles = asked_leaf w is s.set.members grid_set within (best_key s) (λ l i. best_key-above w s l (settled.keys l (leaf i))) h.rank.tri
       (λ l i. head.first l (subst (λ z. Contains (leaves_of z (among s.set.members)) l) (sym settled.grid) i))
-      (subst (λ z. 0 < z) head.value (none_or_some h.rank.p some)) in
+      (subst (λ z. 0 < z) head.value (positive_or_zero h.rank.p some)) in
       ⊎_elim
       (λ there. inl there)
       (λ (old : IsOldLeaf w s c.asked h.rank.tri).

@@ -48,8 +48,8 @@ pub last_part : (s : SeenMesh) (h : Last) (t : ℕ) → IsLastHead s h → h.una
 last_part s h t last some = subst (λ z. MatchOption z (IsDecided s h.rank.tri) (λ t. IsInDiamond s.set.n h.rank.tri t × (s.known t ≡ false))) some last.unasked
 
 -- 0 or positive
-pub none_or_some : (x : ℕ) → (x ≡ 0 → ⊥) → 0 < x
-none_or_some x some = ⊎_elim (λ (more : 0 < x). more) (λ rest. absurd (some (let e : x ≡ 0 = omega arith in e))) (cases_lt 0 x)
+pub positive_or_zero : (x : ℕ) → (x ≡ 0 → ⊥) → 0 < x
+positive_or_zero x some = ⊎_elim (λ (more : 0 < x). more) (λ rest. absurd (some (let e : x ≡ 0 = omega arith in e))) (cases_lt 0 x)
 
 module _ (w : DeferredFrame) (is : IsDeferredFrame w) (s : SeenMesh) (settled : IsSettled w s) (valid : IsGridSet s.set.n s.set.members) where
   -- the set, at the frame's grid
@@ -92,7 +92,7 @@ module _ (w : DeferredFrame) (is : IsDeferredFrame w) (s : SeenMesh) (settled : 
     pub head_known : h.sure ≡ true → (h.rank.p ≡ 0 → ⊥) → IsFirstRank w.n w.priority s.set.members h.rank
     head_known told some =
         let value : h.rank.p ≡ w.priority h.rank.tri = head.value ∙ head_key ∙ upper_key-known p p_is (sure s) h.rank.tri (sym head.marked ∙ told) in
-        let positive : 0 < w.priority h.rank.tri = subst (λ z. 0 < z) value (none_or_some h.rank.p some) in
+        let positive : 0 < w.priority h.rank.tri = subst (λ z. 0 < z) value (positive_or_zero h.rank.p some) in
         record { first = first_known p p_is s.set.members (sure s) h.rank.tri head_leaf (sym head.marked ∙ told) positive head_first; value = value }
 
   -- the merge queue
@@ -168,7 +168,7 @@ module _ (w : DeferredFrame) (is : IsDeferredFrame w) (s : SeenMesh) (settled : 
     pub none_met : (limit : Limit) → IsAllowed w s.set.members limit → (IsMet limit h.rank → ⊥) → IsNoneMet w s.set.members limit
     none_met Over over unmet = unmet tt
     none_met (After f) first unmet = λ d lead. all_before p p_is s.set.members (sure s) h.rank.tri h.rank.tri f.tri set own_key (key_before f first unmet) d lead
-    none_met Zero _ unmet = λ d lead. all_positive p p_is s.set.members (sure s) h.rank.tri h.rank.tri set own_key (subst (λ z. 0 < z) last_value (none_or_some h.rank.p unmet)) d lead
+    none_met Zero _ unmet = λ d lead. all_positive p p_is s.set.members (sure s) h.rank.tri h.rank.tri set own_key (subst (λ z. 0 < z) last_value (positive_or_zero h.rank.p unmet)) d lead
 
     -- the triangle to ask is an entry of the mesh
     pub last_entry : (t : ℕ) → IsInDiamond s.set.n h.rank.tri t → IsEntry s.set.n (among s.set.members) t

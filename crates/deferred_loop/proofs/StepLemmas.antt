@@ -19,7 +19,7 @@ use Rattle.deferred_loop.specs.Kept.{IsTrueKey, IsSound, IsSettled, IsOldLeaf, I
 use Rattle.deferred_loop.proofs.KeyLemmas.{can_merge_with}
 use Rattle.deferred_loop.proofs.TellLemmas.{in_append_left, in_append_right}
 use Rattle.deferred_loop.proofs.HeadLemmas.{entry_address}
-use Rattle.deferred_loop.proofs.FreshLemmas.{ split_few, merge_few}
+use Rattle.deferred_loop.proofs.FreshLemmas.{split_few, merge_few}
 
 among_left : (a : ℕ) (xs ys : List ℕ) → IsTrue (among xs a) → IsTrue (among (xs ++ ys) a)
 among_left a xs ys h = among-in a (xs ++ ys) (in_append_left a xs ys (IsIn-among a xs h))

@@ -53,7 +53,7 @@ fn advance_over<M: QueuedMesh, G: Gauge>(
     ensures readings { G.readings gauge.new ≡ G.readings gauge.old }
     ensures grid { (M.seen mesh.new).set.n ≡ w.n }
     ensures quiet { IsQuiet (M.seen mesh.new) }
-    ensures room { G.count gauge.new < 2 ^ 64 - 1 }
+    ensures counted { G.count gauge.new < 2 ^ 64 - 1 }
     ensures counters { IsCountedBy (M.seen mesh.old).set (M.seen mesh.new).set result.splits result.merges }
     ensures run { IsFrameRun w.n w.budget w.priority w.start (M.seen mesh.new).set.members result.splits result.merges }
     ensures frame { IsFrame w.n w.budget w.priority (among (M.seen mesh.new).set.members) result.worst result.blocked }
@@ -103,7 +103,7 @@ pub fn advance<M: QueuedMesh, G: Gauge>(
     ensures readings { G.readings gauge.new ≡ G.readings gauge.old }
     ensures grid { (M.seen mesh.new).set.n ≡ (M.seen mesh.old).set.n }
     ensures quiet { IsQuiet (M.seen mesh.new) }
-    ensures room { G.count gauge.new < 2 ^ 64 - 1 }
+    ensures counted { G.count gauge.new < 2 ^ 64 - 1 }
     ensures counters { IsCountedBy (M.seen mesh.old).set (M.seen mesh.new).set result.splits result.merges }
     ensures run { IsFrameRun (M.seen mesh.old).set.n budget (G.told gauge.old).of
         (M.seen mesh.old).set.members (M.seen mesh.new).set.members result.splits result.merges }

@@ -23,7 +23,7 @@ returns-clause-most g c =
 pub returns-clause-least : goal.returns-clause-least
 returns-clause-least g c =
     end_at_least (g.G.Gauge.readings c.args.gauge.now) c.args.odometer (g.M.QueuedMesh.seen c.args.mesh.now) (g.M.QueuedMesh.seen c.advance_over.new.mesh)
-    (g.G.Gauge.count c.args.gauge.now) (g.G.Gauge.count c.advance_over.new.gauge) c.advance_over.ensures.room c.advance_over.ensures.stamped
+    (g.G.Gauge.count c.args.gauge.now) (g.G.Gauge.count c.advance_over.new.gauge) c.advance_over.ensures.counted c.advance_over.ensures.stamped
 
 pub returns-clause-stamps : goal.returns-clause-stamps
 returns-clause-stamps g c =

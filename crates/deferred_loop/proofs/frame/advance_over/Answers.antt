@@ -77,8 +77,8 @@ returns-in-End-clause-most g c =
     end_most g.w c.requires.1.1.0 (g.M.QueuedMesh.seen c.choose.new.mesh) (g.G.Gauge.count c.args.gauge.now) c.steps.splits c.steps.merges (g.G.Gauge.count c.choose.new.gauge)
     (c.in-End.ensures.asked.charged (g.G.Gauge.count c.args.gauge.now) c.steps.splits c.steps.merges c.steps.invariant.charged)
 
-pub returns-in-End-clause-room : goal.returns-in-End-clause-room
-returns-in-End-clause-room g c =
+pub returns-in-End-clause-counted : goal.returns-in-End-clause-counted
+returns-in-End-clause-counted g c =
     count_small g.w c.requires.1.1.0 (g.M.QueuedMesh.seen c.choose.new.mesh) (g.G.Gauge.count c.args.gauge.now) c.steps.splits c.steps.merges (g.G.Gauge.count c.choose.new.gauge)
     (c.in-End.ensures.asked.charged (g.G.Gauge.count c.args.gauge.now) c.steps.splits c.steps.merges c.steps.invariant.charged) c.requires.1.1.1.1.1.1.1.1.0
 
