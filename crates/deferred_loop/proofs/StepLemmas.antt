@@ -1,0 +1,209 @@
+-- What a step does to what is known, to what is charged and to the stamps.
+use Rattle.std.proofs.Common.{◌≡◌, ℕ, ◌+◌, ◌-◌, ◌*◌, ◌^◌, ◌<◌, ◌≤◌, ◌⊎◌, inl, inr, Bool, true, false, IsTrue, List, ◌++◌, length, Contains, refl, sym, ◌∙◌, ap, subst, arith, ⊎_elim, Option, Some}
+use Rattle.std.proofs.lemmas.List.{length-append}
+use Rattle.std.proofs.lemmas.Bool.{cases_Bool, cond-true, cond-false, false_from_ne_true}
+use Rattle.mesh_defs.specs.Triangle.{IsAddress, IsSplittable}
+use Rattle.mesh_defs.specs.ClosedSet.{IsClosed, leaves_of, among}
+use Rattle.mesh_defs.proofs.ListLemmas.{IsIn-among, among-in}
+use Rattle.deferred_loop.specs.Seen.{PoolSet, SeenMesh, IsSame, IsRenewed, IsNewEntry, lower_of, upper_of}
+use Rattle.mesh_defs.specs.GridSet.{IsGridSet, IsForced}
+use Rattle.closure_laws.specs.Diamond.{IsInDiamond, CanMerge, IsWithoutDiamond}
+use Rattle.frame_steps.specs.Steps.{leaf_count, IsSplitStep, IsMergeStep, Run, split, merge}
+use Rattle.frame_steps.specs.Deferred.{IsEntry, leaf, member, DeferredFrame, IsDeferredFrame}
+use Rattle.closure_laws.proofs.ChangeLemmas.{one_forced}
+use Rattle.closure_laws.proofs.FirstLeafLemmas.{first_leaf_splittable}
+use Rattle.closure_laws.proofs.DiamondLemmas.{without_diamond-closed, leaf_outside}
+use Rattle.deferred_loop.specs.Choice.{IsNextSplit, IsNextMerge}
+use Rattle.frame_steps.specs.Stamps.{Stamp, Readings, is_due, stamp_now}
+use Rattle.deferred_loop.specs.Kept.{IsTrueKey, IsSound, IsSettled, IsOldLeaf, IsOldMember, IsCharged, IsAskedOnly, IsCaughtUp, IsStamped}
+use Rattle.deferred_loop.proofs.KeyLemmas.{can_merge_with}
+use Rattle.deferred_loop.proofs.TellLemmas.{in_append_left, in_append_right}
+use Rattle.deferred_loop.proofs.HeadLemmas.{entry_address}
+use Rattle.deferred_loop.proofs.FreshLemmas.{split_few, merge_few}
+
+among_left : (a : ℕ) (xs ys : List ℕ) → IsTrue (among xs a) → IsTrue (among (xs ++ ys) a)
+among_left a xs ys h = among-in a (xs ++ ys) (in_append_left a xs ys (IsIn-among a xs h))
+
+among_right : (a : ℕ) (xs ys : List ℕ) → IsTrue (among ys a) → IsTrue (among (xs ++ ys) a)
+among_right a xs ys h = among-in a (xs ++ ys) (in_append_right a xs ys (IsIn-among a ys h))
+
+-- an entry that is not fresh was one, and is as it was
+kept_entry : (before mid : SeenMesh) (a : ℕ) → IsRenewed before mid → IsEntry mid.set.n (among mid.set.members) a → among mid.fresh a ≡ false →
+    IsEntry mid.set.n (among before.set.members) a × IsSame before mid a
+kept_entry before mid a r (leaf h) out = let old = r.leaf a h out in (leaf old.0, old.1)
+kept_entry before mid a r (member h) out = let old = r.member a h out in (member old.0, old.1)
+
+-- with the key that it had
+same_key : (w : DeferredFrame) (before mid : SeenMesh) (a : ℕ) → IsSame before mid a → IsTrueKey w before a → IsTrueKey w mid a
+same_key w before mid a same key = record {
+  exact = λ told. same.exact ∙ key.exact (sym same.known ∙ told);
+  upper = λ new. subst (λ (z : Option Stamp). w.priority a ≤ upper_of z) (sym same.stamp) (key.upper (sym same.known ∙ new));
+  lower = λ new. subst (λ (z : Option Stamp). lower_of z ≤ w.priority a) (sym same.stamp) (key.lower (sym same.known ∙ new));
+}
+
+-- so the keys are sound, but for what is fresh
+pub renewed_sound : (w : DeferredFrame) (before mid : SeenMesh) → IsSettled w before → mid.set.n ≡ before.set.n → IsRenewed before mid → IsSound w mid
+renewed_sound w before mid s same r = record {
+  grid = same ∙ s.grid;
+  keys = λ a entry out.
+      let old = kept_entry before mid a r (subst (λ z. IsEntry z (among mid.set.members) a) (sym (same ∙ s.grid)) entry) out in
+      same_key w before mid a old.1 (s.keys a (subst (λ z. IsEntry z (among before.set.members) a) (same ∙ s.grid) old.0));
+}
+
+-- what is new is an entry
+new_entry : (n : ℕ) (before mid : ℕ → Bool) (a : ℕ) → IsNewEntry n before mid a → IsEntry n mid a
+new_entry n before mid a (inl h) = leaf h.0
+new_entry n before mid a (inr h) = member h.0
+
+-- and an address
+pub fresh_address : (w : DeferredFrame) (before mid : SeenMesh) (a : ℕ) → mid.set.n ≡ w.n → IsGridSet mid.set.n mid.set.members → IsRenewed before mid → IsTrue (among mid.fresh a) → IsAddress w.n a
+fresh_address w before mid a grid valid r i =
+    entry_address w mid.set.members a (subst (λ z. IsGridSet z mid.set.members) grid valid)
+    (subst (λ z. IsEntry z (among mid.set.members) a) grid (new_entry mid.set.n (among before.set.members) (among mid.set.members) a (r.each a i)))
+
+module _ (w : DeferredFrame) (before mid after : SeenMesh) (settled : IsSettled w before) (same : mid.set.n ≡ before.set.n) (renewed : IsRenewed before mid)
+    (r : Readings) (odometer : ℕ) (caught : IsCaughtUp w r odometer mid after) where
+  -- new entries at the frame's grid
+  new_here : (a : ℕ) → IsTrue (among mid.fresh a) → IsNewEntry w.n (among before.set.members) (among mid.set.members) a
+  new_here a i = subst (λ z. IsNewEntry z (among before.set.members) (among mid.set.members) a) (same ∙ settled.grid) (renewed.each a i)
+
+  -- the stamp of what is not fresh
+  stamp_kept : (a : ℕ) → among mid.fresh a ≡ false → IsSame before mid a → after.stamps a ≡ before.stamps a
+  stamp_kept a out kept = caught.stamp a ∙ cond-false (among mid.fresh a) (Some (stamp_now r odometer a)) (mid.stamps a) out ∙ kept.stamp
+
+  -- a leaf that is not known is fresh, or it was one before
+  leaf_left : (asked reserve : List ℕ) → ((a : ℕ) → Contains (leaves_of w.n (among before.set.members)) a → before.known a ≡ false → IsTrue (among reserve a) ⊎ IsOldLeaf w before asked a) →
+      (a : ℕ) → Contains (leaves_of w.n (among mid.set.members)) a → after.known a ≡ false → IsTrue (among (mid.fresh ++ reserve) a) ⊎ IsOldLeaf w after asked a
+  leaf_left asked reserve left a h new = ⊎_elim
+      (λ (own : among mid.fresh a ≡ true). inl (among_left a mid.fresh reserve own))
+      (λ (out : among mid.fresh a ≡ false).
+      let old = renewed.leaf a (subst (λ z. Contains (leaves_of z (among mid.set.members)) a) (sym (same ∙ settled.grid)) h) out in
+      ⊎_elim
+      (λ there. inl (among_right a mid.fresh reserve there))
+      (λ (was : IsOldLeaf w before asked a). inr record { leaf = was.leaf; undue = was.undue; unasked = was.unasked; upper = ap upper_of (stamp_kept a out old.1) ∙ was.upper })
+      (left a (subst (λ z. Contains (leaves_of z (among before.set.members)) a) (same ∙ settled.grid) old.0) (sym old.1.known ∙ sym (caught.known a) ∙ new)))
+      (cases_Bool (among mid.fresh a))
+
+  -- the mate of a triangle that could be merged before is not fresh either
+  whole_kept : (a b : ℕ) → IsClosed w.n (among before.set.members) → IsClosed w.n (among mid.set.members) → CanMerge w.n (among before.set.members) a → CanMerge w.n (among mid.set.members) a →
+      IsInDiamond w.n a b → after.stamps b ≡ before.stamps b
+  whole_kept a b closed shut was can i =
+      let can_b = can_merge_with w.n (among mid.set.members) a b shut can i in
+      let out : among mid.fresh b ≡ false = false_from_ne_true (among mid.fresh b) (λ fresh. ⊎_elim
+      (λ (new_leaf : Contains (leaves_of w.n (among mid.set.members)) b × (Contains (leaves_of w.n (among before.set.members)) b → ⊥)).
+      (leaf_outside w.n (among mid.set.members) b shut new_leaf.0).outside can_b.member)
+      (λ (new_member : CanMerge w.n (among mid.set.members) b × (CanMerge w.n (among before.set.members) b → ⊥)).
+      new_member.1 (can_merge_with w.n (among before.set.members) a b closed was i))
+      (new_here b fresh)) in
+      stamp_kept b out (renewed.member b (subst (λ z. CanMerge z (among mid.set.members) b) (sym (same ∙ settled.grid)) can_b) out).1
+
+  -- the same for a triangle that can be merged
+  member_left : IsClosed w.n (among before.set.members) → IsClosed w.n (among mid.set.members) → (asked reserve : List ℕ) →
+      ((a : ℕ) → CanMerge w.n (among before.set.members) a → before.known a ≡ false → IsTrue (among reserve a) ⊎ IsOldMember w before asked a) →
+      (a : ℕ) → CanMerge w.n (among mid.set.members) a → after.known a ≡ false → IsTrue (among (mid.fresh ++ reserve) a) ⊎ IsOldMember w after asked a
+  member_left closed shut asked reserve left a h new = ⊎_elim
+      (λ (own : among mid.fresh a ≡ true). inl (among_left a mid.fresh reserve own))
+      (λ (out : among mid.fresh a ≡ false).
+      let old = renewed.member a (subst (λ z. CanMerge z (among mid.set.members) a) (sym (same ∙ settled.grid)) h) out in
+      let can = subst (λ z. CanMerge z (among before.set.members) a) (same ∙ settled.grid) old.0 in
+      ⊎_elim
+      (λ there. inl (among_right a mid.fresh reserve there))
+      (λ (was : IsOldMember w before asked a). inr record {
+        can = was.can;
+        undue = was.undue;
+        unasked = was.unasked;
+        lower = λ b i. ap lower_of (whole_kept a b closed shut can h i) ∙ was.lower b i;
+      })
+      (left a can (sym old.1.known ∙ sym (caught.known a) ∙ new)))
+      (cases_Bool (among mid.fresh a))
+
+  -- a step is charged: one reading for each new entry, and one call of rank ahead
+  step_charged : (evaluations added removed sum rest count more : ℕ) → IsClosed w.n (among before.set.members) → IsClosed w.n (among mid.set.members) →
+      Run w.n w.budget w.priority w.start mid.set.members sum rest → added + removed ≤ sum + rest → length mid.fresh ≤ 3 * ((sum + rest) - (added + removed)) → more ≤ count + length mid.fresh →
+      IsCharged w evaluations before added removed count → IsCharged w evaluations after sum rest more
+  step_charged evaluations added removed sum rest count more closed shut run grown few counted c = record {
+    run = subst (λ (z : PoolSet). Run w.n w.budget w.priority w.start z.members sum rest) (sym caught.set) run;
+    asked = c.asked;
+    distinct = c.distinct;
+    each = c.each;
+    reserve = mid.fresh ++ c.reserve;
+    leaf = λ a h new. leaf_left c.asked c.reserve c.leaf a (subst (λ (z : PoolSet). Contains (leaves_of w.n (among z.members)) a) caught.set h) new;
+    member = λ a h new. member_left closed shut c.asked c.reserve c.member a (subst (λ (z : PoolSet). CanMerge w.n (among z.members) a) caught.set h) new;
+    total = omega (arith, c.total, length-append mid.fresh c.reserve, few, counted, grown);
+  }
+
+  -- a split
+  pub split_charged : (t evaluations added removed total count more : ℕ) → IsGridSet w.n before.set.members → IsForced w.n before.set.members t mid.set.members →
+      IsSplitStep w.n w.budget w.priority before.set.members mid.set.members → more ≤ count + length mid.fresh →
+      total ≡ added + (length mid.set.members - length before.set.members) →
+      IsCharged w evaluations before added removed count → IsCharged w evaluations after total removed more
+  split_charged t evaluations added removed total count more set forced step counted summed c =
+      let few = split_few w.n before.set.members set t mid.set.members mid.fresh forced renewed.distinct new_here in
+      step_charged evaluations added removed total removed count more set.closed forced.least.closed
+      (subst (λ z. Run w.n w.budget w.priority w.start mid.set.members z removed) (sym summed) (split before.set.members mid.set.members added removed c.run step))
+      (omega (arith, summed)) (omega (arith, summed, few)) counted c
+
+  -- a merge
+  pub merge_charged : (d evaluations added removed total count more : ℕ) → IsGridSet w.n before.set.members → CanMerge w.n (among before.set.members) d →
+      IsWithoutDiamond w.n before.set.members d mid.set.members →
+      IsMergeStep w.n w.budget w.priority before.set.members mid.set.members → more ≤ count + length mid.fresh →
+      total ≡ removed + (length before.set.members - length mid.set.members) →
+      IsCharged w evaluations before added removed count → IsCharged w evaluations after added total more
+  merge_charged d evaluations added removed total count more set can merged step counted summed c =
+      let few = merge_few w.n before.set.members set d mid.set.members mid.fresh can merged renewed.distinct new_here in
+      step_charged evaluations added removed added total count more set.closed (without_diamond-closed w.n before.set.members d mid.set.members set.closed can merged)
+      (subst (λ z. Run w.n w.budget w.priority w.start mid.set.members added z) (sym summed) (merge before.set.members mid.set.members added removed c.run step))
+      (omega (arith, summed)) (omega (arith, summed, few)) counted c
+
+  -- each stamp is that of the start or was taken now
+  pub step_stamped : (start : SeenMesh) (first count more : ℕ) → (more < 2 ^ 64 - 1 → count + length mid.fresh ≤ more) →
+      IsStamped r odometer start first before count → IsStamped r odometer start first after more
+  step_stamped start first count more counted s = record {
+    read = mid.fresh ++ s.read;
+    counted = λ small. let now = counted small in let was = s.counted (omega arith) in omega (arith, length-append mid.fresh s.read);
+    each = λ a entry.
+        let here : IsEntry mid.set.n (among mid.set.members) a = subst (λ (z : PoolSet). IsEntry z.n (among z.members) a) caught.set entry in
+        ⊎_elim
+        (λ (new : among mid.fresh a ≡ true). inr (caught.stamp a ∙ cond-true (among mid.fresh a) (Some (stamp_now r odometer a)) (mid.stamps a) new, among_left a mid.fresh s.read new))
+        (λ (old : among mid.fresh a ≡ false).
+        let was = kept_entry before mid a renewed here old in
+        let stamp : after.stamps a ≡ before.stamps a = caught.stamp a ∙ cond-false (among mid.fresh a) (Some (stamp_now r odometer a)) (mid.stamps a) old ∙ was.1.stamp in
+        ⊎_elim
+        (λ (kept : (before.stamps a ≡ start.stamps a) × (is_due odometer (start.stamps a) ≡ false)). inl (stamp ∙ kept.0, kept.1))
+        (λ (taken : (before.stamps a ≡ Some (stamp_now r odometer a)) × IsTrue (among s.read a)). inr (stamp ∙ taken.0, among_right a mid.fresh s.read taken.1))
+        (s.each a (subst (λ z. IsEntry z (among before.set.members) a) same was.0)))
+        (cases_Bool (among mid.fresh a));
+  }
+
+-- asking leaves the stamps
+pub asked_stamped : (w : DeferredFrame) (r : Readings) (odometer : ℕ) (start : SeenMesh) (first : ℕ) (before after : SeenMesh) (count more : ℕ) → IsAskedOnly w before after count more →
+    IsStamped r odometer start first before count → IsStamped r odometer start first after more
+asked_stamped w r odometer start first before after count more asked s = record {
+  read = s.read;
+  counted = λ small. let more_now = asked.counted in let was = s.counted (omega arith) in omega arith;
+  each = λ a entry. ⊎_elim
+      (λ (kept : (before.stamps a ≡ start.stamps a) × (is_due odometer (start.stamps a) ≡ false)). inl (asked.stamp a ∙ kept.0, kept.1))
+      (λ (taken : (before.stamps a ≡ Some (stamp_now r odometer a)) × IsTrue (among s.read a)). inr (asked.stamp a ∙ taken.0, taken.1))
+      (s.each a (subst (λ (z : PoolSet). IsEntry z.n (among z.members) a) asked.set entry));
+}
+
+-- the steps
+pub split_step : (w : DeferredFrame) (before : List ℕ) (t : ℕ) (after : List ℕ) → IsNextSplit w.n w.budget w.priority before t → IsForced w.n before t after →
+    IsSplitStep w.n w.budget w.priority before after
+split_step w before t after next forced =
+    let same = one_forced w.n before t t next.after after refl next.forced forced in
+    record { leaf = t; within = next.within; first = next.first; forced = forced; fits = subst (λ z. leaf_count w.n z ≤ w.budget) same next.fits }
+
+pub merge_step : (w : DeferredFrame) (before : List ℕ) (d : ℕ) (after : List ℕ) → IsNextMerge w.n w.budget w.priority before d → IsWithoutDiamond w.n before d after →
+    IsMergeStep w.n w.budget w.priority before after
+merge_step w before d after next without = record { diamond = d; last = next.last; must = next.must; merged = without }
+
+-- what is split next is splittable
+pub splittable : (w : DeferredFrame) (is : IsDeferredFrame w) (s : SeenMesh) → IsSettled w s → IsGridSet s.set.n s.set.members → (t : ℕ) →
+    IsNextSplit w.n w.budget w.priority s.set.members t → IsSplittable s.set.n t
+splittable w is s settled valid t next = subst (λ z. IsSplittable z t) (sym settled.grid)
+    (first_leaf_splittable w.n w.priority is.falling (among s.set.members) t (subst (λ z. IsGridSet z s.set.members) settled.grid valid).closed next.first)
+
+-- what is merged next can be merged
+pub can_here : (w : DeferredFrame) (s : SeenMesh) → IsSettled w s → (d : ℕ) → IsNextMerge w.n w.budget w.priority s.set.members d → CanMerge s.set.n (among s.set.members) d
+can_here w s settled d next = subst (λ z. CanMerge z (among s.set.members) d) (sym settled.grid) next.last.lead.mergeable

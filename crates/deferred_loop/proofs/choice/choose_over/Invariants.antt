@@ -1,0 +1,4 @@
+use Rattle.deferred_loop.proofs.choice.choose_over.Given as goal
+
+abbrev pub ghost-settle_last : goal.ghost-settle_last
+ghost-settle_last g a = g.w

@@ -1,0 +1,4 @@
+pub mod Seen
+pub mod Choice
+pub mod Kept
+pub mod Promise

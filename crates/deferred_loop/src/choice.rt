@@ -1,0 +1,115 @@
+//! Which step comes next.
+
+ghost use Rattle.std.specs.Prelude.{◌≡◌, ◌≤◌, ◌<◌, ℕ, All};
+ghost use Rattle.mesh_defs.specs.ClosedSet.{leaves_of, among};
+ghost use Rattle.frame_steps.specs.Steps.{leaf_count};
+ghost use Rattle.frame_steps.specs.Deferred.{DeferredFrame, IsDeferredFrame};
+ghost use Rattle.deferred_loop.specs.Choice.{IsFirstRank, IsNext};
+ghost use Rattle.deferred_loop.specs.Seen.{SeenMesh};
+ghost use Rattle.deferred_loop.specs.Kept.{told_of, IsSettled, IsAskedOnly};
+
+use crate::asking::{settle_first, settle_last};
+use crate::gauge::Gauge;
+use crate::limit::Limit;
+use crate::next::{Ending, Next};
+use crate::queued::QueuedMesh;
+use bintree_addr::{Blocked, Rank};
+
+/// Where the leaves exceed the budget.
+fn choose_over<M: QueuedMesh, G: Gauge>(mesh: &mut M, gauge: &mut G) -> Next
+    ghost w: { DeferredFrame }
+    requires frame { IsDeferredFrame w }
+    requires told { G.told gauge.old ≡ told_of w }
+    requires settled { IsSettled w (M.seen mesh.old) }
+    requires over { w.budget < leaf_count w.n (M.seen mesh.old).set.members }
+    ensures told { G.told gauge.new ≡ G.told gauge.old }
+    ensures readings { G.readings gauge.new ≡ G.readings gauge.old }
+    ensures asked { IsAskedOnly w (M.seen mesh.old) (M.seen mesh.new) (G.count gauge.old) (G.count gauge.new) }
+    ensures next { IsNext w.n w.budget w.priority (M.seen mesh.old).set.members result }
+{
+    match settle_last(mesh, gauge, &Limit::Over) {
+        Some(d) => Next::Merge(d.tri),
+        None => Next::End(Ending {
+            worst: 0,
+            blocked: None,
+        }),
+    }
+}
+
+/// Where a leaf has a positive priority. The merge queue is not looked at where that leaf fits.
+fn choose_with<M: QueuedMesh, G: Gauge>(
+    mesh: &mut M,
+    gauge: &mut G,
+    first: &Rank,
+    budget: u32,
+) -> Next
+    ghost w: { DeferredFrame }
+    requires frame { IsDeferredFrame w }
+    requires told { G.told gauge.old ≡ told_of w }
+    requires settled { IsSettled w (M.seen mesh.old) }
+    requires budget { budget ≡ w.budget }
+    requires within { leaf_count w.n (M.seen mesh.old).set.members ≤ w.budget }
+    requires first { IsFirstRank w.n w.priority (M.seen mesh.old).set.members first.now }
+    ensures told { G.told gauge.new ≡ G.told gauge.old }
+    ensures readings { G.readings gauge.new ≡ G.readings gauge.old }
+    ensures asked { IsAskedOnly w (M.seen mesh.old) (M.seen mesh.new) (G.count gauge.old) (G.count gauge.new) }
+    ensures next { IsNext w.n w.budget w.priority (M.seen mesh.old).set.members result }
+{
+    let need = mesh.leaf_count() + mesh.gain(first.tri);
+    if need <= budget {
+        return Next::Split(first.tri);
+    }
+    match settle_last(mesh, gauge, &Limit::After(*first)) {
+        Some(d) => Next::Merge(d.tri),
+        None => Next::End(Ending {
+            worst: first.p,
+            blocked: Some(Blocked {
+                tri: first.tri,
+                need,
+            }),
+        }),
+    }
+}
+
+/// Where no leaf has a positive priority.
+fn choose_without<M: QueuedMesh, G: Gauge>(mesh: &mut M, gauge: &mut G) -> Next
+    ghost w: { DeferredFrame }
+    requires frame { IsDeferredFrame w }
+    requires told { G.told gauge.old ≡ told_of w }
+    requires settled { IsSettled w (M.seen mesh.old) }
+    requires within { leaf_count w.n (M.seen mesh.old).set.members ≤ w.budget }
+    requires none { All (λ a. w.priority a ≡ 0) (leaves_of w.n (among (M.seen mesh.old).set.members)) }
+    ensures told { G.told gauge.new ≡ G.told gauge.old }
+    ensures readings { G.readings gauge.new ≡ G.readings gauge.old }
+    ensures asked { IsAskedOnly w (M.seen mesh.old) (M.seen mesh.new) (G.count gauge.old) (G.count gauge.new) }
+    ensures next { IsNext w.n w.budget w.priority (M.seen mesh.old).set.members result }
+{
+    match settle_last(mesh, gauge, &Limit::Zero) {
+        Some(d) => Next::Merge(d.tri),
+        None => Next::End(Ending {
+            worst: 0,
+            blocked: None,
+        }),
+    }
+}
+
+/// The next step, or the end.
+pub fn choose<M: QueuedMesh, G: Gauge>(mesh: &mut M, gauge: &mut G, budget: u32) -> Next
+    ghost w: { DeferredFrame }
+    requires frame { IsDeferredFrame w }
+    requires told { G.told gauge.old ≡ told_of w }
+    requires settled { IsSettled w (M.seen mesh.old) }
+    requires budget { budget ≡ w.budget }
+    ensures told { G.told gauge.new ≡ G.told gauge.old }
+    ensures readings { G.readings gauge.new ≡ G.readings gauge.old }
+    ensures asked { IsAskedOnly w (M.seen mesh.old) (M.seen mesh.new) (G.count gauge.old) (G.count gauge.new) }
+    ensures next { IsNext w.n w.budget w.priority (M.seen mesh.old).set.members result }
+{
+    if mesh.leaf_count() > budget {
+        return choose_over(mesh, gauge);
+    }
+    match settle_first(mesh, gauge) {
+        Some(first) => choose_with(mesh, gauge, &first, budget),
+        None => choose_without(mesh, gauge),
+    }
+}

@@ -1,0 +1,55 @@
+//! New and due entries.
+
+ghost use Rattle.std.specs.Prelude.{◌≡◌, ℕ, ◌+◌, ◌-◌, ◌<◌, ◌≤◌, ◌^◌, IsTrue, false, length};
+ghost use Rattle.mesh_defs.specs.Triangle.{IsAddress};
+ghost use Rattle.mesh_defs.specs.ClosedSet.{among};
+ghost use Rattle.frame_steps.specs.Deferred.{DeferredFrame, IsDeferredFrame};
+ghost use Rattle.frame_steps.specs.Stamps.{ReadingsHold};
+ghost use Rattle.deferred_loop.specs.Seen.{SeenMesh, IsQuiet};
+ghost use Rattle.deferred_loop.specs.Kept.{told_of, IsFrameOf, IsSound, IsSettled, IsCharged, IsCaughtUp, IsStamped};
+
+use crate::gauge::Gauge;
+use crate::queued::QueuedMesh;
+
+/// Takes a stamp of each fresh entry, and puts it in its place. No priority is asked.
+pub fn enter_fresh<M: QueuedMesh, G: Gauge>(mesh: &mut M, gauge: &mut G, odometer: u64)
+    ghost w: { DeferredFrame }
+    requires told { G.told gauge.old ≡ told_of w }
+    requires hold { ReadingsHold w.priority odometer (G.readings gauge.old) }
+    requires sound { IsSound w (M.seen mesh.old) }
+    requires unknown { (a : ℕ) → IsTrue (among (M.seen mesh.old).fresh a) → (M.seen mesh.old).known a ≡ false }
+    requires addresses { (a : ℕ) → IsTrue (among (M.seen mesh.old).fresh a) → IsAddress w.n a }
+    requires far { odometer ≤ 2 ^ 62 }
+    ensures told { G.told gauge.new ≡ G.told gauge.old }
+    ensures readings { G.readings gauge.new ≡ G.readings gauge.old }
+    ensures entered { IsCaughtUp w (G.readings gauge.old) odometer (M.seen mesh.old) (M.seen mesh.new) }
+    ensures most { G.count gauge.new ≤ G.count gauge.old + length (M.seen mesh.old).fresh }
+    ensures least { G.count gauge.new < 2 ^ 64 - 1 → G.count gauge.old + length (M.seen mesh.old).fresh ≤ G.count gauge.new }
+{
+    'entering: loop {
+        let Some(t) = mesh.next_fresh() else {
+            return;
+        };
+        let reading = gauge.reading(t);
+        mesh.enter(t, &reading, odometer);
+    }
+}
+
+/// The frame's beginning: what is due is stamped anew, before any priority is asked.
+pub fn begin_frame<M: QueuedMesh, G: Gauge>(mesh: &mut M, gauge: &mut G, odometer: u64)
+    ghost w: { DeferredFrame }
+    requires frame { IsDeferredFrame w }
+    requires told { G.told gauge.old ≡ told_of w }
+    requires of { IsFrameOf w (G.readings gauge.old) odometer (M.seen mesh.old) }
+    requires quiet { IsQuiet (M.seen mesh.old) }
+    requires far { odometer ≤ 2 ^ 62 }
+    ensures told { G.told gauge.new ≡ G.told gauge.old }
+    ensures readings { G.readings gauge.new ≡ G.readings gauge.old }
+    ensures set { (M.seen mesh.new).set ≡ (M.seen mesh.old).set }
+    ensures settled { IsSettled w (M.seen mesh.new) }
+    ensures charged { IsCharged w (G.count gauge.old) (M.seen mesh.new) 0 0 (G.count gauge.new) }
+    ensures stamped { IsStamped (G.readings gauge.old) odometer (M.seen mesh.old) (G.count gauge.old) (M.seen mesh.new) (G.count gauge.new) }
+{
+    mesh.begin(odometer);
+    enter_fresh(mesh, gauge, odometer);
+}

@@ -1,0 +1,110 @@
+//! A mesh as the loop sees it: the pool, the two queues, the stamps, and what is known in this frame.
+
+ghost use Rattle.std.specs.Prelude.{◌≡◌, ℕ, ◌+◌, ◌<◌, ◌≤◌, ◌∷◌, ◌^◌, List, [], false, Contains, MatchOption};
+ghost use Rattle.mesh_defs.specs.Triangle.{IsSplittable};
+ghost use Rattle.mesh_defs.specs.ClosedSet.{leaves_of, among};
+ghost use Rattle.mesh_defs.specs.GridSet.{IsGridSet, IsForced, IsGain};
+ghost use Rattle.closure_laws.specs.Diamond.{CanMerge};
+ghost use Rattle.frame_steps.specs.Steps.{leaf_count};
+ghost use Rattle.frame_steps.specs.Deferred.{IsEntry};
+ghost use Rattle.deferred_loop.specs.Seen.{SeenMesh, IsHead, IsLastHead, IsTold, IsEntered, IsSplitOf, IsMergeOf, IsBegun, IsForgotten, IsQuiet};
+
+use crate::gauge::Reading;
+use bintree_addr::{Rank, Tri};
+
+/// The head of the split queue.
+#[derive(Clone, Copy)]
+pub struct Head {
+    /// The leaf with its key.
+    pub rank: Rank,
+    /// Whether the key is its priority.
+    pub sure: bool,
+}
+
+/// The head of the merge queue.
+#[derive(Clone, Copy)]
+pub struct Last {
+    /// The better triangle of the diamond, with its key.
+    pub rank: Rank,
+    /// A triangle of the diamond that was not asked; None where the diamond's rank is known.
+    pub unasked: Option<Tri>,
+}
+
+/// A mesh with its queues and stamps.
+///
+/// It learns a priority only where it is told one, so no clause speaks of a gauge. A leaf stands in the split queue under
+/// the best that its priority can be, a diamond in the merge queue under the worst; the fresh entries stand in neither.
+pub trait QueuedMesh {
+    ghost seen: { Self → SeenMesh };
+
+    fn leaf_count(&self) -> u32
+        ensures { result ≡ leaf_count (seen self.now).set.n (seen self.now).set.members };
+
+    /// How many triangles a split adds, with what it forces.
+    fn gain(&self, t: Tri) -> u32
+        requires splittable { IsSplittable (seen self.now).set.n t }
+        requires leaf { Contains (leaves_of (seen self.now).set.n (among (seen self.now).set.members)) t }
+        ensures gain { IsGain (seen self.now).set.n (seen self.now).set.members t result }
+        ensures small { result ≤ 16777216 };
+
+    fn first(&self) -> Head
+        requires settled { (seen self.now).fresh ≡ [] }
+        ensures { IsHead (seen self.now) result };
+
+    fn last(&self) -> Option<Last>
+        requires settled { (seen self.now).fresh ≡ [] }
+        ensures { MatchOption result
+            ((a : ℕ) → CanMerge (seen self.now).set.n (among (seen self.now).set.members) a → ⊥)
+            (IsLastHead (seen self.now)) };
+
+    /// Takes a priority that was asked as the key of its leaf or diamond.
+    fn tell(&mut self, rank: Rank)
+        requires settled { (seen self.old).fresh ≡ [] }
+        requires entry { IsEntry (seen self.old).set.n (among (seen self.old).set.members) rank.tri }
+        requires unknown { (seen self.old).known rank.tri ≡ false }
+        ensures { IsTold (seen self.old) (seen self.new) rank };
+
+    fn next_fresh(&self) -> Option<Tri>
+        ensures { MatchOption result
+            ((seen self.now).fresh ≡ [])
+            (λ t. (rest : List ℕ) × ((seen self.now).fresh ≡ t ∷ rest)) };
+
+    /// Gives the next fresh entry its stamp, and puts it in its place once nothing of its diamond is fresh.
+    fn enter(&mut self, t: Tri, reading: &Reading, odometer: u64)
+        requires next { (rest : List ℕ) × ((seen self.old).fresh ≡ t ∷ rest) }
+        requires far { odometer ≤ 2 ^ 62 }
+        requires small { reading.now.slack ≤ 2 ^ 32 }
+        requires hi { reading.now.hi.tri ≡ t }
+        requires lo { reading.now.lo.tri ≡ t }
+        ensures { IsEntered (seen self.old) (seen self.new) t reading.now odometer };
+
+    /// Splits a leaf with what it forces.
+    fn split(&mut self, t: Tri)
+        requires settled { (seen self.old).fresh ≡ [] }
+        requires splittable { IsSplittable (seen self.old).set.n t }
+        requires leaf { Contains (leaves_of (seen self.old).set.n (among (seen self.old).set.members)) t }
+        requires room { (after : List ℕ) → IsForced (seen self.old).set.n (seen self.old).set.members t after →
+            leaf_count (seen self.old).set.n after ≤ (seen self.old).set.most }
+        requires counter { (seen self.old).set.splits + 48 < 2 ^ 62 }
+        ensures { IsSplitOf (seen self.old) (seen self.new) t };
+
+    /// Merges a diamond.
+    fn merge(&mut self, t: Tri)
+        requires settled { (seen self.old).fresh ≡ [] }
+        requires can { CanMerge (seen self.old).set.n (among (seen self.old).set.members) t }
+        requires counter { (seen self.old).set.merges < 2 ^ 62 }
+        ensures { IsMergeOf (seen self.old) (seen self.new) t };
+
+    /// Lists what is due at this odometer.
+    fn begin(&mut self, odometer: u64)
+        requires quiet { IsQuiet (seen self.old) }
+        requires far { odometer ≤ 2 ^ 62 }
+        ensures { IsBegun (seen self.old) (seen self.new) odometer };
+
+    /// Forgets what was told, so that the keys are those of the stamps again.
+    fn forget(&mut self)
+        requires settled { (seen self.old).fresh ≡ [] }
+        ensures { IsForgotten (seen self.old) (seen self.new) };
+
+    ghost valid: { (m : Self) → IsGridSet (seen m).set.n (seen m).set.members };
+}

@@ -1,0 +1,84 @@
+//! One split or merge, with its new entries.
+
+ghost use Rattle.std.specs.Prelude.{◌≡◌, ℕ, ◌+◌, ◌-◌, ◌<◌, ◌≤◌, ◌^◌, length};
+ghost use Rattle.frame_steps.specs.Steps.{IsSplitStep, IsMergeStep};
+ghost use Rattle.frame_steps.specs.Deferred.{DeferredFrame, IsDeferredFrame};
+ghost use Rattle.deferred_loop.specs.Choice.{IsNextSplit, IsNextMerge};
+ghost use Rattle.deferred_loop.specs.Seen.{PoolSet, SeenMesh, HasRoom, IsCountedBy};
+ghost use Rattle.deferred_loop.specs.Kept.{told_of, IsSettled, IsCharged, IsStamped};
+
+use crate::entering::enter_fresh;
+use crate::gauge::Gauge;
+use crate::queued::QueuedMesh;
+use bintree_addr::Tri;
+
+/// Splits the first leaf with what it forces, enters what is new, and counts what was added.
+pub fn split_at<M: QueuedMesh, G: Gauge>(
+    mesh: &mut M,
+    gauge: &mut G,
+    odometer: u64,
+    t: Tri,
+    splits: &mut u32,
+)
+    ghost w: { DeferredFrame }
+    requires frame { IsDeferredFrame w }
+    requires told { G.told gauge.old ≡ told_of w }
+    requires settled { IsSettled w (M.seen mesh.old) }
+    requires next { IsNextSplit w.n w.budget w.priority (M.seen mesh.old).set.members t }
+    requires far { odometer ≤ 2 ^ 62 }
+    requires small { splits.old ≤ 2 ^ 30 }
+    requires counter { (M.seen mesh.old).set.splits + 48 < 2 ^ 62 }
+    requires room { HasRoom w.n (M.seen mesh.old).set.most w.budget }
+    ensures told { G.told gauge.new ≡ G.told gauge.old }
+    ensures readings { G.readings gauge.new ≡ G.readings gauge.old }
+    ensures settled { IsSettled w (M.seen mesh.new) }
+    ensures step { IsSplitStep w.n w.budget w.priority (M.seen mesh.old).set.members (M.seen mesh.new).set.members }
+    ensures counters { (start : PoolSet) (removed : ℕ) → IsCountedBy start (M.seen mesh.old).set splits.old removed →
+        IsCountedBy start (M.seen mesh.new).set splits.new removed }
+    ensures charged { (evaluations removed : ℕ) →
+        IsCharged w evaluations (M.seen mesh.old) splits.old removed (G.count gauge.old) →
+        IsCharged w evaluations (M.seen mesh.new) splits.new removed (G.count gauge.new) }
+    ensures stamped { (begin : SeenMesh) (first : ℕ) →
+        IsStamped (G.readings gauge.old) odometer begin first (M.seen mesh.old) (G.count gauge.old) →
+        IsStamped (G.readings gauge.old) odometer begin first (M.seen mesh.new) (G.count gauge.new) }
+{
+    let before = mesh.leaf_count();
+    mesh.split(t);
+    *splits += mesh.leaf_count() - before;
+    enter_fresh(mesh, gauge, odometer);
+}
+
+/// Merges the last diamond, enters what is new, and counts what was taken away.
+pub fn merge_at<M: QueuedMesh, G: Gauge>(
+    mesh: &mut M,
+    gauge: &mut G,
+    odometer: u64,
+    t: Tri,
+    merges: &mut u32,
+)
+    ghost w: { DeferredFrame }
+    requires frame { IsDeferredFrame w }
+    requires told { G.told gauge.old ≡ told_of w }
+    requires settled { IsSettled w (M.seen mesh.old) }
+    requires next { IsNextMerge w.n w.budget w.priority (M.seen mesh.old).set.members t }
+    requires far { odometer ≤ 2 ^ 62 }
+    requires small { merges.old ≤ 2 ^ 30 }
+    requires counter { (M.seen mesh.old).set.merges < 2 ^ 62 }
+    ensures told { G.told gauge.new ≡ G.told gauge.old }
+    ensures readings { G.readings gauge.new ≡ G.readings gauge.old }
+    ensures settled { IsSettled w (M.seen mesh.new) }
+    ensures step { IsMergeStep w.n w.budget w.priority (M.seen mesh.old).set.members (M.seen mesh.new).set.members }
+    ensures counters { (start : PoolSet) (added : ℕ) → IsCountedBy start (M.seen mesh.old).set added merges.old →
+        IsCountedBy start (M.seen mesh.new).set added merges.new }
+    ensures charged { (evaluations added : ℕ) →
+        IsCharged w evaluations (M.seen mesh.old) added merges.old (G.count gauge.old) →
+        IsCharged w evaluations (M.seen mesh.new) added merges.new (G.count gauge.new) }
+    ensures stamped { (begin : SeenMesh) (first : ℕ) →
+        IsStamped (G.readings gauge.old) odometer begin first (M.seen mesh.old) (G.count gauge.old) →
+        IsStamped (G.readings gauge.old) odometer begin first (M.seen mesh.new) (G.count gauge.new) }
+{
+    let before = mesh.leaf_count();
+    mesh.merge(t);
+    *merges += before - mesh.leaf_count();
+    enter_fresh(mesh, gauge, odometer);
+}
