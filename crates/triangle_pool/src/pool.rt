@@ -1,4 +1,4 @@
-//! The pool.
+//! A mesh as linked triangles, in a pool of nodes that are all made at the start.
 
 ghost use Rattle.std.specs.Prelude.{◌≡◌, ◌≢◌, ◌↔◌, ℕ, ◌+◌, ◌-◌, ◌*◌, ◌/◌, ◌%◌, ◌^◌, ◌<◌, ◌≤◌, ◌++◌, IsTrue, OnOk, IfOk, IfSome, IsNone, false, true, List, [], length, map, slice_index, slice_set, ◌∷◌, replicate};
 ghost use Rattle.mesh_defs.specs.Triangle.{level_of, corners_of, OnOneSide};
@@ -18,11 +18,21 @@ use roam_edge::NoMemory;
 use std::alloc::Global;
 use std::marker::Model;
 
+/// The triangles of a mesh and those above them, each at a slot, with links to parent, children and neighbours.
+///
+/// A mesh of so many leaves wants a slot for each leaf and each triangle that is split; all are made by `new`, and no
+/// other call takes memory or is refused. A triangle keeps its slot from the split that makes it to the merge that takes
+/// it away.
+/// Source: Duchaineau et al., "ROAMing Terrain", IEEE Visualization 1997, the parts on the triangle bintree and on
+/// split and merge; that slots come in pairs of siblings is this project's own.
 #[derive(Drop)]
 pub struct Pool {
     nodes: Nodes,
+    /// The greatest number of leaves.
     most: u32,
+    /// The pairs of slots that are free, in the first `spare` places.
     free: Vec<u32>,
+    /// How many pairs are free: so many leaves may still be added.
     spare: u32,
     splits: u64,
     merges: u64,
@@ -42,20 +52,27 @@ impl Model for Pool {
 /// The children that a split made.
 #[derive(Clone, Copy, Debug, Default)]
 pub struct Born {
+    /// The left and the right child of the triangle.
     pub first: (Slot, Slot),
+    /// Those of its mate; none where it has no mate.
     pub second: Option<(Slot, Slot)>,
 }
 
 /// The diamond that a merge made leaves again, and the slots of their children.
 #[derive(Debug, Drop)]
 pub struct Gone {
+    /// The triangle, which is a leaf again.
     pub kept: Slot,
+    /// Its mate; none where it has none.
     pub other: Option<Slot>,
+    /// The slots of the children, which are free now, each once.
     pub freed: ArrayVec<Slot, 4>,
 }
 
 impl Pool {
-    /// The two halves of the square, with nodes for as many leaves as asked.
+    /// The two halves of the square, at the slots 0 and 1, with room for so many leaves.
+    ///
+    /// Cost (not proved): 22 bytes a slot, two slots a leaf; all memory of the pool is taken here.
     pub fn new(alloc: Global, n: u32, leaves: u32) -> Result<Pool, NoMemory>
         requires n { (1 ≤ n) × (n ≤ 11) }
         requires some { 2 ≤ leaves }
@@ -126,7 +143,11 @@ impl Pool {
         self.spare
     }
 
-    /// Splits the leaf, and with it its mate.
+    /// Splits the leaf, and with it its mate, where it has one.
+    ///
+    /// `may_split` tells whether the leaf across the base is its mate; `plan` of the crate above says what to split
+    /// before where it is not.
+    /// Cost (not proved): a few links, whatever the size of the mesh.
     pub fn split(&mut self, s: Slot) -> Born
         requires leaf { HasLeaf self.old.pairs s.0 }
         requires coarse { level_of (triangle_at self.old s) < 2 * self.old.n }
@@ -170,6 +191,9 @@ impl Pool {
 
 impl Pool {
     /// Makes the triangle and its mate leaves again, and frees their children.
+    ///
+    /// `merge_ready` tells whether it may.
+    /// Cost (not proved): as `split`.
     pub fn merge(&mut self, s: Slot) -> Gone
         requires live { IsLive self.old.pairs s.0 }
         requires ready { IsMergeReady self.old.pairs (triangle_at self.old s) }
