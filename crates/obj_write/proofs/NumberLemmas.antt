@@ -5,13 +5,14 @@ use Rattle.std.proofs.lemmas.Bool.{or_parts, lt-ltb, cases_lt}
 use Rattle.std.proofs.lemmas.List.{get_or-map, length-map, length_push}
 use Rattle.std.proofs.lemmas.List.Folds.{list_any-append}
 use Rattle.std.proofs.lemmas.List.FromFn.{get_or-map-range_with_len, length-map-range_with_len}
+use Rattle.text_laws.proofs.TestLemmas.{by_bool}
 use Rattle.mesh_defs.specs.declared.point.Point.{Point}
 use Rattle.mesh_defs.specs.HeightField.{side_of}
 use Rattle.mesh_defs.specs.BoundingBox.{point, points_of}
 use Rattle.mesh_defs.specs.MeshText.{is_same_point, vertices_of, vertex_number}
 use Rattle.obj_write.specs.Numbers.{number_at, numbers_of}
 use Rattle.obj_write.specs.VertexMarks.{grid_place, place_point, is_vertex, vertex_marks, numbered, marked}
-use Rattle.obj_write.proofs.PlaceLemmas.{by_bool, points-placed, place-again, place-below, point-again, same-point, same-self}
+use Rattle.obj_write.proofs.PlaceLemmas.{points-placed, place-again, place-below, point-again, same-point, same-self}
 use Rattle.bintree_laws.specs.Corners.{IsInSquare}
 
 -- the first that passes stands behind those that do not

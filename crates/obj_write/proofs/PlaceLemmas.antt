@@ -9,6 +9,7 @@ use Rattle.std.proofs.lemmas.List.{get_or-set_same, get_or-set_other, get_or-map
 use Rattle.std.proofs.lemmas.List.Folds.{list_any-append}
 use Rattle.std.proofs.lemmas.List.FromFn.{get_or-map-range_with_len, length-map-range_with_len}
 use Rattle.std.proofs.lemmas.Nat.{mul-add-lt, div-mul-add, mod-mul-add, div-add-mod'}
+use Rattle.text_laws.proofs.TestLemmas.{by_bool}
 use Rattle.mesh_defs.specs.declared.point.Point.{Point}
 use Rattle.mesh_defs.specs.declared.point.Corners.{Corners}
 use Rattle.mesh_defs.specs.HeightField.{side_of}
@@ -17,11 +18,6 @@ use Rattle.mesh_defs.specs.BoundingBox.{point, points_of}
 use Rattle.mesh_defs.specs.MeshText.{is_same_point, has_corner}
 use Rattle.bintree_laws.specs.Corners.{IsInSquare, IsWithin}
 use Rattle.obj_write.specs.VertexMarks.{grid_place, place_point, is_vertex, vertex_marks}
-
--- a test is true or false
-pub by_bool : {P : Type 0} (b : Bool) → (b ≡ true → P) → (b ≡ false → P) → P
-by_bool true at_true at_false = at_true refl
-by_bool false at_true at_false = at_false refl
 
 -- two parts of a range
 pub range-append : (a b c : ℕ) → range_with_len a (b + c) ≡ range_with_len a b ++ range_with_len (a + b) c

@@ -2,6 +2,7 @@
 -- Words: view_text, IsView, IsShown, vertices_to, vertex_lines, last_mark, group_text.
 use Rattle.std.specs.Prelude.{◌≡◌, ℕ, ◌*◌, ◌≤◌, true, List, [], ◌∷◌, ◌++◌, Option, Some, map, filter, flat_map, All, codes}
 use Rattle.std.specs.List.{range_with_len}
+use Rattle.obj_write.specs.declared.mesh.TheConstants.{GREATEST_SPACING}
 use Rattle.mesh_defs.specs.declared.point.Point.{Point}
 use Rattle.mesh_defs.specs.declared.mark.Mark.{Mark}
 use Rattle.mesh_defs.specs.Triangle.{level_of, corners_of}
@@ -20,7 +21,7 @@ pub record IsView (v : MeshView) : Type 0 where
   pub levels : All (λ a. level_of a ≤ 2 * v.wedges.now.n) v.leaves.now
   pub vertex_numbers : v.numbers.now ≡ numbers_of v.wedges.now.n v.leaves.now
   pub spacing_low : 1 ≤ v.spacing
-  pub spacing_high : v.spacing ≤ 1024
+  pub spacing_high : v.spacing ≤ GREATEST_SPACING
 
 -- each corner of the triangle is a vertex of the mesh
 abbrev pub IsShown : ℕ → List ℕ → ℕ → Type 0

@@ -7,20 +7,27 @@ ghost use Rattle.mesh_defs.specs.MeshText.{vertex_line, vertex_number, face_line
 ghost use Rattle.bintree_laws.specs.Corners.{IsInSquare};
 ghost use Rattle.roam_edge.specs.Fault.{HasCause};
 ghost use Rattle.roam_edge.specs.MeshSink.{Mesh};
+ghost use Rattle.pgm_header.specs.declared.accepted.TheConstants.{GREATEST_LEVEL};
+ghost use Rattle.obj_write.specs.declared.mesh.TheConstants.{GREATEST_SPACING};
 ghost use Rattle.obj_write.specs.Numbers.{numbers_of};
 ghost use Rattle.obj_write.specs.Page.{Passed, Broken};
 ghost use Rattle.obj_write.specs.Written.{mesh_with, Grows, GrowsByPart, IsPartOfMesh};
 ghost use Rattle.obj_write.specs.MeshView.{view_text, IsView, IsShown, vertex_lines, group_text};
 ghost use Rattle.obj_write.specs.VertexMarks.{place_point, is_vertex};
+ghost use Rattle.obj_write.specs.declared.page.TheConstants.{LONGEST_LINE};
 
 use crate::page::{Page, write_numbers, write_rest, write_text};
-use crate::vertices::{place, side};
+use crate::vertices::place;
 use arrayvec::ArrayVec;
 use bintree_addr::{Point, Tri};
 use cull_marks::Planes;
 use mesh_defs::Mark;
+use pgm_grid::side_for;
 use roam_edge::{Failed, MeshSink};
 use wedgie_tree::Wedges;
+
+/// The most world units that a grid step has.
+pub const GREATEST_SPACING: u32 = 1024;
 
 /// A mesh as it is to be written.
 #[derive(Clone, Copy)]
@@ -52,7 +59,7 @@ pub fn write_mesh<M: MeshSink>(
     requires levels { All (λ a. level_of a ≤ 2 * view.now.wedges.now.n) view.now.leaves.now }
     requires numbers { view.now.numbers.now ≡ numbers_of view.now.wedges.now.n view.now.leaves.now }
     requires spacing_low { 1 ≤ view.now.spacing }
-    requires spacing_high { view.now.spacing ≤ 1024 }
+    requires spacing_high { view.now.spacing ≤ GREATEST_SPACING }
     requires idle { M.under_way out.old ≡ false }
     requires prefix_some { 0 < length prefix.now }
     requires prefix_short { length prefix.now ≤ 200 }
@@ -120,12 +127,12 @@ fn write_vertices<M: MeshSink>(
 
 /// The point at a place.
 fn point_at(n: u32, at: usize) -> Point
-    requires in_grid { n ≤ 11 }
+    requires in_grid { n ≤ GREATEST_LEVEL }
     requires below { at < side_of n * side_of n }
     ensures value { result ≡ place_point n at }
     ensures within { IsInSquare (2 ^ n) result }
 {
-    let side = side(n);
+    let side = side_for(n);
     Point {
         x: (at % side) as u32,
         y: (at / side) as u32,
@@ -251,7 +258,7 @@ fn is_before(before: Option<Mark>, mark: Mark) -> bool
 /// The group line of a mark.
 fn group_text(mark: Mark) -> &'static [u8]
     ensures value { result.now ≡ group_text mark }
-    ensures short { length result.now ≤ 65 }
+    ensures short { length result.now ≤ LONGEST_LINE }
 {
     match mark {
         Mark::Inside => b"g inside\n",

@@ -1,20 +1,22 @@
 //! A page of text on the stack, which is handed to the sink when it is full.
 
-ghost use Rattle.std.specs.Prelude.{◌≡◌, ◌+◌, ◌<◌, ◌≤◌, ◌++◌, [], true, ℕ, length, decimal, OnOk, OnErr};
+ghost use Rattle.std.specs.Prelude.{◌≡◌, ◌+◌, ◌<◌, ◌≤◌, ◌++◌, [], true, ℕ, length, OnOk, OnErr};
 ghost use Rattle.arrayvec.specs.ArrayVec.{array_vec_len};
 ghost use Rattle.mesh_defs.specs.MeshText.{numbers_line};
 ghost use Rattle.roam_edge.specs.Fault.{HasCause};
 ghost use Rattle.roam_edge.specs.MeshSink.{Writes};
 ghost use Rattle.obj_write.specs.Page.{Passed, Broken};
+ghost use Rattle.obj_write.specs.declared.page.TheConstants.{PAGE_ROOM, LONGEST_LINE};
 
 use arrayvec::ArrayVec;
 use roam_edge::{Failed, MeshSink};
+use roam_num::{push_bytes, push_number};
 
 /// How many bytes a page has room for: a piece that the sink gets is at least half of it, but for the last.
 pub(crate) const PAGE_ROOM: usize = 16384;
 
 /// No line is longer: a letter, three blanks, three numbers of at most 20 digits, and the line's end.
-const LONGEST_LINE: usize = 65;
+pub(crate) const LONGEST_LINE: usize = 65;
 
 /// Text that the sink has not got yet.
 pub(crate) type Page = ArrayVec<u8, PAGE_ROOM>;
@@ -47,7 +49,7 @@ pub(crate) fn write_text<M: MeshSink>(
     text: &[u8],
 ) -> Result<(), Failed>
     requires under_way { M.under_way out.old ≡ true }
-    requires short { length text.now ≤ 65 }
+    requires short { length text.now ≤ LONGEST_LINE }
     ensures ok { OnOk result (Passed (M.meshes out.old) (M.meshes out.new) page.old.items page.new.items text.now) }
     ensures err { OnErr result (Broken (M.meshes out.old) (M.meshes out.new) page.old.items) }
     ensures under_way { M.under_way out.new ≡ true }
@@ -61,7 +63,7 @@ pub(crate) fn write_text<M: MeshSink>(
 /// Hands a page to the sink that has no room for a longest line.
 fn make_room<M: MeshSink>(page: &mut Page, out: &mut M) -> Result<(), Failed>
     requires { M.under_way out.old ≡ true }
-    ensures room { OnOk result (array_vec_len page.new + 65 ≤ 16384) }
+    ensures room { OnOk result (array_vec_len page.new + LONGEST_LINE ≤ PAGE_ROOM) }
     ensures ok { OnOk result (Passed (M.meshes out.old) (M.meshes out.new) page.old.items page.new.items []) }
     ensures err { OnErr result (Broken (M.meshes out.old) (M.meshes out.new) page.old.items) }
     ensures under_way { M.under_way out.new ≡ true }
@@ -91,7 +93,7 @@ pub(crate) fn write_rest<M: MeshSink>(page: &Page, out: &mut M) -> Result<(), Fa
 
 /// Appends a line of three numbers behind a letter, with one blank before each.
 fn push_numbers(page: &mut Page, letter: u8, first: u64, second: u64, third: u64)
-    requires room { array_vec_len page.old + 65 ≤ 16384 }
+    requires room { array_vec_len page.old + LONGEST_LINE ≤ PAGE_ROOM }
     ensures { page.new.items ≡ page.old.items ++ numbers_line letter first second third }
 {
     push_bytes(page, &[letter]);
@@ -102,23 +104,4 @@ fn push_numbers(page: &mut Page, letter: u8, first: u64, second: u64, third: u64
     push_bytes(page, b" ");
     push_number(page, third);
     push_bytes(page, b"\n");
-}
-
-/// Appends a number in decimal.
-fn push_number(page: &mut Page, number: u64)
-    requires room { array_vec_len page.old + 20 ≤ 16384 }
-    ensures items { page.new.items ≡ page.old.items ++ decimal number }
-    ensures len { array_vec_len page.new ≤ array_vec_len page.old + 20 }
-{
-    let mut digits = itoa::Buffer::new();
-    push_bytes(page, digits.format(number).as_bytes());
-}
-
-/// Appends bytes.
-fn push_bytes(page: &mut Page, bytes: &[u8])
-    requires room { array_vec_len page.old + length bytes.now ≤ 16384 }
-    ensures items { page.new.items ≡ page.old.items ++ bytes.now }
-    ensures len { array_vec_len page.new ≡ array_vec_len page.old + length bytes.now }
-{
-    page.try_extend_from_slice(bytes).unwrap()
 }

@@ -81,7 +81,7 @@ fn write_to<M: MeshSink>(
     assert!(rt; 1 <= spacing && spacing <= 1024);
     let n = wedges.grid().n();
     let leaves = leaves_of(rt, alloc, n, numbers)?;
-    let mut vertex_numbers = vec![in alloc; 0; wedges.grid().heights().len()]?;
+    let mut vertex_numbers = vec![in alloc; 0; wedges.grid().points()]?;
     number_vertices(leaves.as_slice(), n, vertex_numbers.as_mut_slice());
     let view = MeshView {
         wedges,
