@@ -1,0 +1,132 @@
+-- Acts that stand, one after another, and acts that were cut short.
+use Rattle.std.proofs.Common.{◌≡◌, ℕ, true, List, [], ◌∷◌, ◌++◌, Option, Some, refl, sym, ◌∙◌, ap, append_assoc, append-nil}
+use Rattle.roam_edge.specs.MeshSink.{Mesh}
+use Rattle.roam_edge.specs.Told.{IsFront}
+use Rattle.obj_write.specs.Written.{mesh_with, Grows, IsPartOfMesh}
+use Rattle.run_laws.specs.Act.{Act, WholeMesh, ReportText, Told, Stands, IsCutShort, StandsInPart, meshes_of, report_of, told}
+
+-- nothing came
+pub grows-nothing : {A : Type 0} (before : Option (List A)) → Grows before before []
+grows-nothing before all is = is ∙ ap Some (sym (append-nil all))
+
+-- one and then more came
+pub grows-append : {A : Type 0} (before middle now : Option (List A)) (first second : List A)
+    → Grows before middle first → Grows middle now second → Grows before now (first ++ second)
+grows-append before middle now first second one two all is =
+    two (all ++ first) (one all is) ∙ ap Some (append_assoc all first second)
+
+pub meshes_of-append : (first second : List Act) → meshes_of (first ++ second) ≡ meshes_of first ++ meshes_of second
+meshes_of-append [] second = refl
+meshes_of-append (WholeMesh prefix number bytes ∷ first) second = ap (λ m. mesh_with prefix number bytes true ∷ m) (meshes_of-append first second)
+meshes_of-append (ReportText bytes ∷ first) second = meshes_of-append first second
+
+pub report_of-append : (first second : List Act) → report_of (first ++ second) ≡ report_of first ++ report_of second
+report_of-append [] second = refl
+report_of-append (WholeMesh prefix number bytes ∷ first) second = report_of-append first second
+report_of-append (ReportText bytes ∷ first) second =
+    ap (λ m. bytes ++ m) (report_of-append first second) ∙ sym (append_assoc bytes (report_of first) (report_of second))
+
+-- no act was done
+pub stands-nothing : (before : Told) → Stands before before []
+stands-nothing before = record { meshes_grow = grows-nothing before.meshes; report_grows = grows-nothing before.report }
+
+-- acts were done, and then others
+pub stands-append : (before middle now : Told) (first second : List Act)
+    → Stands before middle first → Stands middle now second → Stands before now (first ++ second)
+stands-append before middle now first second one two = record {
+  meshes_grow = rw (meshes_of-append first second) (grows-append before.meshes middle.meshes now.meshes (meshes_of first) (meshes_of second) one.meshes_grow two.meshes_grow);
+  report_grows = rw (report_of-append first second) (grows-append before.report middle.report now.report (report_of first) (report_of second) one.report_grows two.report_grows);
+}
+
+-- acts were done, and then an act in part
+pub part-append : (before middle now : Told) (first done : List Act) (next : Act)
+    → Stands before middle first → StandsInPart middle now done next → StandsInPart before now (first ++ done) next
+part-append before middle now first done (WholeMesh prefix number bytes) one part = (
+  λ all is.
+      let cut = part.0 (all ++ meshes_of first) (one.meshes_grow all is) in (
+        cut.0,
+        cut.1,
+        cut.2 ∙ ap Some (append_assoc all (meshes_of first) (meshes_of done ++ cut.0)
+            ∙ ap (λ m. all ++ m) (sym (append_assoc (meshes_of first) (meshes_of done) cut.0)
+            ∙ ap (λ m. m ++ cut.0) (sym (meshes_of-append first done)))),
+      ),
+  rw (report_of-append first done) (grows-append before.report middle.report now.report (report_of first) (report_of done) one.report_grows part.1),
+)
+part-append before middle now first done (ReportText bytes) one part = (
+  rw (meshes_of-append first done) (grows-append before.meshes middle.meshes now.meshes (meshes_of first) (meshes_of done) one.meshes_grow part.0),
+  λ all is.
+      let cut = part.1 (all ++ report_of first) (one.report_grows all is) in (
+        cut.0,
+        cut.1,
+        cut.2 ∙ ap Some (append_assoc all (report_of first) (report_of done ++ cut.0)
+            ∙ ap (λ m. all ++ m) (sym (append_assoc (report_of first) (report_of done) cut.0)
+            ∙ ap (λ m. m ++ cut.0) (sym (report_of-append first done)))),
+      ),
+)
+
+-- acts were done, and then others were cut short
+pub cut-append : (before middle now : Told) (first second : List Act)
+    → Stands before middle first → IsCutShort middle now second → IsCutShort before now (first ++ second)
+cut-append before middle now first second one cut = record {
+  done = first ++ cut.done;
+  next = cut.next;
+  owed = cut.owed;
+  in_order = ap (λ m. first ++ m) cut.in_order ∙ sym (append_assoc first cut.done (cut.next ∷ cut.owed));
+  standing = part-append before middle now first cut.done cut.next one cut.standing;
+}
+
+-- acts were cut short, and more were owed behind them
+pub cut-longer : (before now : Told) (acts more : List Act) → IsCutShort before now acts → IsCutShort before now (acts ++ more)
+cut-longer before now acts more cut = record {
+  done = cut.done;
+  next = cut.next;
+  owed = cut.owed ++ more;
+  in_order = ap (λ m. m ++ more) cut.in_order ∙ append_assoc cut.done (cut.next ∷ cut.owed) more;
+  standing = cut.standing;
+}
+
+-- a mesh was cut short, and nothing else was done
+pub cut-mesh : (meshes meshes' : Option (List Mesh)) (report : Option (List ℕ)) (prefix : List ℕ) (number : ℕ) (bytes : List ℕ) (owed : List Act)
+    → ((all : List Mesh) → meshes ≡ Some all → (part : List Mesh) × IsPartOfMesh prefix number bytes part × (meshes' ≡ Some (all ++ part)))
+    → IsCutShort (told meshes report) (told meshes' report) (WholeMesh prefix number bytes ∷ owed)
+cut-mesh meshes meshes' report prefix number bytes owed part = record {
+  done = [];
+  next = WholeMesh prefix number bytes;
+  owed = owed;
+  in_order = refl;
+  standing = (part, grows-nothing report);
+}
+
+-- a mesh was written whole, and then a line was cut short
+pub cut-line : (meshes meshes' : Option (List Mesh)) (report report' : Option (List ℕ)) (prefix : List ℕ) (number : ℕ) (bytes line : List ℕ)
+    → Grows meshes meshes' (mesh_with prefix number bytes true ∷ [])
+    → ((all : List ℕ) → report ≡ Some all → (front : List ℕ) × IsFront front line × (report' ≡ Some (all ++ front)))
+    → IsCutShort (told meshes report) (told meshes' report') (WholeMesh prefix number bytes ∷ (ReportText line ∷ []))
+cut-line meshes meshes' report report' prefix number bytes line whole part = record {
+  done = WholeMesh prefix number bytes ∷ [];
+  next = ReportText line;
+  owed = [];
+  in_order = refl;
+  standing = (whole, part);
+}
+
+-- a line was cut short, and nothing else was done
+pub cut-only-line : (meshes : Option (List Mesh)) (report report' : Option (List ℕ)) (line : List ℕ) (owed : List Act)
+    → ((all : List ℕ) → report ≡ Some all → (front : List ℕ) × IsFront front line × (report' ≡ Some (all ++ front)))
+    → IsCutShort (told meshes report) (told meshes report') (ReportText line ∷ owed)
+cut-only-line meshes report report' line owed part = record {
+  done = [];
+  next = ReportText line;
+  owed = owed;
+  in_order = refl;
+  standing = (grows-nothing meshes, part);
+}
+
+-- a text was written
+pub stands-text : (meshes : Option (List Mesh)) (report report' : Option (List ℕ)) (text : List ℕ)
+    → ((all : List ℕ) → report ≡ Some all → report' ≡ Some (all ++ text))
+    → Stands (told meshes report) (told meshes report') (ReportText text ∷ [])
+stands-text meshes report report' text came = record {
+  meshes_grow = grows-nothing meshes;
+  report_grows = λ all is. came all is ∙ ap (λ m. Some (all ++ m)) (sym (append-nil text));
+}

@@ -1,0 +1,188 @@
+-- Outcomes: there is one, it exists, what is accepted ends with Done, and its pictures are certified.
+use Rattle.std.proofs.Common.{◌≡◌, ℕ, ◌≤◌, ◌&&◌, Bool, true, false, nat_le, if◌then◌else◌, IsTrue, is_some, List, [], ◌∷◌, All, Option, Some, None, IfSome, Result, Ok, Err, refl, sym, ◌∙◌, ap, subst, inl, inr, codes, bytes_eq}
+use Rattle.std.specs.List.{AllByRecursion}
+use Rattle.std.proofs.lemmas.List.Elements.{All-from_recursion}
+use Rattle.std.proofs.lemmas.Bool.Decides.{leb_tells}
+use Rattle.std.proofs.lemmas.Option.{none-some}
+use Rattle.mesh_defs.specs.HeightField.{HeightField}
+use Rattle.mesh_defs.specs.State.{State, start_state}
+use Rattle.roam_edge.specs.Shelf.{NamedFile, bytes_of}
+use Rattle.roam_num.specs.DecText.{number_in}
+use Rattle.pgm_grid.specs.declared.fault.PgmFault.{PgmFault}
+use Rattle.pgm_grid.specs.Progress.{grid_of}
+use Rattle.pgm_grid.specs.Laws.{TextsAreRead}
+use Rattle.run_laws.specs.declared.status.Status.TheVariants.{Done, Usage, GridRefused}
+use Rattle.run_laws.specs.Walk.{Walk, start_walk}
+use Rattle.run_laws.specs.Words.{Show, AsMeshes, Scripted, Job, Frames, Facts, Command, OnGrid, within, budget_word, spacing_word, is_prefix, frames_command, meshes_command, command_of}
+use Rattle.run_laws.specs.Picture.{Picture, ArePictures, IsCertified}
+use Rattle.run_laws.specs.ReportText.{info_line, grid_refusal}
+use Rattle.run_laws.specs.Outcome.{Outcome, plain_outcome, text_outcome, stop_status, frames_outcome, script_walk, HasOneOutcome, IsFramesOutcome, IsScriptOutcome, IsJobOutcome, IsGridOutcome, IsCommandOutcome, IsWordsOutcome, IsOutcome}
+use Rattle.run_laws.specs.Promise.{IsAcceptedJob, IsAcceptedInput, IsAccepted}
+use Rattle.run_laws.specs.Laws.{FramesExist, AreStates, BudgetsAreTwo}
+use Rattle.run_laws.proofs.PictureLemmas.{FramesAreUnique, SetsAreLists, ArePictures-unique, pictures_of}
+use Rattle.run_laws.proofs.WalkLemmas.{walk_of-states}
+
+-- what is accepted ends with Done
+
+status-of : (end made : Outcome) → end ≡ made → end.status ≡ made.status
+status-of end made e = ap (λ (o : Outcome). o.status) e
+
+job-done : (job : Job) (grid : HeightField) (files : List NamedFile) (end : Outcome) → IsAcceptedJob job grid files → IsJobOutcome job grid files end → end.status ≡ Done
+job-done (Frames s) grid files end good is = status-of end _ is.2 ∙ ap stop_status good
+job-done Facts grid files end good is = status-of end _ is
+
+command-done : TextsAreRead → (command : Command) (files : List NamedFile) (end : Outcome) → IsAcceptedInput command files → IsCommandOutcome command files end → end.status ≡ Done
+command-done read (OnGrid name job) files end good is =
+    let P : Result HeightField PgmFault → Type 0 = λ r. IsGridOutcome job r files end in
+    job-done job good.0 files end good.3 (subst P (read good.0 (bytes_of files name) good.1 good.2) is)
+
+pub outcome-done : TextsAreRead → (words : List (List ℕ)) (files : List NamedFile) (end : Outcome) → IsAccepted words files → IsOutcome words files end → end.status ≡ Done
+unfolding IsOutcome
+outcome-done read words files end good is =
+    let P : Option Command → Type 0 = λ c. IsWordsOutcome c files end in
+    command-done read good.0 files end good.2 (subst P good.1 is)
+
+-- there is one outcome
+
+pub frames_outcome-unique : FramesAreUnique → SetsAreLists → (show : Show) (files : ℕ) (walk : Walk) (end other : Outcome)
+    → IsFramesOutcome show files walk end → IsFramesOutcome show files walk other → end ≡ other
+frames_outcome-unique one lists show files walk end other f g =
+    f.2 ∙ (ap (λ (ps : List Picture). frames_outcome show files walk ps) (ArePictures-unique one lists show [] walk.frames f.0 g.0 f.1 g.1) ∙ sym g.2)
+
+job-unique : FramesAreUnique → SetsAreLists → (job : Job) (r : Result HeightField PgmFault) (files : List NamedFile) (end other : Outcome)
+    → IsGridOutcome job r files end → IsGridOutcome job r files other → end ≡ other
+job-unique one lists (Frames s) (Ok grid) files end other f g = frames_outcome-unique one lists s.show 2 (script_walk s grid (bytes_of files s.script)) end other f g
+job-unique one lists Facts (Ok grid) files end other f g = f ∙ sym g
+job-unique one lists (Frames s) (Err fault) files end other f g = f ∙ sym g
+job-unique one lists Facts (Err fault) files end other f g = f ∙ sym g
+
+words-unique : FramesAreUnique → SetsAreLists → (command : Option Command) (files : List NamedFile) (end other : Outcome)
+    → IsWordsOutcome command files end → IsWordsOutcome command files other → end ≡ other
+words-unique one lists None files end other f g = f ∙ sym g
+words-unique one lists (Some (OnGrid name job)) files end other f g = job-unique one lists job (grid_of (bytes_of files name)) files end other f g
+
+pub outcome-unique : FramesAreUnique → SetsAreLists → (words : List (List ℕ)) (files : List NamedFile) (end other : Outcome) → HasOneOutcome (command_of words)
+    → IsOutcome words files end → IsOutcome words files other → end ≡ other
+unfolding IsOutcome
+outcome-unique one lists words files end other free f g = words-unique one lists (command_of words) files end other f g
+
+-- the budget of a command is at least 2
+
+-- a value that stands behind a test, which was met
+met : {A : Type 0} (test : Bool) (there : Option A) (found : A) → (if test then there else None) ≡ Some found → there ≡ Some found
+met true there found is = is
+met false there found is = absurd (none-some found is)
+
+-- a number within bounds is at least the lower one
+within-low : (low high number : ℕ) (from : Option ℕ) → within low high from ≡ Some number → low ≤ number
+within-low low high number None is = absurd (none-some number is)
+within-low low high number (Some found) is =
+    let P : Option ℕ → Type 0 = λ o. IfSome o (λ k. low ≤ k) in
+    let Q : Bool → Type 0 = λ b. (if b && nat_le found high then Some found else None) ≡ Some number in
+    elim (leb_tells low found) [
+      | inl p ↦ subst P (met (nat_le low found && nat_le found high) (Some found) number is) p.1
+      | inr p ↦ absurd (none-some number (subst Q p.0 is))
+    ]
+
+-- of a job, that a budget is at least 2
+abbrev pub HasBudget : Job → Type 0
+HasBudget (Frames s) = 2 ≤ s.budget
+HasBudget Facts = Unit {0}
+
+abbrev CommandHasBudget : Command → Type 0
+CommandHasBudget (OnGrid name job) = HasBudget job
+
+frames_command-budget : (i j : List ℕ) (show : Show) (budget spacing : Option ℕ) (command : Command) → ((number : ℕ) → budget ≡ Some number → 2 ≤ number)
+    → frames_command i j show budget spacing ≡ Some command → CommandHasBudget command
+frames_command-budget i j show None spacing command low is = absurd (none-some command is)
+frames_command-budget i j show (Some budget) None command low is = absurd (none-some command is)
+frames_command-budget i j show (Some budget) (Some spacing) command low is =
+    let P : Option Command → Type 0 = λ c. IfSome c CommandHasBudget in
+    subst P is (low budget refl)
+
+words-budget : (words : List (List ℕ)) (command : Command) → command_of words ≡ Some command → CommandHasBudget command
+words-budget [] command is = absurd (none-some command is)
+words-budget (word ∷ []) command is = absurd (none-some command is)
+words-budget (word ∷ (i ∷ [])) command is =
+    let P : Option Command → Type 0 = λ c. IfSome c CommandHasBudget in
+    subst P (met (bytes_eq word (codes "info")) (Some (OnGrid i Facts)) command is) tt
+words-budget (word ∷ (i ∷ (j ∷ []))) command is = absurd (none-some command is)
+words-budget (word ∷ (i ∷ (j ∷ (k ∷ [])))) command is = absurd (none-some command is)
+words-budget (word ∷ (i ∷ (j ∷ (k ∷ (l ∷ []))))) command is = absurd (none-some command is)
+words-budget (word ∷ (i ∷ (j ∷ (k ∷ (l ∷ (m ∷ [])))))) command is =
+    frames_command-budget i j (AsMeshes k) (budget_word l) (spacing_word m) command
+    (λ number found. within-low 2 1048576 number (number_in 19 l) found)
+    (met (bytes_eq word (codes "mesh")) (frames_command i j (AsMeshes k) (budget_word l) (spacing_word m)) command
+    (met (is_prefix k) (meshes_command word i j k l m) command is))
+words-budget (word ∷ (i ∷ (j ∷ (k ∷ (l ∷ (m ∷ (more ∷ words))))))) command is = absurd (none-some command is)
+
+-- the budget of a job of words is at least 2
+pub command-budget : (words : List (List ℕ)) (name : List ℕ) (job : Job) → command_of words ≡ Some (OnGrid name job) → HasBudget job
+command-budget words name job is = words-budget words (OnGrid name job) is
+
+-- the walk of a script from a budget of at least 2
+
+pub script-states : BudgetsAreTwo → (s : Scripted) (grid : HeightField) (script : List ℕ) → 2 ≤ s.budget → AreStates grid.n (script_walk s grid script).frames
+script-states two s grid script low =
+    (walk_of-states two grid.n (start_walk s.budget (start_state grid s.spacing s.budget)) script (record { level = refl; low = low; frames = tt })).frames
+
+-- an outcome exists
+
+pub script_outcome-exists : BudgetsAreTwo → FramesExist → (s : Scripted) (grid : HeightField) (script : List ℕ) → 2 ≤ s.budget
+    → (end : Outcome) × IsScriptOutcome s grid script end
+script_outcome-exists two frames s grid script low =
+    let ps = pictures_of frames s.show grid.n [] (script_walk s grid script).frames (script-states two s grid script low) in
+    (frames_outcome s.show 2 (script_walk s grid script) ps.0, (ps.0, ps.1, refl))
+
+job-exists : BudgetsAreTwo → FramesExist → (job : Job) (r : Result HeightField PgmFault) (files : List NamedFile) → HasBudget job
+    → (end : Outcome) × IsGridOutcome job r files end
+job-exists two frames (Frames s) (Ok grid) files low = script_outcome-exists two frames s grid (bytes_of files s.script) low
+job-exists two frames Facts (Ok grid) files low = (text_outcome (info_line grid) Done 1, refl)
+job-exists two frames (Frames s) (Err fault) files low = (text_outcome (grid_refusal fault) GridRefused 1, refl)
+job-exists two frames Facts (Err fault) files low = (text_outcome (grid_refusal fault) GridRefused 1, refl)
+
+words-exist : BudgetsAreTwo → FramesExist → (command : Option Command) (files : List NamedFile) → ((c : Command) → command ≡ Some c → CommandHasBudget c)
+    → (end : Outcome) × IsWordsOutcome command files end
+words-exist two frames None files low = (plain_outcome [] Usage 0, refl)
+words-exist two frames (Some (OnGrid name job)) files low = job-exists two frames job (grid_of (bytes_of files name)) files (low (OnGrid name job) refl)
+
+pub outcome-exists : BudgetsAreTwo → FramesExist → (words : List (List ℕ)) (files : List NamedFile) → (end : Outcome) × IsOutcome words files end
+unfolding IsOutcome
+outcome-exists two frames words files = words-exist two frames (command_of words) files (λ c is. words-budget words c is)
+
+-- what an outcome's pictures tell is certified
+
+-- each picture of states with a budget of at least 2 is certified
+abbrev pub MeshesAreCertified : Type 0
+MeshesAreCertified = (prefix before : List ℕ) (n : ℕ) (states : List State) (ps : List Picture) → AreStates n states
+    → ArePictures (AsMeshes prefix) before states ps → AllByRecursion IsCertified ps
+
+shown-certified : MeshesAreCertified → (show : Show) (n files : ℕ) (walk : Walk) (end : Outcome) → AreStates n walk.frames
+    → IsFramesOutcome show files walk end → AllByRecursion IsCertified end.pictures
+shown-certified one (AsMeshes prefix) n files walk end low is =
+    let P : Outcome → Type 0 = λ o. AllByRecursion IsCertified o.pictures in
+    subst P (sym is.2) (one prefix [] n walk.frames is.0 low is.1)
+
+job-certified : BudgetsAreTwo → MeshesAreCertified → (job : Job) (r : Result HeightField PgmFault) (files : List NamedFile) (end : Outcome) → HasBudget job
+    → IsTrue (is_some end.engine) → IsGridOutcome job r files end → AllByRecursion IsCertified end.pictures
+job-certified two one (Frames s) (Ok grid) files end low some is =
+    shown-certified one s.show grid.n 2 (script_walk s grid (bytes_of files s.script)) end (script-states two s grid (bytes_of files s.script) low) is
+job-certified two one Facts (Ok grid) files end low some is =
+    let P : Outcome → Type 0 = λ o. AllByRecursion IsCertified o.pictures in subst P (sym is) tt
+job-certified two one (Frames s) (Err fault) files end low some is =
+    let P : Outcome → Type 0 = λ o. AllByRecursion IsCertified o.pictures in subst P (sym is) tt
+job-certified two one Facts (Err fault) files end low some is =
+    let P : Outcome → Type 0 = λ o. AllByRecursion IsCertified o.pictures in subst P (sym is) tt
+
+words-certified : BudgetsAreTwo → MeshesAreCertified → (command : Option Command) (files : List NamedFile) (end : Outcome) → ((c : Command) → command ≡ Some c → CommandHasBudget c)
+    → IsTrue (is_some end.engine) → IsWordsOutcome command files end → AllByRecursion IsCertified end.pictures
+words-certified two one None files end low some is =
+    let P : Outcome → Type 0 = λ o. AllByRecursion IsCertified o.pictures in subst P (sym is) tt
+words-certified two one (Some (OnGrid name job)) files end low some is =
+    job-certified two one job (grid_of (bytes_of files name)) files end (low (OnGrid name job) refl) some is
+
+pub outcome-certified : BudgetsAreTwo → MeshesAreCertified → (words : List (List ℕ)) (files : List NamedFile) (end : Outcome)
+    → IsTrue (is_some end.engine) → IsOutcome words files end → All IsCertified end.pictures
+unfolding IsOutcome
+outcome-certified two one words files end some is =
+    All-from_recursion IsCertified end.pictures (words-certified two one (command_of words) files end (λ c e. words-budget words c e) some is)

@@ -1,0 +1,57 @@
+-- What a run does to the outside: a list of acts, each a whole mesh or a text at the end of the report.
+-- This project's own words.
+-- Words: Act, meshes_of, report_of, Told, told, Stands, StandsInPart, IsCutShort.
+use Rattle.std.specs.Prelude.{◌≡◌, ℕ, true, List, [], ◌∷◌, ◌++◌, Option, Some}
+use Rattle.roam_edge.specs.MeshSink.{Mesh}
+use Rattle.roam_edge.specs.Told.{IsFront}
+use Rattle.obj_write.specs.Written.{mesh_with, Grows, IsPartOfMesh}
+
+-- a whole mesh, written and finished; or a text at the end of the report
+pub data Act : Type 0 where
+  WholeMesh : (prefix : List ℕ) (number : ℕ) (bytes : List ℕ) → Act
+  ReportText : (bytes : List ℕ) → Act
+
+-- the meshes that the acts add
+abbrev pub meshes_of : List Act → List Mesh
+meshes_of [] = []
+meshes_of (WholeMesh prefix number bytes ∷ acts) = mesh_with prefix number bytes true ∷ meshes_of acts
+meshes_of (ReportText bytes ∷ acts) = meshes_of acts
+
+-- the bytes that the acts add to the report
+abbrev pub report_of : List Act → List ℕ
+report_of [] = []
+report_of (WholeMesh prefix number bytes ∷ acts) = report_of acts
+report_of (ReportText bytes ∷ acts) = bytes ++ report_of acts
+
+-- what a sink of meshes and a report tell at one moment
+pub record Told : Type 0 where
+  pub meshes : Option (List Mesh)
+  pub report : Option (List ℕ)
+
+abbrev pub told : Option (List Mesh) → Option (List ℕ) → Told
+told all_meshes all_bytes = record { meshes = all_meshes; report = all_bytes }
+
+-- These acts were added to meshes and report, in order, and nothing else.
+pub record Stands (before now : Told) (acts : List Act) : Type 0 where
+  pub meshes_grow : Grows before.meshes now.meshes (meshes_of acts)
+  pub report_grows : Grows before.report now.report (report_of acts)
+
+-- the acts done were added, and a part of the next one
+abbrev pub StandsInPart : Told → Told → List Act → Act → Type 0
+StandsInPart before now done (WholeMesh prefix number bytes) =
+    ((all : List Mesh) → before.meshes ≡ Some all → (part : List Mesh) × IsPartOfMesh prefix number bytes part
+    × (now.meshes ≡ Some (all ++ (meshes_of done ++ part))))
+    × Grows before.report now.report (report_of done)
+StandsInPart before now done (ReportText bytes) =
+    Grows before.meshes now.meshes (meshes_of done)
+    × ((all : List ℕ) → before.report ≡ Some all → (front : List ℕ) × IsFront front bytes
+    × (now.report ≡ Some (all ++ (report_of done ++ front))))
+
+-- The acts were cut short: some were added whole and in order, and of the next one a part. So a mesh that
+-- was finished stays, and an unfinished mesh or a cut text is a prefix of what was owed.
+pub record IsCutShort (before now : Told) (acts : List Act) : Type 0 where
+  pub done : List Act
+  pub next : Act
+  pub owed : List Act
+  pub in_order : acts ≡ done ++ next ∷ owed
+  pub standing : StandsInPart before now done next

@@ -1,0 +1,54 @@
+-- The headline: each frame's mesh is a best mesh within the budget in force, whatever the mesh before.
+-- Words: IsBestIn, IsGoodText, IsGoodFrame, AreGoodFrames, IsRunOf, KeepsGoodMeshes.
+use Rattle.std.specs.Prelude.{◌≡◌, ⊤, ℕ, ◌+◌, true, IsTrue, IsSome, List, [], ◌∷◌, ◌++◌, length, All, Option, Some}
+use Rattle.mesh_defs.specs.HeightField.{HeightField, IsHeightField}
+use Rattle.mesh_defs.specs.BestMesh.{IsBestMesh}
+use Rattle.mesh_defs.specs.State.{State, priority_in, text_in}
+use Rattle.roam_edge.specs.MeshSink.{Mesh}
+use Rattle.roam_edge.specs.Shelf.{NamedFile, bytes_of}
+use Rattle.pgm_grid.specs.PgmText.{IsFileText}
+use Rattle.run_laws.specs.declared.status.Status.{Status}
+use Rattle.run_laws.specs.Words.{Show, AsMeshes, Scripted, Frames, OnGrid, prefix_of, command_of}
+use Rattle.run_laws.specs.Outcome.{script_walk}
+use Rattle.run_laws.specs.Promise.{ends_script}
+
+-- the list is a best mesh of the state within the budget in force
+abbrev pub IsBestIn : State → List ℕ → Type 0
+IsBestIn state triangles = IsBestMesh state.grid.n state.budget (priority_in state) triangles
+
+-- The bytes are the text of what is shown of a state: its best mesh.
+abbrev pub IsGoodText : Show → State → List ℕ → Type 0
+IsGoodText (AsMeshes prefix) state bytes = (triangles : List ℕ) × IsBestIn state triangles × (bytes ≡ text_in state triangles)
+
+-- The mesh has this number and the prefix of the words, and its bytes are right for this state.
+pub record IsGoodFrame (show : Show) (number : ℕ) (state : State) (mesh : Mesh) : Type 0 where
+  pub named : prefix_of show ≡ Some mesh.prefix
+  pub numbered : mesh.number ≡ number
+  pub text : IsGoodText show state mesh.bytes
+
+-- The meshes are those of the first of the states, in order, numbered from this number on, and each that is
+-- finished is good. There is no mesh without a state.
+abbrev pub AreGoodFrames : Show → ℕ → List State → List Mesh → Type 0
+AreGoodFrames show number states [] = ⊤
+AreGoodFrames show number [] (mesh ∷ meshes) = ⊥
+AreGoodFrames show number (state ∷ states) (mesh ∷ meshes) =
+    (mesh.finished ≡ true → IsGoodFrame show number state mesh) × AreGoodFrames show (number + 1) states meshes
+
+-- The words are a command that writes a mesh for each frame of a script; the file of its grid is a text of
+-- this grid.
+pub record IsRunOf (words : List (List ℕ)) (files : List NamedFile) (s : Scripted) (grid : HeightField) : Type 0 where
+  pub grid_name : List ℕ
+  pub is_command : command_of words ≡ Some (OnGrid grid_name (Frames s))
+  pub meshes : IsSome (prefix_of s.show)
+  pub valid : IsHeightField grid
+  pub file_text : IsFileText grid (bytes_of files grid_name)
+
+-- The meshes that were there stay, and behind them came good frames, those of the first frame lines in order,
+-- each seen in the state at its line; and where the script was carried out to its end or its refusal, one for
+-- each frame line, all finished.
+pub record KeepsGoodMeshes (s : Scripted) (grid : HeightField) (script : List ℕ) (before : List Mesh) (now : Option (List Mesh)) (status : Status) : Type 0 where
+  pub added : List Mesh
+  pub behind : now ≡ Some (before ++ added)
+  pub frames : AreGoodFrames s.show 1 (script_walk s grid script).frames added
+  pub all_frames : IsTrue (ends_script status) → length added ≡ length (script_walk s grid script).frames
+  pub all_finished : IsTrue (ends_script status) → All (λ (mesh : Mesh). mesh.finished ≡ true) added

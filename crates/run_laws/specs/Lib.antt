@@ -1,0 +1,12 @@
+pub mod Walk
+pub mod Words
+pub mod Picture
+pub mod ReportText
+pub mod Act
+pub mod Outcome
+pub mod Promise
+pub mod Headline
+pub mod Cause
+pub mod Step
+pub mod Laws
+pub mod Examples

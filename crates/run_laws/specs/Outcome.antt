@@ -1,0 +1,131 @@
+-- The outcome of a run: what its words and the files that they name determine. This project's own.
+-- Words: EngineEnd, Outcome, plain_outcome, text_outcome, picture_acts, shown_acts, sum_acts, stop_acts, stop_status,
+-- engine_end, frames_outcome, IsFramesOutcome, script_walk, IsScriptOutcome, IsJobOutcome, IsGridOutcome,
+-- IsCommandOutcome, IsWordsOutcome, IsOutcome, HasOneOutcome.
+use Rattle.std.specs.Prelude.{◌≡◌, ⊤, ℕ, ◌+◌, List, [], ◌∷◌, ◌++◌, length, sum_by, Option, Some, None, Result, Ok, Err}
+use Rattle.mesh_defs.specs.HeightField.{HeightField}
+use Rattle.mesh_defs.specs.State.{State, start_state, text_in}
+use Rattle.roam_edge.specs.Shelf.{NamedFile, bytes_of}
+use Rattle.pgm_grid.specs.declared.fault.PgmFault.{PgmFault}
+use Rattle.pgm_grid.specs.Progress.{grid_of}
+use Rattle.run_laws.specs.declared.status.Status.{Status}
+use Rattle.run_laws.specs.declared.status.Status.TheVariants.{Done, Usage, GridRefused, ScriptRefused}
+use Rattle.run_laws.specs.Walk.{Refusal, Walk, start_walk, walk_of}
+use Rattle.run_laws.specs.Words.{Show, AsMeshes, Scripted, Job, Frames, Facts, Command, OnGrid, command_of}
+use Rattle.run_laws.specs.Act.{Act, WholeMesh, ReportText}
+use Rattle.run_laws.specs.Picture.{Picture, triangles_of, ArePictures, last_members}
+use Rattle.run_laws.specs.ReportText.{frame_line, info_line, grid_refusal, line_refusal}
+
+-- what an engine holds at the end: the state, how far the camera went, the frames made, the set of the
+-- last one, and the sums of their splits and merges
+pub record EngineEnd : Type 0 where
+  pub state : State
+  pub odometer : ℕ
+  pub frames : ℕ
+  pub members : List ℕ
+  pub splits : ℕ
+  pub merges : ℕ
+
+-- what a run does, how it ends, how many files it opens, what its frames show, and the engine it leaves
+pub record Outcome : Type 0 where
+  pub acts : List Act
+  pub status : Status
+  pub opened : ℕ
+  pub pictures : List Picture
+  pub engine : Option EngineEnd
+
+-- an outcome without frames
+abbrev pub plain_outcome : List Act → Status → ℕ → Outcome
+plain_outcome done last files = record { acts = done; status = last; opened = files; pictures = []; engine = None }
+
+-- one text, and the end
+abbrev pub text_outcome : List ℕ → Status → ℕ → Outcome
+text_outcome bytes last files = plain_outcome (ReportText bytes ∷ []) last files
+
+-- the acts of the frame of this number: its mesh, and then its line
+abbrev pub picture_acts : Show → ℕ → Picture → List Act
+picture_acts (AsMeshes prefix) number picture =
+    WholeMesh prefix number (text_in picture.state (triangles_of picture)) ∷ (ReportText (frame_line number picture) ∷ [])
+
+-- the acts of frames, of which the first has this number
+abbrev pub shown_acts : Show → ℕ → List Picture → List Act
+shown_acts show number [] = []
+shown_acts show number (picture ∷ pictures) = picture_acts show number picture ++ shown_acts show (number + 1) pictures
+
+-- the acts behind all frames
+abbrev pub sum_acts : Show → List Picture → List Act
+sum_acts (AsMeshes prefix) pictures = []
+
+-- the refusal of a line, where one stopped the walk
+abbrev pub stop_acts : Option Refusal → List Act
+stop_acts None = []
+stop_acts (Some refusal) = ReportText (line_refusal refusal) ∷ []
+
+abbrev pub stop_status : Option Refusal → Status
+stop_status None = Done
+stop_status (Some refusal) = ScriptRefused
+
+-- an engine after a walk
+abbrev pub engine_end : Walk → List Picture → EngineEnd
+engine_end walk pictures = record {
+  state = walk.state;
+  odometer = walk.odometer;
+  frames = length walk.frames;
+  members = last_members [] pictures;
+  splits = sum_by (λ (p : Picture). p.splits) pictures;
+  merges = sum_by (λ (p : Picture). p.merges) pictures;
+}
+
+-- the engine that is left where frames are shown so
+abbrev pub engine_for : Show → Walk → List Picture → Option EngineEnd
+engine_for (AsMeshes prefix) walk pictures = Some (engine_end walk pictures)
+
+-- The outcome of a walk and its pictures: the frames in order, and then the refusal, if a line is refused.
+abbrev pub frames_outcome : Show → ℕ → Walk → List Picture → Outcome
+frames_outcome show files walk all = record {
+  acts = shown_acts show 1 all ++ (sum_acts show all ++ stop_acts walk.stop);
+  status = stop_status walk.stop;
+  opened = files;
+  pictures = all;
+  engine = engine_for show walk all;
+}
+
+-- The outcome of a walk, whose frames have pictures.
+abbrev pub IsFramesOutcome : Show → ℕ → Walk → Outcome → Type 0
+IsFramesOutcome show files walk end =
+    (pictures : List Picture) × ArePictures show [] walk.frames pictures × (end ≡ frames_outcome show files walk pictures)
+
+-- the walk of a script over an accepted grid
+abbrev pub script_walk : Scripted → HeightField → List ℕ → Walk
+script_walk s grid script = walk_of (start_walk s.budget (start_state grid s.spacing s.budget)) script
+
+-- the outcome of the bytes of a script over an accepted grid
+abbrev pub IsScriptOutcome : Scripted → HeightField → List ℕ → Outcome → Type 0
+IsScriptOutcome s grid script end = IsFramesOutcome s.show 2 (script_walk s grid script) end
+
+-- what a job does with an accepted grid
+abbrev pub IsJobOutcome : Job → HeightField → List NamedFile → Outcome → Type 0
+IsJobOutcome (Frames s) grid files end = IsScriptOutcome s grid (bytes_of files s.script) end
+IsJobOutcome Facts grid files end = end ≡ text_outcome (info_line grid) Done 1
+
+-- what a job does with the bytes of a grid, once they were read or refused
+abbrev pub IsGridOutcome : Job → Result HeightField PgmFault → List NamedFile → Outcome → Type 0
+IsGridOutcome job (Ok grid) files end = IsJobOutcome job grid files end
+IsGridOutcome job (Err fault) files end = end ≡ text_outcome (grid_refusal fault) GridRefused 1
+
+-- what a command does over named files
+abbrev pub IsCommandOutcome : Command → List NamedFile → Outcome → Type 0
+IsCommandOutcome (OnGrid grid job) files end = IsGridOutcome job (grid_of (bytes_of files grid)) files end
+
+-- what words do, whether they are a command or none
+abbrev pub IsWordsOutcome : Option Command → List NamedFile → Outcome → Type 0
+IsWordsOutcome None files end = end ≡ plain_outcome [] Usage 0
+IsWordsOutcome (Some command) files end = IsCommandOutcome command files end
+
+-- The outcome of words over named files.
+unfoldable pub IsOutcome : List (List ℕ) → List NamedFile → Outcome → Type 0
+IsOutcome words files end = IsWordsOutcome (command_of words) files end
+
+-- the words leave nothing to choice: so it is of every command yet
+abbrev pub HasOneOutcome : Option Command → Type 0
+HasOneOutcome command = ⊤

@@ -1,0 +1,83 @@
+-- The lines of the report. This project's own; each ends with one LF (10).
+-- Words: blocked_text, marks_text, frame_line, info_line, grid_fault_text, grid_refusal, script_fault_text,
+-- line_refusal.
+use Rattle.std.specs.Prelude.{ℕ, max, List, [], ◌∷◌, ◌++◌, length, Option, Some, None, codes, decimal}
+use Rattle.mesh_defs.specs.declared.mark.Mark.TheVariants.{Inside, Cut, Outside}
+use Rattle.mesh_defs.specs.HeightField.{HeightField, side_of}
+use Rattle.mesh_defs.specs.View.{ViewPlane}
+use Rattle.mesh_defs.specs.Thickness.{thickness_of}
+use Rattle.mesh_defs.specs.BoundingBox.{least, greatest}
+use Rattle.mesh_defs.specs.MeshText.{vertices_of}
+use Rattle.mesh_defs.specs.State.{State}
+use Rattle.pgm_grid.specs.declared.fault.PgmFault.{PgmFault}
+use Rattle.pgm_grid.specs.declared.fault.PgmFault.TheVariants.{BadMagic, BadHeader, HeaderTooLong, BadMaxval, NotSquare, BadSide, Truncated, BadSample, AboveMaxval, Trailing, NoMemory, TooLong}
+use Rattle.bintree_addr.specs.declared.blocked.Blocked.{Blocked}
+use Rattle.roam_script.specs.declared.script_fault.ScriptFault.{ScriptFault}
+use Rattle.roam_script.specs.declared.script_fault.ScriptFault.TheVariants.{LineTooLong, UnknownCommand, WrongFields, BadNumber, OutOfRange, TooManyLines, TooManyFrames, TooManyPlanes}
+use Rattle.run_laws.specs.Walk.{Refusal}
+use Rattle.run_laws.specs.Picture.{Picture, triangles_of, mark_count}
+
+-- `none`; or `A needs L`: the address of the triangle that blocks, and the number of triangles that it needs
+abbrev pub blocked_text : Option Blocked → List ℕ
+blocked_text None = codes "none"
+blocked_text (Some blocked) = decimal blocked.tri ++ codes " needs " ++ decimal blocked.need
+
+-- ` inside I cut C outside O`: how many triangles have each mark, where a plane is in force
+abbrev pub marks_text : State → List ViewPlane → List ℕ → List ℕ
+marks_text state [] triangles = []
+marks_text state (_ ∷ _) triangles =
+    codes " inside " ++ decimal (mark_count state Inside triangles) ++ codes " cut " ++ decimal (mark_count state Cut triangles)
+    ++ codes " outside " ++ decimal (mark_count state Outside triangles)
+
+-- `frame K triangles T vertices V worst W splits S merges G blocked B`, and the marks
+abbrev pub frame_line : ℕ → Picture → List ℕ
+frame_line number picture =
+    let triangles : List ℕ = triangles_of picture in
+    codes "frame " ++ decimal number ++ codes " triangles " ++ decimal (length triangles)
+    ++ codes " vertices " ++ decimal (length (vertices_of picture.state.grid.n triangles)) ++ codes " worst " ++ decimal picture.worst
+    ++ codes " splits " ++ decimal picture.splits ++ codes " merges " ++ decimal picture.merges
+    ++ codes " blocked " ++ blocked_text picture.blocked ++ marks_text picture.state picture.state.view.planes triangles ++ codes "\n"
+
+-- `side W maxval M low L high H thickness E`: the points of a side, the bound of the heights, the least and
+-- the greatest height, and the greater thickness of the two base triangles, in half units of height
+abbrev pub info_line : HeightField → List ℕ
+info_line grid =
+    codes "side " ++ decimal (side_of grid.n) ++ codes " maxval " ++ decimal grid.maxval
+    ++ codes " low " ++ decimal (least grid.heights) ++ codes " high " ++ decimal (greatest grid.heights)
+    ++ codes " thickness " ++ decimal (max (thickness_of grid.n grid.heights 2) (thickness_of grid.n grid.heights 3))
+    ++ codes "\n"
+
+-- why a grid is refused
+abbrev pub grid_fault_text : PgmFault → List ℕ
+grid_fault_text BadMagic = codes "bad magic"
+grid_fault_text (BadHeader place) = codes "bad header at " ++ decimal place
+grid_fault_text HeaderTooLong = codes "header too long"
+grid_fault_text BadMaxval = codes "bad maxval"
+grid_fault_text NotSquare = codes "not square"
+grid_fault_text BadSide = codes "bad side"
+grid_fault_text Truncated = codes "truncated"
+grid_fault_text (BadSample place) = codes "bad sample at " ++ decimal place
+grid_fault_text (AboveMaxval index) = codes "above maxval at sample " ++ decimal index
+grid_fault_text (Trailing place) = codes "trailing byte at " ++ decimal place
+grid_fault_text NoMemory = codes "out of memory"
+grid_fault_text TooLong = codes "file too long"
+
+-- `grid refused: TEXT`
+abbrev pub grid_refusal : PgmFault → List ℕ
+grid_refusal fault = codes "grid refused: " ++ grid_fault_text fault ++ codes "\n"
+
+-- why a line of a script is refused
+abbrev pub script_fault_text : ScriptFault → List ℕ
+script_fault_text LineTooLong = codes "line too long"
+script_fault_text UnknownCommand = codes "unknown command"
+script_fault_text WrongFields = codes "wrong fields"
+script_fault_text (BadNumber field) = codes "bad number in field " ++ decimal field
+script_fault_text (OutOfRange field) = codes "out of range in field " ++ decimal field
+script_fault_text TooManyLines = codes "too many lines"
+script_fault_text TooManyFrames = codes "too many frames"
+script_fault_text TooManyPlanes = codes "too many planes"
+
+-- `line N refused: TEXT`, lines counted from 1
+abbrev pub line_refusal : Refusal → List ℕ
+line_refusal refusal =
+    codes "line " ++ decimal refusal.line ++ codes " refused: " ++ script_fault_text refusal.fault ++ codes "\n"

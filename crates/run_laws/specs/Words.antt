@@ -1,0 +1,100 @@
+-- The words of a command line that are a command. This project's own.
+-- Words: Show, Scripted, Job, Command, job_files, names_of, file_count, is_scripted, has_script, is_of_engine,
+-- prefix_of, is_prefix, within, number_word, least_budget, greatest_budget, greatest_spacing, frames_command, command_of.
+use Rattle.std.specs.Prelude.{ℕ, Bool, true, false, ◌&&◌, nat_le, if◌then◌else◌, List, [], ◌∷◌, length, Option, Some, None, codes, bytes_eq}
+use Rattle.roam_num.specs.DecText.{number_in}
+
+-- how frames are shown: as meshes whose names begin with this prefix
+pub data Show : Type 0 where
+  AsMeshes : (prefix : List ℕ) → Show
+
+-- the frames of a script: its name, the greatest budget, how many world units a grid step has, and how
+-- they are shown
+pub record Scripted : Type 0 where
+  pub script : List ℕ
+  pub budget : ℕ
+  pub spacing : ℕ
+  pub show : Show
+
+-- what is done with a grid: the frames of a script, or a line of facts
+pub data Job : Type 0 where
+  Frames : (scripted : Scripted) → Job
+  Facts : Job
+
+-- a command: a job on the grid of this name
+pub data Command : Type 0 where
+  OnGrid : (grid : List ℕ) (job : Job) → Command
+
+-- the names of the files that a job reads after the grid, in the order in which they are opened
+abbrev pub job_files : Job → List (List ℕ)
+job_files (Frames s) = s.script ∷ []
+job_files Facts = []
+
+-- the names of a command's files; the grid comes first
+abbrev pub names_of : Command → List (List ℕ)
+names_of (OnGrid grid job) = grid ∷ job_files job
+
+-- how many files the words name, where they are a command
+abbrev pub file_count : Option Command → ℕ
+file_count None = 0
+file_count (Some command) = length (names_of command)
+
+-- the job's file is a script
+abbrev pub is_scripted : Job → Bool
+is_scripted (Frames s) = true
+is_scripted _ = false
+
+abbrev pub has_script : Command → Bool
+has_script (OnGrid grid job) = is_scripted job
+
+-- what the names of meshes begin with, where meshes are shown
+abbrev pub prefix_of : Show → Option (List ℕ)
+prefix_of (AsMeshes prefix) = Some prefix
+
+-- a prefix has 1 to 200 bytes
+abbrev pub is_prefix : List ℕ → Bool
+is_prefix prefix = nat_le 1 (length prefix) && nat_le (length prefix) 200
+
+-- a number, if it lies within these bounds
+abbrev pub within : ℕ → ℕ → Option ℕ → Option ℕ
+within low high None = None
+within low high (Some number) = if nat_le low number && nat_le number high then Some number else None
+
+-- the number of a word of 1 to 19 digits, if it lies within these bounds
+abbrev pub number_word : ℕ → ℕ → List ℕ → Option ℕ
+number_word low high word = within low high (number_in 19 word)
+
+-- the bounds of a budget, in triangles
+abbrev pub least_budget : ℕ
+least_budget = 2
+
+abbrev pub greatest_budget : ℕ
+greatest_budget = 1048576
+
+-- the greatest spacing, in world units a grid step
+abbrev pub greatest_spacing : ℕ
+greatest_spacing = 1024
+
+abbrev pub budget_word : List ℕ → Option ℕ
+budget_word = number_word least_budget greatest_budget
+
+abbrev pub spacing_word : List ℕ → Option ℕ
+spacing_word = number_word 1 greatest_spacing
+
+-- the frames of a script on a grid, if budget and spacing are there
+abbrev pub frames_command : List ℕ → List ℕ → Show → Option ℕ → Option ℕ → Option Command
+frames_command grid_name script_name shown (Some b) (Some s) =
+    Some (OnGrid grid_name (Frames (record { script = script_name; budget = b; spacing = s; show = shown })))
+frames_command grid_name script_name shown _ _ = None
+
+-- a word, GRID, SCRIPT, PREFIX, a number and SPACING
+abbrev pub meshes_command : List ℕ → List ℕ → List ℕ → List ℕ → List ℕ → List ℕ → Option Command
+meshes_command word i j prefix number step =
+    if bytes_eq word (codes "mesh") then frames_command i j (AsMeshes prefix) (budget_word number) (spacing_word step)
+    else None
+
+-- The command that the words are, None of other words: `info GRID`, or `mesh GRID SCRIPT PREFIX BUDGET SPACING`.
+abbrev pub command_of : List (List ℕ) → Option Command
+command_of (word ∷ (i ∷ [])) = if bytes_eq word (codes "info") then Some (OnGrid i Facts) else None
+command_of (word ∷ (i ∷ (j ∷ (k ∷ (l ∷ (m ∷ [])))))) = if is_prefix k then meshes_command word i j k l m else None
+command_of _ = None

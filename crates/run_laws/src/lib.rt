@@ -1,0 +1,13 @@
+//! What a run of `roam` is: its definitions, and their laws.
+//!
+//! For the crates that make frames and carry scripts out. A script is a walk over its lines, a frame
+//! shows a picture of the state at its line, and a run has an outcome: acts, a status, the files that
+//! it opens. The promises say what stands after each status. There is no algorithm here.
+
+#![tactic(auto)]
+
+mod laws;
+mod status;
+
+pub use laws::{run_laws, script_examples, state_laws, walk_laws};
+pub use status::Status;
