@@ -5,3 +5,4 @@ pub mod PictureLemmas
 pub mod OutcomeLemmas
 pub mod HeadlineLemmas
 pub mod StepLemmas
+pub mod BestLemmas

@@ -1,7 +1,7 @@
 -- Laws of walks, pictures and outcomes.
 -- Words: WalksGoOn, PicturesGoOn, FramesExist, BudgetsAreTwo, AreStates, KeepsStates, OutcomesAreUnique, OutcomesExist,
 -- AcceptedIsDone, PicturesAreCertified, HeadlineFollows.
-use Rattle.std.specs.Prelude.{◌≡◌, ⊤, ℕ, ◌≤◌, IsTrue, IsSome, is_some, List, [], ◌∷◌, ◌++◌, All, Option, Some, Ok}
+use Rattle.std.specs.Prelude.{◌≡◌, ⊤, ℕ, ◌≤◌, IsTrue, is_some, List, [], ◌∷◌, ◌++◌, All, Option, Some, Ok}
 use Rattle.mesh_defs.specs.HeightField.{HeightField}
 use Rattle.mesh_defs.specs.State.{State}
 use Rattle.mesh_defs.specs.ClosedSet.{among}
@@ -9,19 +9,19 @@ use Rattle.mesh_defs.specs.GridSet.{IsAscending}
 use Rattle.closure_laws.specs.Frame.{IsFrame}
 use Rattle.bintree_addr.specs.declared.blocked.Blocked.{Blocked}
 use Rattle.roam_edge.specs.MeshSink.{Mesh}
-use Rattle.roam_edge.specs.Shelf.{NamedFile}
+use Rattle.roam_edge.specs.Shelf.{NamedFile, bytes_of}
 use Rattle.roam_script.specs.declared.limits.Limits.{Limits}
 use Rattle.roam_script.specs.declared.line.Line.TheVariants.{Budget}
 use Rattle.roam_script.specs.LineText.{line_in}
 use Rattle.run_laws.specs.declared.status.Status.{Status}
-use Rattle.run_laws.specs.declared.status.Status.TheVariants.{Done}
+use Rattle.run_laws.specs.declared.status.Status.TheVariants.{Done, NoMemory, ReadFault}
 use Rattle.run_laws.specs.Walk.{Walk, walk_of, AreWhole}
-use Rattle.run_laws.specs.Words.{Show, Scripted, prefix_of, command_of}
-use Rattle.run_laws.specs.Act.{Told, Stands}
+use Rattle.run_laws.specs.Words.{Show, Scripted, command_of}
+use Rattle.run_laws.specs.Act.{Told}
 use Rattle.run_laws.specs.Picture.{Picture, ArePictures, IsCertified, last_members}
-use Rattle.run_laws.specs.Outcome.{Outcome, IsOutcome, HasOneOutcome, IsScriptOutcome}
-use Rattle.run_laws.specs.Promise.{IsAccepted}
-use Rattle.run_laws.specs.Headline.{KeepsGoodMeshes}
+use Rattle.run_laws.specs.Outcome.{Outcome, IsOutcome, HasOneOutcome}
+use Rattle.run_laws.specs.Promise.{Seen, EndsRight, LeavesAtReadFault, LeavesAtNoMemory, IsAccepted}
+use Rattle.run_laws.specs.Headline.{IsRunOf, KeepsGoodMeshes}
 
 -- a walk over whole lines goes on with what follows them
 abbrev pub WalksGoOn : Type 0
@@ -70,8 +70,10 @@ abbrev pub PicturesAreCertified : Type 0
 PicturesAreCertified = (words : List (List ℕ)) (files : List NamedFile) (end : Outcome) → IsTrue (is_some end.engine)
     → IsOutcome words files end → All IsCertified end.pictures
 
--- the headline of a script that did all of its outcome, from a budget of at least 2
+-- the headline: whatever the status, from what stands after each, each finished mesh is a best mesh of the state
+-- at its frame line
 abbrev pub HeadlineFollows : Type 0
-HeadlineFollows = (s : Scripted) (grid : HeightField) (script : List ℕ) (end : Outcome) (before now : Told) (all : List Mesh) (status : Status)
-    → IsSome (prefix_of s.show) → 2 ≤ s.budget → IsScriptOutcome s grid script end → before.meshes ≡ Some all → Stands before now end.acts
-    → KeepsGoodMeshes s grid script all now.meshes status
+HeadlineFollows = (words : List (List ℕ)) (files : List NamedFile) (s : Scripted) (grid : HeightField) (before now : Told) (old new : Seen) (all : List Mesh) (status : Status)
+    → IsRunOf words files s grid → old.files ≡ Some files → before.meshes ≡ Some all → EndsRight before now old new words files status
+    → (status ≡ ReadFault → LeavesAtReadFault before now old new words) → (status ≡ NoMemory → LeavesAtNoMemory before now old new words)
+    → KeepsGoodMeshes s grid (bytes_of files s.script) all now.meshes status

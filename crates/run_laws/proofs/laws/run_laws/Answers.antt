@@ -1,6 +1,6 @@
 use Rattle.run_laws.proofs.PictureLemmas.{frame-best, pictures-certified}
 use Rattle.run_laws.proofs.OutcomeLemmas.{outcome-done, outcome-unique, outcome-exists, outcome-certified}
-use Rattle.run_laws.proofs.HeadlineLemmas.{complete-keeps}
+use Rattle.run_laws.proofs.BestLemmas.{run-keeps}
 use Rattle.run_laws.proofs.laws.run_laws.Goals as goal
 
 pub returns-clause-one_outcome : goal.returns-clause-one_outcome
@@ -16,5 +16,6 @@ pub returns-clause-certificate : goal.returns-clause-certificate
 returns-clause-certificate c = outcome-certified c.state_laws.ensures.budgets (pictures-certified c.falling_laws.ensures c.frame_laws.ensures.unblocked c.frame_laws.ensures.certificate)
 
 pub returns-clause-headline : goal.returns-clause-headline
-returns-clause-headline c s grid script end before now all status some low is there stands =
-    complete-keeps (frame-best c.falling_laws.ensures c.frame_laws.ensures.best) c.state_laws.ensures.budgets s grid script some low before now all there status end is stands
+returns-clause-headline c words files s grid before now old new all status run told there =
+    run-keeps (frame-best c.falling_laws.ensures c.frame_laws.ensures.best) c.state_laws.ensures.budgets c.grids_and_texts.ensures.texts words files s grid
+    run before now old new all told there status

@@ -1,0 +1,138 @@
+-- The headline follows from what stands after each status.
+use Rattle.std.proofs.Common.{◌≡◌, ◌≢◌, ℕ, zero, suc, ◌≤◌, ◌⊎◌, IsTrue, List, [], ◌++◌, take, drop, Option, Some, None, Result, Ok, refl, sym, ◌∙◌, ap, subst, inl, inr, append_assoc, append-nil}
+use Rattle.std.proofs.lemmas.List.{take-append-drop}
+use Rattle.mesh_defs.specs.HeightField.{HeightField}
+use Rattle.mesh_defs.specs.State.{State, start_state}
+use Rattle.roam_edge.specs.MeshSink.{Mesh}
+use Rattle.roam_edge.specs.Shelf.{NamedFile, bytes_of}
+use Rattle.pgm_grid.specs.declared.fault.PgmFault.{PgmFault}
+use Rattle.pgm_grid.specs.Progress.{grid_of}
+use Rattle.pgm_grid.specs.Laws.{TextsAreRead}
+use Rattle.run_laws.specs.declared.status.Status.{Status}
+use Rattle.run_laws.specs.declared.status.Status.TheVariants.{Done, NoMemory, Usage, GridRefused, ScriptRefused, ReadFault, WriteFault}
+use Rattle.run_laws.specs.Walk.{Walk, start_walk, walk_of}
+use Rattle.run_laws.specs.Words.{Scripted, Frames, Command, OnGrid}
+use Rattle.run_laws.specs.Act.{Act, Told, Stands}
+use Rattle.run_laws.specs.Picture.{Picture, ArePictures}
+use Rattle.run_laws.specs.Outcome.{Outcome, shown_acts, script_walk, IsScriptOutcome, IsGridOutcome, IsWordsOutcome, IsOutcome}
+use Rattle.run_laws.specs.Promise.{Seen, is_complete, ends_script, EndsRight, ScriptHasRead, FileReadFault, LeavesAtReadFault, AreFirstFrames, LeavesAtNoMemory}
+use Rattle.run_laws.specs.Headline.{IsRunOf, KeepsGoodMeshes}
+use Rattle.run_laws.specs.Laws.{AreStates, BudgetsAreTwo}
+use Rattle.run_laws.proofs.WalkLemmas.{walk_of-append, walk_of-grows}
+use Rattle.run_laws.proofs.StepLemmas.{states-first}
+use Rattle.run_laws.proofs.OutcomeLemmas.{command-budget, script-states}
+use Rattle.run_laws.proofs.HeadlineLemmas.{FramesAreBest, complete-keeps, first-keeps, cut-keeps, nothing-keeps}
+
+same-command : (xs ys : Command) → Some xs ≡ Some ys → xs ≡ ys
+same-command xs ys e = cc
+
+same-grid : (answer : Result HeightField PgmFault) (g h : HeightField) → answer ≡ Ok g → answer ≡ Ok h → g ≡ h
+same-grid answer g h one two = cc
+
+same-name : (xs ys : List ℕ) → Some xs ≡ Some ys → xs ≡ ys
+same-name xs ys e = cc
+
+no-file : (name : List ℕ) → None ≡ Some name → ⊥
+no-file name e = cc
+
+module _ (best : FramesAreBest) (two : BudgetsAreTwo) (read_texts : TextsAreRead) (words : List (List ℕ)) (files : List NamedFile) (s : Scripted) (grid : HeightField)
+    (run : IsRunOf words files s grid) (before now : Told) (old new : Seen) (all : List Mesh)
+    (told : old.files ≡ Some files) (there : before.meshes ≡ Some all) where
+  abbrev script : List ℕ
+  script = bytes_of files s.script
+
+  abbrev Keeps : Status → Type 0
+  Keeps status = KeepsGoodMeshes s grid script all now.meshes status
+
+  read-grid : grid_of (bytes_of files run.grid_name) ≡ Ok grid
+  read-grid = read_texts grid (bytes_of files run.grid_name) run.valid run.file_text
+
+  low : 2 ≤ s.budget
+  low = command-budget words run.grid_name (Frames s) run.is_command
+
+  -- the outcome of the words is that of the script
+  script-outcome : (end : Outcome) → IsOutcome words files end → IsScriptOutcome s grid script end
+  unfolding IsOutcome
+  script-outcome end is =
+      let P : Option Command → Type 0 = λ c. IsWordsOutcome c files end in
+      let Q : Result HeightField PgmFault → Type 0 = λ r. IsGridOutcome (Frames s) r files end in
+      subst Q read-grid (subst P run.is_command is)
+
+  -- frames that are the first of the script's
+  first : (status : Status) → (IsTrue (ends_script status) → ⊥) → (firsts more : List State) (ps : List Picture) → (script_walk s grid script).frames ≡ firsts ++ more
+      → ArePictures s.show [] firsts ps → Stands before now (shown_acts s.show 1 ps) → Keeps status
+  first status unfinished firsts more ps cut shown stands =
+      let P : List State → Type 0 = λ l. AreStates grid.n l in
+      first-keeps best two s grid script run.meshes low before now all there status unfinished firsts more ps cut
+      (states-first grid.n firsts more (subst P cut (script-states two s grid script low))) shown stands
+
+  nothing : (status : Status) → (IsTrue (ends_script status) → ⊥) → Stands before now [] → Keeps status
+  nothing status unfinished stands =
+      nothing-keeps best two s grid script run.meshes low before now all there status unfinished (stands.meshes_grow all there ∙ ap Some (append-nil all))
+
+  -- what the whole lines do that were read
+  from-read : (status : Status) → (IsTrue (ends_script status) → ⊥) → (read unread : List ℕ) (acts : List Act) → script ≡ read ++ unread
+      → ScriptHasRead s grid read acts → Stands before now acts → Keeps status
+  from-read status unfinished read unread acts cut has stands =
+      let start : Walk = start_walk s.budget (start_state grid s.spacing s.budget) in
+      let here : Walk = script_walk s grid has.lines in
+      let grown = walk_of-grows here (has.begun ++ unread) in
+      let whole : script ≡ has.lines ++ (has.begun ++ unread) = cut ∙ (ap (λ (l : List ℕ). l ++ unread) has.cut ∙ append_assoc has.lines has.begun unread) in
+      let P : List Act → Type 0 = λ l. Stands before now l in
+      first status unfinished here.frames grown.0 has.pictures
+      (ap (λ (l : List ℕ). (walk_of start l).frames) whole ∙ (ap (λ (w : Walk). w.frames) (walk_of-append start has.lines (has.begun ++ unread) has.whole) ∙ grown.1))
+      has.shown (subst P has.done stands)
+
+  at-file : (status : Status) → (IsTrue (ends_script status) → ⊥) → (k : ℕ) → FileReadFault before now new (OnGrid run.grid_name (Frames s)) files k → Keeps status
+  at-file status unfinished zero fault =
+      let P : List Act → Type 0 = λ l. Stands before now l in
+      nothing status unfinished (subst P fault.has_read.1 fault.stands)
+  at-file status unfinished (suc zero) fault =
+      let has = fault.has_read in
+      let P : HeightField → Type 0 = λ g. ScriptHasRead s g fault.read fault.acts in
+      let name : s.script ≡ fault.name = same-name s.script fault.name fault.named in
+      from-read status unfinished fault.read fault.unread fault.acts (ap (bytes_of files) name ∙ fault.cut)
+      (subst P (same-grid (grid_of (bytes_of files run.grid_name)) has.0 grid has.1 read-grid) has.2) fault.stands
+  at-file status unfinished (suc (suc k)) fault = absurd (no-file fault.name fault.named)
+
+  from-read-fault : (status : Status) → (IsTrue (ends_script status) → ⊥) → LeavesAtReadFault before now old new words → Keeps status
+  from-read-fault status unfinished leaves =
+      let P : Command → Type 0 = λ c. FileReadFault before now new c files leaves.file in
+      at-file status unfinished leaves.file
+      (subst P (same-command leaves.command (OnGrid run.grid_name (Frames s)) (sym leaves.is_command ∙ run.is_command)) (leaves.at_file files told))
+
+  from-first : (status : Status) → (IsTrue (ends_script status) → ⊥) → (stood : List Act) → Stands before now stood
+      → ((stood ≡ []) ⊎ AreFirstFrames (OnGrid run.grid_name (Frames s)) files stood) → Keeps status
+  from-first status unfinished stood stands (inl none) =
+      let P : List Act → Type 0 = λ l. Stands before now l in
+      nothing status unfinished (subst P none stands)
+  from-first status unfinished stood stands (inr firsts) =
+      let P : HeightField → Type 0 = λ g. ArePictures s.show [] (take firsts.2 (script_walk s g script).frames) firsts.1 in
+      let Q : List Act → Type 0 = λ l. Stands before now l in
+      let frames : List State = (script_walk s grid script).frames in
+      first status unfinished (take firsts.2 frames) (drop firsts.2 frames) firsts.1 (sym (take-append-drop firsts.2 frames))
+      (subst P (same-grid (grid_of (bytes_of files run.grid_name)) firsts.0 grid firsts.3 read-grid) firsts.4) (subst Q firsts.5 stands)
+
+  from-no-memory : (status : Status) → (IsTrue (ends_script status) → ⊥) → LeavesAtNoMemory before now old new words → Keeps status
+  from-no-memory status unfinished leaves =
+      let P : Command → Type 0 = λ c. (leaves.stood ≡ []) ⊎ AreFirstFrames c files leaves.stood in
+      from-first status unfinished leaves.stood leaves.stands
+      (subst P (same-command leaves.command (OnGrid run.grid_name (Frames s)) (sym leaves.is_command ∙ run.is_command)) (leaves.early.frames files told))
+
+  complete : (status : Status) → IsTrue (is_complete status) → status ≢ NoMemory → status ≢ ReadFault → EndsRight before now old new words files status → Keeps status
+  complete status done m r ends =
+      let e = ends.ends m r in
+      complete-keeps best two s grid script run.meshes low before now all there status e.0 (script-outcome e.0 e.1) (e.2.complete done).0
+
+  -- whatever the status, the meshes are good
+  pub run-keeps : (status : Status) → EndsRight before now old new words files status → (status ≡ ReadFault → LeavesAtReadFault before now old new words)
+      → (status ≡ NoMemory → LeavesAtNoMemory before now old new words) → Keeps status
+  run-keeps Done ends read memory = complete Done refl (λ e. cc) (λ e. cc) ends
+  run-keeps NoMemory ends read memory = from-no-memory NoMemory (λ e. cc) (memory refl)
+  run-keeps Usage ends read memory = complete Usage refl (λ e. cc) (λ e. cc) ends
+  run-keeps GridRefused ends read memory = complete GridRefused refl (λ e. cc) (λ e. cc) ends
+  run-keeps ScriptRefused ends read memory = complete ScriptRefused refl (λ e. cc) (λ e. cc) ends
+  run-keeps ReadFault ends read memory = from-read-fault ReadFault (λ e. cc) (read refl)
+  run-keeps WriteFault ends read memory =
+      let e = ends.ends (λ f. cc) (λ f. cc) in
+      cut-keeps best two s grid script run.meshes low before now all there WriteFault (λ f. cc) e.0 (script-outcome e.0 e.1) (e.2.cut_short refl)
