@@ -1,0 +1,3 @@
+pub mod SameLemmas
+pub mod WeightLemmas
+pub mod HolderLemmas
