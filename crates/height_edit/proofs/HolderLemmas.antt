@@ -1,11 +1,9 @@
 -- The triangles that hold a point, level by level: the children of those of a level that hold it are those of the
 -- next level, and there are at most eight.
-use Rattle.std.proofs.Common.{◌≡◌, ℕ, zero, suc, ◌+◌, ◌-◌, ◌*◌, ◌^◌, ◌<◌, ◌≤◌, ◌↔◌, Bool, true, false, cond, ◌||◌, List, [], ◌∷◌, ◌++◌, length, take, drop, All, get_or, slice_index_or, refl, sym, ap, ◌∙◌, arith, ⊎_elim, subst}
-use Rattle.std.proofs.lemmas.List.{append_assoc, append-nil, length-append, take-append-drop}
-use Rattle.std.specs.List.{filter, flat_map, range_with_len}
+use Rattle.std.proofs.Common.{◌≡◌, ℕ, zero, suc, ◌+◌, ◌-◌, ◌*◌, ◌^◌, ◌<◌, ◌≤◌, ◌↔◌, Bool, true, false, cond, ◌||◌, List, [], ◌∷◌, ◌++◌, length, take, All, get_or, slice_index_or, refl, sym, ap, ◌∙◌, arith, subst}
+use Rattle.std.proofs.lemmas.List.{append_assoc, append-nil, length-append}
 use Rattle.mesh_defs.specs.declared.point.Point.{Point}
-use Rattle.mesh_defs.specs.declared.point.Corners.{Corners}
-use Rattle.mesh_defs.specs.Triangle.{level_of, corners_of, child, base_triangle, IsAddress, IsSplittable}
+use Rattle.mesh_defs.specs.Triangle.{level_of, corners_of, child, base_triangle, IsSplittable}
 use Rattle.mesh_defs.specs.BoundingBox.{holds_point}
 use Rattle.bintree_laws.specs.Corners.{HasEvenBase, IsCounterclockwise}
 use Rattle.tiling_laws.proofs.OrientationLemmas.{counterclockwise}
@@ -60,10 +58,10 @@ turn-laws below children left right even = record {
   right_corners = right;
   even = even;
   turned = λ n a split.
-    let twice : 2 ^ (2 * n + 2) ≡ 2 * 2 ^ (2 * n + 1) =
-    ap (λ k. 2 ^ k) (let next : 2 * n + 2 ≡ suc (2 * n + 1) = omega arith in next) ∙ pow-succ' 2 (2 * n + 1) in
-    let high : a < 2 ^ (2 * n + 1) = (below a (2 * n) split.low).0 split.coarse in
-    counterclockwise n a (record { low = split.low; high = omega arith });
+      let twice : 2 ^ (2 * n + 2) ≡ 2 * 2 ^ (2 * n + 1) =
+      ap (λ k. 2 ^ k) (let next : 2 * n + 2 ≡ suc (2 * n + 1) = omega arith in next) ∙ pow-succ' 2 (2 * n + 1) in
+      let high : a < 2 ^ (2 * n + 1) = (below a (2 * n) split.low).0 split.coarse in
+      counterclockwise n a (record { low = split.low; high = omega arith });
 }
 
 neither : (b c : Bool) → (b || c) ≡ false → (b ≡ false) × (c ≡ false)

@@ -1,12 +1,12 @@
 -- Triangles that an edit does not reach: all heights that they hold are as they were.
-use Rattle.std.proofs.Common.{◌≡◌, ℕ, ◌+◌, ◌*◌, ◌^◌, ◌<◌, ◌≤◌, ◌↔◌, true, false, List, ap, ◌∙◌, sym, arith, subst}
+use Rattle.std.proofs.Common.{◌≡◌, ℕ, ◌+◌, ◌*◌, ◌^◌, ◌<◌, ◌≤◌, ◌↔◌, true, false, List, ap, ◌∙◌, arith, subst}
 use Rattle.mesh_defs.specs.declared.point.Point.{Point}
 use Rattle.mesh_defs.specs.HeightField.{height_at}
 use Rattle.mesh_defs.specs.State.{Area, is_in_area}
 use Rattle.mesh_defs.specs.Triangle.{level_of, corners_of, IsAddress}
 use Rattle.mesh_defs.specs.BoundingBox.{holds_point, point}
 use Rattle.bintree_laws.specs.Corners.{IsWithin}
-use Rattle.wedgie_tree.specs.Edits.{AgreesOn, IsInRectangle, SharesPoint, MeetsArea}
+use Rattle.wedgie_tree.specs.Edits.{AgreesOn, IsInRectangle, MeetsArea}
 
 -- what the law functions say that is used here
 pub record HeldLaws : Type 0 where

@@ -1,6 +1,6 @@
 -- The eighths of the full turn around a point: a triangle has as many as its two children, one at least where it
 -- holds the point and none elsewhere; the two halves of the square have at most eight.
-use Rattle.std.proofs.Common.{◌≡◌, ℕ, zero, suc, ◌+◌, ◌-◌, ◌*◌, ◌/◌, ◌%◌, ◌^◌, ◌<◌, ◌≤◌, Bool, true, false, ◌&&◌, min, refl, sym, ap, ◌∙◌, arith, ⊎_elim, subst}
+use Rattle.std.proofs.Common.{◌≡◌, ℕ, zero, suc, ◌+◌, ◌*◌, ◌/◌, ◌<◌, ◌≤◌, Bool, true, false, ◌&&◌, refl, ap, ◌∙◌, arith, ⊎_elim}
 use Rattle.std.proofs.lemmas.Bool.{cases_lt, leb-true, le-leb}
 use Rattle.std.specs.Cmp.Derive.{both_true}
 use Rattle.mesh_defs.specs.declared.point.Point.{Point}

@@ -12,3 +12,6 @@ mod point;
 
 pub use area::{meets, raise_area};
 pub use point::set_point;
+
+#[cfg(test)]
+mod tests;

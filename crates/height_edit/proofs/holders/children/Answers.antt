@@ -1,11 +1,8 @@
-use Rattle.std.proofs.Common.{◌≡◌, ℕ, ◌+◌, ◌*◌, ◌^◌, ◌<◌, ◌≤◌, length, take, slice_index_or, ◌++◌, ap, sym, subst, ◌∙◌, arith}
-use Rattle.std.proofs.Math.Nat.{pow-succ'}
-use Rattle.std.proofs.lemmas.List.{length-append}
-use Rattle.mesh_defs.specs.Triangle.{level_of}
+use Rattle.std.proofs.Common.{◌≡◌, ◌*◌, take, slice_index_or, ◌++◌, ap, sym, ◌∙◌}
 use Rattle.mesh_defs.specs.BoundingBox.{point}
 use Rattle.height_edit.specs.Holders.{held_from}
 use Rattle.height_edit.specs.Weights.{offspring}
-use Rattle.height_edit.proofs.HolderLemmas.{offspring-take, offspring-part, children-fit, child-high, same-entry}
+use Rattle.height_edit.proofs.HolderLemmas.{offspring-take, children-fit, child-high, same-entry}
 use Rattle.height_edit.proofs.holders.children.Goals as goal
 use Rattle.height_edit.proofs.holders.children.Goals.{After-number}
 

@@ -39,7 +39,7 @@ append-requires-in-loop-depth c =
     let P : List ℕ → Type 0 = λ xs. length xs ≤ 8 in
     record {
       room = room-next c.loop-depth._depth c.args.n c.loop-depth.all.items c.as_slice-in-loop-depth-2.result.now
-      c.loop-depth-test.true c.requires.in_grid.1 c.loop-depth.invariant.few (subst P (sym is) few);
+          c.loop-depth-test.true c.requires.in_grid.1 c.loop-depth.invariant.few (subst P (sym is) few);
     }
 
 pub loop-depth-preserved : goal.loop-depth-preserved

@@ -1,6 +1,5 @@
-use Rattle.std.proofs.Common.{◌≡◌, ◌+◌, ◌*◌, ◌^◌, ◌<◌, ◌≤◌, arith}
+use Rattle.std.proofs.Common.{◌+◌, ◌*◌, ◌^◌, ◌<◌, ◌≤◌, arith}
 use Rattle.std.proofs.Math.Pow.{pow_mono}
-use Rattle.mesh_defs.specs.Triangle.{level_of}
 use Rattle.height_edit.proofs.HolderLemmas.{level-below}
 use Rattle.height_edit.proofs.holders.push_held.Goals as goal
 
