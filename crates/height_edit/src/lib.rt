@@ -8,9 +8,11 @@
 
 mod area;
 mod holders;
+mod laws;
 mod point;
 
 pub use area::{meets, raise_area};
+pub use laws::holder_laws;
 pub use point::set_point;
 
 #[cfg(test)]
