@@ -29,7 +29,8 @@ cond-append : {X : Type 0} → (b : Bool) (x : X) (xs ys : List X) → cond b (x
 cond-append true x xs ys = refl
 cond-append false x xs ys = refl
 
-pub held-append : (n : ℕ) (p : Point) (i from j : ℕ) → held_from n p from (i + j) ≡ held_from n p from i ++ held_from n p (from + i) j
+-- a range of addresses in two parts
+held-append : (n : ℕ) (p : Point) (i from j : ℕ) → held_from n p from (i + j) ≡ held_from n p from i ++ held_from n p (from + i) j
 held-append n p zero from j =
     let none : from + 0 ≡ from = omega arith in let all : 0 + j ≡ j = omega arith in rw (none, all) refl
 held-append n p (suc i) from j =
@@ -79,7 +80,8 @@ offspring-cond : (n : ℕ) (p : Point) (b : Bool) (a : ℕ) (rest : List ℕ) �
 offspring-cond n p true a rest none = refl
 offspring-cond n p false a rest none = rw (none refl) refl
 
-pub offspring-held : TurnLaws → (n : ℕ) (p : Point) (count from : ℕ) → ((a : ℕ) → from ≤ a → a < from + count → IsSplittable n a) →
+-- the children of a range that hold the point are those of the range of children
+offspring-held : TurnLaws → (n : ℕ) (p : Point) (count from : ℕ) → ((a : ℕ) → from ≤ a → a < from + count → IsSplittable n a) →
     offspring n p (held_from n p from count) ≡ held_from n p (2 * from) (2 * count)
 offspring-held laws n p zero from split = refl
 offspring-held laws n p (suc count) from split =
@@ -144,6 +146,7 @@ All-cond P true a rest own all zero d lt = own
 All-cond P true a rest own all (suc k) d lt = all k d (omega arith)
 All-cond P false a rest own all k d lt = all k d lt
 
+-- what holds of each address of a range holds of those that hold the point
 pub All-held : (P : ℕ → Type 0) (n : ℕ) (p : Point) (count from : ℕ) → ((a : ℕ) → from ≤ a → a < from + count → P a) →
     All P (held_from n p from count)
 All-held P n p zero from each = λ k d lt. absurd (omega arith)
@@ -160,23 +163,6 @@ level-below below n a b is low high =
     let same : 2 * n + 1 + 1 ≡ 2 * n + 2 = omega arith in
     let lt : level_of a < 2 * n + 1 = (below a (2 * n + 1) low).1 (rw same high) in
     rw is (omega arith)
-
--- two addresses in turn
-pub held-pair : (n : ℕ) (p : Point) (a : ℕ) → held_from n p a 2 ≡ held_from n p a 1 ++ held_from n p (a + 1) 1
-held-pair n p a = held-append n p 1 a 1
-
--- one address
-held-one-cond : (b : Bool) (xs : List ℕ) (a : ℕ) → b ≡ true → xs ++ a ∷ [] ≡ xs ++ cond b (a ∷ []) []
-held-one-cond true xs a e = refl
-held-one-cond false xs a e = absurd (cc)
-
-pub held-one : (n : ℕ) (p : Point) (xs : List ℕ) (a b : ℕ) → b ≡ a → holds_point n b p ≡ true → xs ++ b ∷ [] ≡ xs ++ held_from n p a 1
-held-one n p xs a b is held = let P : ℕ → Type 0 = λ c. holds_point n c p ≡ true in
-    rw is (held-one-cond (holds_point n a p) xs a (subst P is held))
-
-pub held-none : (n : ℕ) (p : Point) (xs : List ℕ) (a b : ℕ) → b ≡ a → holds_point n b p ≡ false → xs ≡ xs ++ held_from n p a 1
-held-none n p xs a b is out = let P : ℕ → Type 0 = λ c. holds_point n c p ≡ false in
-    rw (subst P is out) (sym (append-nil xs))
 
 -- the children of one triangle more
 pub offspring-take : (n : ℕ) (p : Point) (level : List ℕ) (i : ℕ) → i < length level →
@@ -233,6 +219,7 @@ level-splittable below n d coarse a low high =
     let lt : level_of a < d + 1 = (below a (d + 1) some).1 (omega arith) in
     record { low = some; coarse = omega arith }
 
+-- the halves of the square are level 0
 pub IsFound-bases : (n : ℕ) (p : Point) (level all : List ℕ) → level ≡ held_from n p 2 2 → all ≡ level → IsFound n p 0 level all
 IsFound-bases n p level all is same =
     let halves : weight_in (corners_of n 2) p + weight_in (corners_of n 3) p ≤ 8 =
@@ -253,12 +240,14 @@ next-level laws below n p d level all coarse found =
     let Q : List ℕ → Type 0 = λ xs. offspring n p xs ≡ held_from n p (2 ^ (d + 1 + 1)) (2 ^ (d + 1 + 1)) in
     subst Q (sym found.level_is) (subst P twice (offspring-held laws n p (2 ^ (d + 1)) (2 ^ (d + 1)) (level-splittable below n d coarse)))
 
-pub level-All : ((a k : ℕ) → 2 ≤ a → ((level_of a < k) ↔ (a < 2 ^ (k + 1)))) → (n : ℕ) (p : Point) (d : ℕ) (level all : List ℕ) →
+-- the triangles of a level that is not the finest are splittable
+level-All : ((a k : ℕ) → 2 ≤ a → ((level_of a < k) ↔ (a < 2 ^ (k + 1)))) → (n : ℕ) (p : Point) (d : ℕ) (level all : List ℕ) →
     d < 2 * n → IsFound n p d level all → All (λ a. IsSplittable n a) level
 level-All below n p d level all coarse found =
     let Q : List ℕ → Type 0 = λ xs. All (λ a. IsSplittable n a) xs in
     subst Q (sym found.level_is) (All-held (λ a. IsSplittable n a) n p (2 ^ (d + 1)) (2 ^ (d + 1)) (level-splittable below n d coarse))
 
+-- so their levels are below the finest
 pub level-coarse : ((a k : ℕ) → 2 ≤ a → ((level_of a < k) ↔ (a < 2 ^ (k + 1)))) → (n : ℕ) (p : Point) (d : ℕ) (level all : List ℕ) →
     d < 2 * n → IsFound n p d level all → All (λ a. level_of a < 2 * n) level
 level-coarse below n p d level all coarse found = λ k e lt.
@@ -269,6 +258,7 @@ next-turn : TurnLaws → ((a k : ℕ) → 2 ≤ a → ((level_of a < k) ↔ (a <
 next-turn laws below n p d level all coarse found =
     omega (arith, weights-offspring laws n p level (level-All below n p d level all coarse found), found.turn)
 
+-- at most eight children of a level hold the point
 pub next-few : TurnLaws → ((a k : ℕ) → 2 ≤ a → ((level_of a < k) ↔ (a < 2 ^ (k + 1)))) → (n : ℕ) (p : Point) (d : ℕ) (level all : List ℕ) →
     d < 2 * n → IsFound n p d level all → length (offspring n p level) ≤ 8
 next-few laws below n p d level all coarse found =
@@ -278,6 +268,7 @@ next-few laws below n p d level all coarse found =
     subst P (sym is) (length-held n p (2 ^ (d + 1 + 1)) (2 ^ (d + 1 + 1))) in
     omega (arith, each, next-turn laws below n p d level all coarse found)
 
+-- a level more is found
 pub IsFound-next : TurnLaws → ((a k : ℕ) → 2 ≤ a → ((level_of a < k) ↔ (a < 2 ^ (k + 1)))) → (n : ℕ) (p : Point) (d : ℕ)
     (level all next more : List ℕ) → d < 2 * n → IsFound n p d level all → next ≡ offspring n p level → more ≡ all ++ next →
     IsFound n p (d + 1) next more

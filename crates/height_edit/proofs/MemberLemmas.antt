@@ -1,7 +1,6 @@
 -- The list of the triangles that hold a point has each of them, and is ascending.
-use Rattle.std.proofs.Common.{◌≡◌, ℕ, zero, suc, ◌+◌, ◌-◌, ◌*◌, ◌^◌, ◌<◌, ◌≤◌, ◌⊎◌, ◌↔◌, inl, inr, Bool, true, false, cond, List, [], ◌∷◌, All, Contains, refl, sym, subst, arith, ⊎_elim}
+use Rattle.std.proofs.Common.{◌≡◌, ℕ, zero, suc, ◌+◌, ◌-◌, ◌*◌, ◌^◌, ◌<◌, ◌≤◌, ◌↔◌, inl, inr, Bool, true, false, cond, List, ◌∷◌, All, Contains, refl, subst, arith, ⊎_elim}
 use Rattle.std.proofs.lemmas.Bool.{cases_lt}
-use Rattle.std.proofs.lemmas.Nat.{pow_pos}
 use Rattle.std.proofs.Math.Pow.{pow_mono}
 use Rattle.mesh_defs.specs.declared.point.Point.{Point}
 use Rattle.mesh_defs.specs.Triangle.{IsAddress}
@@ -83,5 +82,6 @@ held-ascending n p (suc count) from = IsAscending-cond (holds_point n from p) fr
     (All-held (λ c. from < c) n p count (from + 1) (λ c low high. omega arith))
     (held-ascending n p count (from + 1))
 
+-- the list is ascending
 pub holders-ascending : (n : ℕ) (p : Point) → IsAscending (holders n p)
 holders-ascending n p = held-ascending n p (2 ^ (2 * n + 2) - 2) 2

@@ -52,7 +52,7 @@ fn bases(n: u32, x: u32, y: u32) -> ArrayVec<Tri, AROUND>
 
 /// Adds the triangles of a level.
 fn append(all: &mut ArrayVec<Tri, HOLDERS>, level: &[Tri])
-    requires room { length all.old.items + length level.now ≤ 192 }
+    requires room { length all.old.items + length level.now ≤ HOLDERS }
     ensures { all.new.items ≡ all.old.items ++ level.now }
 {
     for i in 0..level.len() {
@@ -66,7 +66,7 @@ fn children(level: &[Tri], n: u32, x: u32, y: u32) -> ArrayVec<Tri, AROUND>
     requires in_columns { x ≤ 2 ^ n }
     requires in_rows { y ≤ 2 ^ n }
     requires splittable { All (λ a. level_of a < 2 * n) level.now }
-    requires room { length (offspring n (point x y) level.now) ≤ 8 }
+    requires room { length (offspring n (point x y) level.now) ≤ AROUND }
     ensures { result.items ≡ offspring n (point x y) level.now }
 {
     level_laws();
@@ -84,7 +84,7 @@ fn push_pair(held: &mut ArrayVec<Tri, AROUND>, left: u32, n: u32, x: u32, y: u32
     requires in_rows { y ≤ 2 ^ n }
     requires low { 2 ≤ left }
     requires high { left + 1 < 2 ^ (2 * n + 2) }
-    requires room { length held.old.items + length (held_from n (point x y) left 2) ≤ 8 }
+    requires room { length held.old.items + length (held_from n (point x y) left 2) ≤ AROUND }
     ensures { held.new.items ≡ held.old.items ++ held_from n (point x y) left 2 }
 {
     push_held(held, left, n, x, y);
@@ -98,7 +98,7 @@ fn push_held(held: &mut ArrayVec<Tri, AROUND>, number: u32, n: u32, x: u32, y: u
     requires in_rows { y ≤ 2 ^ n }
     requires low { 2 ≤ number }
     requires high { number < 2 ^ (2 * n + 2) }
-    requires room { length held.old.items + length (held_from n (point x y) number 1) ≤ 8 }
+    requires room { length held.old.items + length (held_from n (point x y) number 1) ≤ AROUND }
     ensures { held.new.items ≡ held.old.items ++ held_from n (point x y) number 1 }
 {
     level_laws();

@@ -12,6 +12,7 @@ mod laws;
 mod point;
 
 pub use area::{meets, raise_area};
+pub use holders::HOLDERS;
 pub use laws::holder_laws;
 pub use point::set_point;
 

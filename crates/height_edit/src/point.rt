@@ -17,7 +17,8 @@ use wedgie_tree::{Wedges, edit_laws};
 /// triangles of all levels that hold the point, by address.
 ///
 /// At most eight triangles of one level hold a point, and there are at most 23 levels.
-/// Cost (not proved): that of `Wedges::set`, and sixteen steps down to corners a level. Takes no memory.
+/// Cost (not proved): that of `Wedges::set`, and at most sixteen walks down to corners for each level. Takes no
+/// memory.
 pub fn set_point(wedges: &mut Wedges, x: u32, y: u32, h: u16) -> ArrayVec<Tri, HOLDERS>
     requires in_columns { x ≤ 2 ^ wedges.old.n }
     requires in_rows { y ≤ 2 ^ wedges.old.n }
