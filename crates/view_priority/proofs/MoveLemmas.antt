@@ -1,7 +1,8 @@
 -- How far a distance can change while the camera moves.
-use Rattle.std.proofs.Common.{ℕ, ◌+◌, ◌*◌, ◌<◌, ◌≤◌, arith, ℤ, ◌-ℤ◌, unsigned_abs, ◌≤ℤ◌}
+use Rattle.std.proofs.Common.{◌≡◌, ℕ, ◌+◌, ◌*◌, ◌<◌, ◌≤◌, arith, ℤ, ◌-ℤ◌, unsigned_abs, ◌≤ℤ◌}
 use Rattle.std.proofs.Math.Nat.{mul-le-mul}
 use Rattle.std.proofs.lemmas.Int.{ints}
+use Rattle.mesh_defs.specs.State.{move_length}
 use Rattle.mesh_defs.specs.BoundingBox.{BoundingBox, CameraAt, IsRoot, gap, squared_distance, root_of, distance_of}
 use Rattle.view_priority.specs.Camera.{moved}
 use Rattle.cull_marks.specs.Nesting.{IsOrdered}
@@ -47,3 +48,16 @@ distance_of-moved roots box from to order =
     let limit = root-moved _ _ _ i j k (root_of (squared_distance box from)) root_from.next_square_above in
     root-at_most (squared_distance box to) (root_of (squared_distance box to))
     (root_of (squared_distance box from) + moved from to) root_to.square_within (omega arith)
+
+-- no move has no length
+pub move_length-none : (c : CameraAt) → move_length c c ≡ 0
+move_length-none c = grind (arith, ints)
+
+-- on one axis, a way over a third place is no shorter
+axis-moved : (v w u : ℤ) → unsigned_abs (w -ℤ v) ≤ unsigned_abs (u -ℤ v) + unsigned_abs (w -ℤ u)
+axis-moved v w u = grind (arith, ints)
+
+-- a way over a third camera is no shorter
+pub move_length-two : (from between to : CameraAt) → move_length from to ≤ move_length from between + move_length between to
+move_length-two from between to =
+    omega (arith, axis-moved from.x to.x between.x, axis-moved from.y to.y between.y, axis-moved from.z to.z between.z)

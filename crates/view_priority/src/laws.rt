@@ -3,7 +3,8 @@
 ghost use Rattle.std.specs.Prelude.{◌≡◌, ℕ, ◌+◌, ◌*◌, ◌/◌, ◌≤◌, List};
 ghost use Rattle.mesh_defs.specs.Triangle.{level_of, IsSplittable};
 ghost use Rattle.mesh_defs.specs.BoundingBox.{BoundingBox, CameraAt, box_of, distance_of};
-ghost use Rattle.mesh_defs.specs.View.{View};
+ghost use Rattle.mesh_defs.specs.State.{move_length};
+ghost use Rattle.mesh_defs.specs.View.{View, ViewPlane, mark_of};
 ghost use Rattle.mesh_defs.specs.Priority.{priority_of};
 ghost use Rattle.mesh_defs.specs.Ranking.{RanksBefore};
 ghost use Rattle.cull_marks.specs.Nesting.{IsInside, IsOrdered};
@@ -11,7 +12,7 @@ ghost use Rattle.view_priority.specs.Camera.{moved};
 
 use bintree_addr::{corner_laws, level_laws};
 use cull_marks::mark_laws;
-use mesh_defs::roots;
+use mesh_defs::{Mark, roots};
 use wedgie_tree::wedge_laws;
 
 /// Priorities do not rise from a triangle to its children, since a child's box lies in its parent's.
@@ -49,4 +50,27 @@ pub fn distance_laws()
         distance_of box to ≤ distance_of box from + moved from to }
 {
     roots();
+}
+
+/// What a triangle passes on to its children, that it is Outside and that it is Inside; and that the lengths of
+/// moves add up: no way round is shorter than the move itself.
+pub fn view_laws()
+    ensures outside_left { (n : ℕ) (heights : List ℕ) (spacing : ℕ) (planes : List ViewPlane) (a : ℕ) → IsSplittable n a →
+        mark_of planes (box_of n heights spacing a) ≡ Mark.Outside →
+        mark_of planes (box_of n heights spacing (2 * a)) ≡ Mark.Outside }
+    ensures outside_right { (n : ℕ) (heights : List ℕ) (spacing : ℕ) (planes : List ViewPlane) (a : ℕ) → IsSplittable n a →
+        mark_of planes (box_of n heights spacing a) ≡ Mark.Outside →
+        mark_of planes (box_of n heights spacing (2 * a + 1)) ≡ Mark.Outside }
+    ensures inside_left { (n : ℕ) (heights : List ℕ) (spacing : ℕ) (planes : List ViewPlane) (a : ℕ) → IsSplittable n a →
+        mark_of planes (box_of n heights spacing a) ≡ Mark.Inside →
+        mark_of planes (box_of n heights spacing (2 * a)) ≡ Mark.Inside }
+    ensures inside_right { (n : ℕ) (heights : List ℕ) (spacing : ℕ) (planes : List ViewPlane) (a : ℕ) → IsSplittable n a →
+        mark_of planes (box_of n heights spacing a) ≡ Mark.Inside →
+        mark_of planes (box_of n heights spacing (2 * a + 1)) ≡ Mark.Inside }
+    ensures no_move { (camera : CameraAt) → move_length camera camera ≡ 0 }
+    ensures two_moves { (from between to : CameraAt) →
+        move_length from to ≤ move_length from between + move_length between to }
+{
+    mark_laws();
+    priority_laws();
 }

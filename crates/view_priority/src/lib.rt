@@ -22,7 +22,7 @@ mod tests;
 pub use camera::Camera;
 pub use evaluation::{bounds, rank};
 pub use gap::distance;
-pub use laws::{distance_laws, priority_laws};
+pub use laws::{distance_laws, priority_laws, view_laws};
 pub use meter::Meter;
 pub use ranks::Bounds;
 pub use ratio::priority;

@@ -1,0 +1,4 @@
+pub mod SameLemmas
+pub mod WeightLemmas
+pub mod HolderLemmas
+pub mod MemberLemmas
