@@ -133,6 +133,14 @@ if [ -x "$single" ]; then
   echo "| the mate of every address, n = 11 | $calls calls, $found mates | $seconds s | | under 3 s |"
   read -r _ _ calls _ found _ seconds <<<"$(fastest forced)"
   echo "| the deepest corner triangle split by force on the empty set, n = 11 | $calls calls, $found triangles split | $(awk -v s="$seconds" -v n="$calls" 'BEGIN { printf "%.1f", 1000000 * s / n }') us a call | | under 1 ms |"
+  read -r _ _ calls _ found _ seconds <<<"$(fastest heap)"
+  if command -v rustc >"$room/said" && rustc -O --edition 2021 "$here/heap.rs" -o "$room/heap" 2>"$room/said"; then
+    read -r _ _ _ _ plain_found _ plain <<<"$(for ((k = 0; k < runs; k++)); do "$room/heap"; done | sort -t ' ' -k 7 -n | head -n 1)"
+    [ "$plain_found" = "$found" ] || { echo "bench/run.sh: the two heaps differ: $found and $plain_found" >&2; exit 1; }
+    echo "| random calls of a heap of 262,144 slots with keys of 16 bytes | $calls calls, sum $found | $seconds s | plain Rust $plain s, ours / plain $(ratio "$seconds" "$plain") | at most 1.2 |"
+  else
+    echo "| random calls of a heap of 262,144 slots with keys of 16 bytes | $calls calls, sum $found | $seconds s | no rustc | at most 1.2 |"
+  fi
   # seconds_of CASE: its least seconds. rate BYTES CASE LESS: bytes a second of 20 calls, in GB or MB.
   seconds_of() { local it; read -r _ _ _ _ _ _ it <<<"$(fastest "$1")"; echo "$it"; }
   rate() { awk -v b="$1" -v s="$(seconds_of "$2")" -v less="$3" 'BEGIN { r = 20 * b / (s - less); printf (r < 1e9 ? "%.0f MB/s" : "%.2f GB/s"), (r < 1e9 ? r / 1e6 : r / 1e9) }'; }

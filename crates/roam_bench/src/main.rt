@@ -6,9 +6,11 @@
 
 #![tactic(auto)]
 
+mod heaps;
 mod pools;
 mod reading;
 
+use crate::heaps::heap_calls;
 use crate::pools::{Work, filled, made, refined};
 use crate::reading::{Kernel, kernels, plain_text, raw_text, readings, text_alone};
 use bintree_addr::Tri;
@@ -30,6 +32,7 @@ fn main(rt: HostRuntime) -> io::Result<()> {
         let (calls, found) = match word.as_str() {
             "mates" => mates(),
             "forced" => forced(rt.alloc()),
+            "heap" => heap_calls(rt.alloc()),
             "wedges" => wedges(rt.alloc()),
             "ranks" => ranks(rt.alloc()),
             "pool_new" => made(rt.alloc()),
