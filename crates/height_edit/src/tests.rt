@@ -10,7 +10,8 @@ use std::test::Fail;
 use wedgie_tree::Wedges;
 
 fn flat(alloc: Global) -> Result<Wedges, Fail>
-    ensures { IfOk result (λ wedges. wedges.n ≡ 2) }
+    ensures n { IfOk result (λ wedges. wedges.n ≡ 2) }
+    ensures maxval { IfOk result (λ wedges. wedges.maxval ≡ 255) }
 {
     Ok(Wedges::build(alloc, Grid::flat(alloc, 2, 255)?)?)
 }
@@ -83,7 +84,9 @@ fn the_triangles_that_hold_a_point_are_listed(rt: HostRuntime) -> Result<(), Fai
 fn an_area_is_raised(rt: HostRuntime) -> Result<(), Fail> {
     let mut wedges = flat(rt.alloc())?;
     raise_area(&mut wedges, 2, 2, 2, 2, 10);
-    raise_area(&mut wedges, 1, 0, 1, 0, 10);
+    // 2, 4, 8, 17, 34 and 35 hold the point.
+    let held = set_point(&mut wedges, 1, 0, 10);
+    assert_eq!(rt; held.len(), 6);
     raise_area(&mut wedges, 1, 0, 3, 0, 7);
     for (number, want) in [
         (2, 71),
