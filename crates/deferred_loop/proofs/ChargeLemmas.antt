@@ -132,9 +132,9 @@ module _ (w : DeferredFrame) (before after : SeenMesh) (r : Rank) (t : ℕ) (tol
   charged_asked evaluations added removed count more counted c (inl there) = charged_reserve evaluations added removed count more counted c there
   charged_asked evaluations added removed count more counted c (inr old) = charged_open evaluations added removed count more counted c old.0 old.1
 
-module _ (w : DeferredFrame) (is : IsDeferredFrame w) (s : SeenMesh) (settled : IsSettled w s) (valid : IsGridSet s.set.n s.set.members) where
+module _ (w : DeferredFrame) (is : IsDeferredFrame w) (s : SeenMesh) (settled : IsSettled w s) where
   grid_set : IsGridSet w.n s.set.members
-  grid_set = subst (λ z. IsGridSet z s.set.members) settled.grid valid
+  grid_set = settled.valid
 
   -- the head of the split queue may be asked
   pub head_may : (h : Head) → IsHead s h → leaf_count w.n s.set.members ≤ w.budget → h.sure ≡ false → (h.rank.p ≡ 0 → ⊥) →
@@ -166,17 +166,17 @@ module _ (w : DeferredFrame) (is : IsDeferredFrame w) (s : SeenMesh) (settled : 
     -- the keys of an old diamond are no less than its bounds at the start
     old_lower : (t b : ℕ) (asked : List ℕ) → IsInDiamond w.n h.rank.tri t → IsOldMember w s asked t → IsInDiamond w.n t b → w.lower b ≤ worst_key s b
     old_lower t b asked inside old i =
-        let can = can_merge_with w.n (among s.set.members) t b grid_set.closed (last_key w is s settled valid h last t inside).mergeable i in
+        let can = can_merge_with w.n (among s.set.members) t b grid_set.closed (last_key w is s settled h last t inside).mergeable i in
         worst_key-above w s b (w.lower b) (settled.keys b (member can)) (is.below b) (old.lower b i)
 
     -- a triangle of the diamond has no better key
     better : (t b : ℕ) → IsInDiamond w.n h.rank.tri t → IsInDiamond w.n t b → IsNoLater ((lower_key (present w s) (sure s)) h.rank.tri) h.rank.tri ((lower_key (present w s) (sure s)) b) b
-    better t b inside i = (last_key w is s settled valid h last t inside).better b i
+    better t b inside i = (last_key w is s settled h last t inside).better b i
 
     -- the key that the queue holds of it
     key_of : (t b : ℕ) → IsInDiamond w.n h.rank.tri t → IsInDiamond w.n t b → worst_key s b ≡ lower_key (present w s) (sure s) b
     key_of t b inside i = worst_key-lower w s b (settled.keys b (member
-        (can_merge_with w.n (among s.set.members) t b grid_set.closed (last_key w is s settled valid h last t inside).mergeable i)))
+        (can_merge_with w.n (among s.set.members) t b grid_set.closed (last_key w is s settled h last t inside).mergeable i)))
 
     -- after f by a key, after f by the bound
     later_still : (f b : ℕ) (key : ℕ → ℕ) → w.lower b ≤ key b → IsBefore (w.priority f) f (key b) b → IsBefore (w.priority f) f (w.lower b) b
@@ -188,8 +188,8 @@ module _ (w : DeferredFrame) (is : IsDeferredFrame w) (s : SeenMesh) (settled : 
 
     -- the key against the first leaf
     key_after : (f : Rank) → IsFirstRank w.n w.priority s.set.members f → ComesFirst f h.rank → IsBefore (w.priority f.tri) f.tri ((lower_key (present w s) (sure s)) h.rank.tri) h.rank.tri
-    key_after f first (inl more) = inl (omega (arith, first.value, last_value w is s settled valid h last))
-    key_after f first (inr tie) = inr (sym first.value ∙ tie.0 ∙ last_value w is s settled valid h last, tie.1)
+    key_after f first (inl more) = inl (omega (arith, first.value, last_value w is s settled h last))
+    key_after f first (inr tie) = inr (sym first.value ∙ tie.0 ∙ last_value w is s settled h last, tie.1)
 
     -- an old diamond that meets the limit straddles
     straddles : (limit : Limit) (t : ℕ) (evaluations added removed count : ℕ) (c : IsCharged w evaluations s added removed count) → IsAllowed w s.set.members limit → IsMet limit h.rank →
@@ -201,7 +201,7 @@ module _ (w : DeferredFrame) (is : IsDeferredFrame w) (s : SeenMesh) (settled : 
         let key = key_of t b inside i in let low = old_lower t b c.asked inside old i in
         no_later_trans
         (no_later_trans
-        (lead_no_later_key (present w s) (present_is w s is) s.set.members (sure s) t h.rank.tri grid_set (last_key w is s settled valid h last t inside) d.0 d.1.lead)
+        (lead_no_later_key (present w s) (present_is w s is) s.set.members (sure s) t h.rank.tri grid_set (last_key w is s settled h last t inside) d.0 d.1.lead)
         (better t b inside i))
         (no_later_from (omega arith) (omega arith))))
         (λ none. absurd (some_lead w.n w.priority s.set.members w.budget grid_set.closed is.low over none))
@@ -214,7 +214,7 @@ module _ (w : DeferredFrame) (is : IsDeferredFrame w) (s : SeenMesh) (settled : 
     straddles Zero t evaluations added removed count c _ met inside old = zero_lower (λ b i.
         let key = key_of t b inside i in let low = old_lower t b c.asked inside old i in
         let less = no_later-le (better t b inside i) in
-        let none : lower_key (present w s) (sure s) h.rank.tri ≡ 0 = sym (last_value w is s settled valid h last) ∙ met in omega arith)
+        let none : lower_key (present w s) (sure s) h.rank.tri ≡ 0 = sym (last_value w is s settled h last) ∙ met in omega arith)
 
     -- a triangle of the head of the merge queue may be asked, where its key meets the limit
     pub last_may : (limit : Limit) (t : ℕ) → IsAllowed w s.set.members limit → IsMet limit h.rank → IsInDiamond s.set.n h.rank.tri t → s.known t ≡ false →
@@ -224,4 +224,4 @@ module _ (w : DeferredFrame) (is : IsDeferredFrame w) (s : SeenMesh) (settled : 
         ⊎_elim
         (λ there. inl there)
         (λ (old : IsOldMember w s c.asked t). inr (open_member old.can old.undue (straddles limit t evaluations added removed count c allowed met inside old), old.unasked))
-        (c.member t (last_key w is s settled valid h last t inside).mergeable new)
+        (c.member t (last_key w is s settled h last t inside).mergeable new)

@@ -1,12 +1,12 @@
 -- Entering what is fresh.
 use Rattle.std.proofs.Common.{◌≡◌, ℕ, ◌+◌, ◌-◌, ◌^◌, ◌<◌, ◌≤◌, true, false, cond, eqb, eq-eqb, IsTrue, List, [], ◌∷◌, length, refl, sym, ◌∙◌, ap, subst, arith, ⊎_elim, Option, Some}
+use Rattle.mesh_defs.specs.GridSet.{IsGridSet}
 use Rattle.std.proofs.lemmas.Bool.{cases_Bool, both_ways, cond-true, cond-false, or_left, or_right, or_from, eqb-true}
 use Rattle.mesh_defs.specs.ClosedSet.{among}
 use Rattle.deferred_loop.specs.Seen.{PoolSet, SeenMesh, IsEntered, upper_of, lower_of}
 use Rattle.frame_steps.specs.Deferred.{DeferredFrame, IsEntry}
 use Rattle.frame_steps.specs.Stamps.{Stamp, Readings, stamp_now, ReadingsHold}
-use Rattle.deferred_loop.specs.Choice.{Priorities}
-use Rattle.deferred_loop.specs.Kept.{told_of, IsSound, IsCaughtUp}
+use Rattle.deferred_loop.specs.Kept.{IsSound, IsCaughtUp}
 use Rattle.deferred_loop.specs.declared.gauge.Reading.{Reading}
 
 -- the stamp of a reading
@@ -44,7 +44,7 @@ entering_last w r odometer before now count more e none =
     let most = e.most in (
       record {
         set = e.set;
-        settled = record { grid = e.sound.grid; fresh = none; keys = λ a entry. e.sound.keys a entry (out a) };
+        settled = record { grid = e.sound.grid; valid = e.sound.valid; fresh = none; keys = λ a entry. e.sound.keys a entry (out a) };
         known = e.known;
         stamp = λ a. e.stamp a (out a);
       },
@@ -80,6 +80,7 @@ module _ (w : DeferredFrame) (r : Readings) (odometer : ℕ) (now after : SeenMe
   entered_sound : ReadingsHold w.priority odometer r → ((a : ℕ) → IsTrue (among now.fresh a) → now.known a ≡ false) → IsSound w now → IsSound w after
   entered_sound hold unknown s = record {
     grid = ap (λ (z : PoolSet). z.n) entered.set ∙ s.grid;
+    valid = subst (λ (z : PoolSet). IsGridSet w.n z.members) (sym entered.set) s.valid;
     keys = λ a entry out. ⊎_elim
         (λ (own : eqb t a ≡ true). record {
           exact = λ told. absurd (both_ways (after.known a) (entered.known a ∙ unknown a (own_there a own)) told);
@@ -118,7 +119,3 @@ module _ (w : DeferredFrame) (r : Readings) (odometer : ℕ) (now after : SeenMe
 -- the one that is entered next is fresh
 pub next_listed : (s : SeenMesh) (t : ℕ) → (rest : List ℕ) × (s.fresh ≡ t ∷ rest) → IsTrue (among s.fresh t)
 next_listed s t next = ap (λ (l : List ℕ). among l t) next.1 ∙ or_left (eqb t t) (among next.0 t) (eq-eqb t t refl)
-
--- the readings of a gauge hold for its frame
-pub hold_here : (w : DeferredFrame) (told : Priorities) (r : Readings) (odometer : ℕ) → told ≡ told_of w → ReadingsHold told.of odometer r → ReadingsHold w.priority odometer r
-hold_here w told r odometer same hold = subst (λ (z : Priorities). ReadingsHold z.of odometer r) same hold

@@ -2,7 +2,6 @@
 use Rattle.std.proofs.Common.{◌≡◌, ℕ, ◌+◌, ◌-◌, ◌*◌, ◌^◌, ◌<◌, ◌≤◌, inl, inr, false, IsTrue, List, length, sym, ◌∙◌, subst, arith, ⊎_elim, Some}
 use Rattle.mesh_defs.specs.ClosedSet.{among}
 use Rattle.deferred_loop.specs.Seen.{PoolSet, SeenMesh, IsForgotten, IsCountedBy}
-use Rattle.mesh_defs.specs.GridSet.{IsGridSet}
 use Rattle.mesh_defs.proofs.ListLemmas.{among-in}
 use Rattle.closure_laws.proofs.SizeLemmas.{length-members}
 use Rattle.frame_steps.specs.Steps.{IsSplitStep, IsMergeStep, IsFinished, IsFrameRun}
@@ -16,19 +15,19 @@ use Rattle.deferred_loop.specs.Kept.{IsSettled, IsCharged, IsStamped}
 
 module _ (w : DeferredFrame) (is : IsDeferredFrame w) where
   -- a split leaves less to do
-  pub split_less : (before mid after : SeenMesh) → IsSettled w before → IsGridSet before.set.n before.set.members → mid.set ≡ before.set →
+  pub split_less : (before mid after : SeenMesh) → IsSettled w before → mid.set ≡ before.set →
       IsSplitStep w.n w.budget w.priority mid.set.members after.set.members →
       steps_left w.n w.budget w.priority after.set.members < steps_left w.n w.budget w.priority before.set.members
-  split_less before mid after settled valid same step =
-      split_steps_left w.n w.budget w.priority is.falling is.low before.set.members after.set.members (subst (λ z. IsGridSet z before.set.members) settled.grid valid)
+  split_less before mid after settled same step =
+      split_steps_left w.n w.budget w.priority is.falling is.low before.set.members after.set.members settled.valid
       (subst (λ (z : PoolSet). IsSplitStep w.n w.budget w.priority z.members after.set.members) same step)
 
   -- and so does a merge
-  pub merge_less : (before mid after : SeenMesh) → IsSettled w before → IsGridSet before.set.n before.set.members → mid.set ≡ before.set →
+  pub merge_less : (before mid after : SeenMesh) → IsSettled w before → mid.set ≡ before.set →
       IsMergeStep w.n w.budget w.priority mid.set.members after.set.members →
       steps_left w.n w.budget w.priority after.set.members < steps_left w.n w.budget w.priority before.set.members
-  merge_less before mid after settled valid same step =
-      merge_steps_left w.n w.budget w.priority is.falling is.low before.set.members after.set.members (subst (λ z. IsGridSet z before.set.members) settled.grid valid)
+  merge_less before mid after settled same step =
+      merge_steps_left w.n w.budget w.priority is.falling is.low before.set.members after.set.members settled.valid
       (subst (λ (z : PoolSet). IsMergeStep w.n w.budget w.priority z.members after.set.members) same step)
 
   -- the counts have room

@@ -47,14 +47,18 @@ last_decided s h last none = subst (λ z. MatchOption z (IsDecided s h.rank.tri)
 pub last_part : (s : SeenMesh) (h : Last) (t : ℕ) → IsLastHead s h → h.unasked ≡ Some t → IsInDiamond s.set.n h.rank.tri t × (s.known t ≡ false)
 last_part s h t last some = subst (λ z. MatchOption z (IsDecided s h.rank.tri) (λ t. IsInDiamond s.set.n h.rank.tri t × (s.known t ≡ false))) some last.unasked
 
+-- the set of a settled mesh is closed
+pub grid_set_here : (w : DeferredFrame) (s : SeenMesh) → IsSettled w s → IsGridSet s.set.n s.set.members
+grid_set_here w s settled = subst (λ z. IsGridSet z s.set.members) (sym settled.grid) settled.valid
+
 -- 0 or positive
 pub positive_or_zero : (x : ℕ) → (x ≡ 0 → ⊥) → 0 < x
 positive_or_zero x some = ⊎_elim (λ (more : 0 < x). more) (λ rest. absurd (some (let e : x ≡ 0 = omega arith in e))) (cases_lt 0 x)
 
-module _ (w : DeferredFrame) (is : IsDeferredFrame w) (s : SeenMesh) (settled : IsSettled w s) (valid : IsGridSet s.set.n s.set.members) where
+module _ (w : DeferredFrame) (is : IsDeferredFrame w) (s : SeenMesh) (settled : IsSettled w s) where
   -- the set, at the frame's grid
-  pub set : IsGridSet w.n s.set.members
-  set = subst (λ z. IsGridSet z s.set.members) settled.grid valid
+  set : IsGridSet w.n s.set.members
+  set = settled.valid
 
   -- the frame with the bounds of the mesh
   abbrev p : DeferredFrame
@@ -172,7 +176,7 @@ module _ (w : DeferredFrame) (is : IsDeferredFrame w) (s : SeenMesh) (settled : 
 
     -- the triangle to ask is an entry of the mesh
     pub last_entry : (t : ℕ) → IsInDiamond s.set.n h.rank.tri t → IsEntry s.set.n (among s.set.members) t
-    last_entry t inside = member (can_merge_with s.set.n (among s.set.members) h.rank.tri t valid.closed last.mergeable inside)
+    last_entry t inside = member (can_merge_with s.set.n (among s.set.members) h.rank.tri t (grid_set_here w s settled).closed last.mergeable inside)
 
     -- and may be asked
     pub last_level : (told : Priorities) (t : ℕ) → told ≡ told_of w → IsInDiamond s.set.n h.rank.tri t → level_of t ≤ 2 * told.n

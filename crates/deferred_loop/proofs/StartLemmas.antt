@@ -30,10 +30,15 @@ module _ (w : DeferredFrame) (is : IsDeferredFrame w) (r : Readings) (odometer :
   grid : mid.set.n ≡ w.n
   grid = ap (λ (z : PoolSet). z.n) begun.set ∙ of.grid
 
+  -- the set is that of the frame
+  valid : IsGridSet w.n mid.set.members
+  valid = subst (λ z. IsGridSet w.n z) (of.start ∙ sym (ap (λ (z : PoolSet). z.members) begun.set)) is.set
+
   -- what is not due keeps its bounds
   pub begun_sound : IsSound w mid
   begun_sound = record {
     grid = grid;
+    valid = valid;
     keys = λ a entry out.
         let undue = begun.rest a (subst (λ z. IsEntry z (among mid.set.members) a) (sym grid) entry) out in
         record {
@@ -46,8 +51,8 @@ module _ (w : DeferredFrame) (is : IsDeferredFrame w) (r : Readings) (odometer :
   }
 
   -- what is due is an address
-  pub begun_address : (a : ℕ) → IsGridSet mid.set.n mid.set.members → IsTrue (among mid.fresh a) → IsAddress w.n a
-  begun_address a valid i = entry_address w mid.set.members a (subst (λ z. IsGridSet z mid.set.members) grid valid)
+  pub begun_address : (a : ℕ) → IsTrue (among mid.fresh a) → IsAddress w.n a
+  begun_address a i = entry_address w mid.set.members a valid
       (subst (λ z. IsEntry z (among mid.set.members) a) grid (begun.each a i).0)
 
   module _ (after : SeenMesh) (caught : IsCaughtUp w r odometer mid after) (count more : ℕ) (most : more ≤ count + length mid.fresh) (least : more < 2 ^ 64 - 1 → count + length mid.fresh ≤ more) where

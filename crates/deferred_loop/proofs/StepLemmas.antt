@@ -5,7 +5,7 @@ use Rattle.std.proofs.lemmas.Bool.{cases_Bool, cond-true, cond-false, false_from
 use Rattle.mesh_defs.specs.Triangle.{IsAddress, IsSplittable}
 use Rattle.mesh_defs.specs.ClosedSet.{IsClosed, leaves_of, among}
 use Rattle.mesh_defs.proofs.ListLemmas.{IsIn-among, among-in}
-use Rattle.deferred_loop.specs.Seen.{PoolSet, SeenMesh, IsSame, IsRenewed, IsNewEntry, lower_of, upper_of}
+use Rattle.deferred_loop.specs.Seen.{PoolSet, SeenMesh, IsSame, IsRenewed, IsNewEntry, lower_of, upper_of, IsMergeOf, IsSplitOf}
 use Rattle.mesh_defs.specs.GridSet.{IsGridSet, IsForced}
 use Rattle.closure_laws.specs.Diamond.{IsInDiamond, CanMerge, IsWithoutDiamond}
 use Rattle.frame_steps.specs.Steps.{leaf_count, IsSplitStep, IsMergeStep, Run, split, merge}
@@ -42,12 +42,27 @@ same_key w before mid a same key = record {
 }
 
 -- so the keys are sound, but for what is fresh
-pub renewed_sound : (w : DeferredFrame) (before mid : SeenMesh) → IsSettled w before → mid.set.n ≡ before.set.n → IsRenewed before mid → IsSound w mid
-renewed_sound w before mid s same r = record {
+renewed_sound : (w : DeferredFrame) (before mid : SeenMesh) → IsSettled w before → mid.set.n ≡ before.set.n → IsRenewed before mid → IsGridSet w.n mid.set.members → IsSound w mid
+renewed_sound w before mid s same r valid = record {
   grid = same ∙ s.grid;
+  valid = valid;
   keys = λ a entry out.
       let old = kept_entry before mid a r (subst (λ z. IsEntry z (among mid.set.members) a) (sym (same ∙ s.grid)) entry) out in
       same_key w before mid a old.1 (s.keys a (subst (λ z. IsEntry z (among before.set.members) a) (same ∙ s.grid) old.0));
+}
+
+-- so they are after a split
+pub split_sound : (w : DeferredFrame) (before mid : SeenMesh) (t : ℕ) → IsSettled w before → IsSplitOf before mid t → IsSound w mid
+split_sound w before mid t s step = renewed_sound w before mid s step.n step.renewed
+    record { n_low = s.valid.n_low; n_high = s.valid.n_high; ascending = step.forced.ascending; closed = (subst (λ z. IsForced z before.set.members t mid.set.members) s.grid step.forced).least.closed }
+
+-- and after a merge
+pub merge_sound : (w : DeferredFrame) (before mid : SeenMesh) (d : ℕ) → IsSettled w before → CanMerge w.n (among before.set.members) d → IsMergeOf before mid d → IsSound w mid
+merge_sound w before mid d s can step = renewed_sound w before mid s step.n step.renewed record {
+  n_low = s.valid.n_low;
+  n_high = s.valid.n_high;
+  ascending = step.merged.ascending;
+  closed = without_diamond-closed w.n before.set.members d mid.set.members s.valid.closed can (subst (λ z. IsWithoutDiamond z before.set.members d mid.set.members) s.grid step.merged);
 }
 
 -- what is new is an entry
@@ -56,10 +71,10 @@ new_entry n before mid a (inl h) = leaf h.0
 new_entry n before mid a (inr h) = member h.0
 
 -- and an address
-pub fresh_address : (w : DeferredFrame) (before mid : SeenMesh) (a : ℕ) → mid.set.n ≡ w.n → IsGridSet mid.set.n mid.set.members → IsRenewed before mid → IsTrue (among mid.fresh a) → IsAddress w.n a
-fresh_address w before mid a grid valid r i =
-    entry_address w mid.set.members a (subst (λ z. IsGridSet z mid.set.members) grid valid)
-    (subst (λ z. IsEntry z (among mid.set.members) a) grid (new_entry mid.set.n (among before.set.members) (among mid.set.members) a (r.each a i)))
+pub fresh_address : (w : DeferredFrame) (before mid : SeenMesh) (a : ℕ) → IsSound w mid → IsRenewed before mid → IsTrue (among mid.fresh a) → IsAddress w.n a
+fresh_address w before mid a sound r i =
+    entry_address w mid.set.members a sound.valid
+    (subst (λ z. IsEntry z (among mid.set.members) a) sound.grid (new_entry mid.set.n (among before.set.members) (among mid.set.members) a (r.each a i)))
 
 module _ (w : DeferredFrame) (before mid after : SeenMesh) (settled : IsSettled w before) (same : mid.set.n ≡ before.set.n) (renewed : IsRenewed before mid)
     (r : Readings) (odometer : ℕ) (caught : IsCaughtUp w r odometer mid after) where
@@ -199,10 +214,10 @@ pub merge_step : (w : DeferredFrame) (before : List ℕ) (d : ℕ) (after : List
 merge_step w before d after next without = record { diamond = d; last = next.last; must = next.must; merged = without }
 
 -- what is split next is splittable
-pub splittable : (w : DeferredFrame) (is : IsDeferredFrame w) (s : SeenMesh) → IsSettled w s → IsGridSet s.set.n s.set.members → (t : ℕ) →
+pub splittable : (w : DeferredFrame) (is : IsDeferredFrame w) (s : SeenMesh) → IsSettled w s → (t : ℕ) →
     IsNextSplit w.n w.budget w.priority s.set.members t → IsSplittable s.set.n t
-splittable w is s settled valid t next = subst (λ z. IsSplittable z t) (sym settled.grid)
-    (first_leaf_splittable w.n w.priority is.falling (among s.set.members) t (subst (λ z. IsGridSet z s.set.members) settled.grid valid).closed next.first)
+splittable w is s settled t next = subst (λ z. IsSplittable z t) (sym settled.grid)
+    (first_leaf_splittable w.n w.priority is.falling (among s.set.members) t settled.valid.closed next.first)
 
 -- what is merged next can be merged
 pub can_here : (w : DeferredFrame) (s : SeenMesh) → IsSettled w s → (d : ℕ) → IsNextMerge w.n w.budget w.priority s.set.members d → CanMerge s.set.n (among s.set.members) d

@@ -1,5 +1,6 @@
 -- What a told rank changes.
 use Rattle.std.proofs.Common.{◌≡◌, ℕ, ◌+◌, ◌<◌, ◌≤◌, inl, inr, Bool, true, false, not, cond, eqb, eq-eqb, ◌||◌, List, [], ◌∷◌, ◌++◌, length, refl, sym, ◌∙◌, ap, subst, arith, ⊎_elim, Option}
+use Rattle.mesh_defs.specs.GridSet.{IsGridSet}
 use Rattle.std.specs.List.{count_by}
 use Rattle.std.proofs.lemmas.Bool.{cases_Bool, both_ways, cond-true, cond-false, or_left, or_right, or_from, or_parts, eqb-true, not-true, not_from_false, not_from_true}
 use Rattle.std.proofs.lemmas.List.{length-append}
@@ -46,6 +47,7 @@ told_other w before after t p a key other known exact stamp =
 pub told_settled : (w : DeferredFrame) (before after : SeenMesh) (r : Rank) → IsSettled w before → IsTold before after r → r.p ≡ w.priority r.tri → IsSettled w after
 told_settled w before after r s told value = record {
   grid = ap (λ (z : PoolSet). z.n) told.set ∙ s.grid;
+  valid = subst (λ (z : PoolSet). IsGridSet w.n z.members) (sym told.set) s.valid;
   fresh = told.fresh ∙ s.fresh;
   keys = λ a entry. ⊎_elim
       (λ (own : eqb r.tri a ≡ true). told_own w after before.known before.exact r.tri r.p a value own (told.known a) (told.exact a))

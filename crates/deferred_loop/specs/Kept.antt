@@ -6,6 +6,7 @@ use Rattle.std.specs.Prelude.{◌≡◌, ℕ, ◌+◌, ◌-◌, ◌*◌, ◌^◌
 use Rattle.std.specs.List.{IsDistinct}
 use Rattle.mesh_defs.specs.ClosedSet.{leaves_of, among}
 use Rattle.mesh_defs.specs.Ranking.{RanksBefore}
+use Rattle.mesh_defs.specs.GridSet.{IsGridSet}
 use Rattle.bintree_addr.specs.declared.rank.Rank.{Rank}
 use Rattle.bintree_addr.specs.RankOrder.{ComesFirst}
 use Rattle.closure_laws.specs.Diamond.{IsInDiamond, CanMerge}
@@ -34,14 +35,16 @@ pub record IsTrueKey (w : DeferredFrame) (s : SeenMesh) (a : ℕ) : Type 0 where
   pub upper : s.known a ≡ false → w.priority a ≤ upper_of (s.stamps a)
   pub lower : s.known a ≡ false → lower_of (s.stamps a) ≤ w.priority a
 
--- so it is for all entries but the fresh ones
+-- so it is for all entries but the fresh ones, in a closed set
 pub record IsSound (w : DeferredFrame) (s : SeenMesh) : Type 0 where
   pub grid : s.set.n ≡ w.n
+  pub valid : IsGridSet w.n s.set.members
   pub keys : (a : ℕ) → IsEntry w.n (among s.set.members) a → among s.fresh a ≡ false → IsTrueKey w s a
 
 -- and nothing is fresh
 pub record IsSettled (w : DeferredFrame) (s : SeenMesh) : Type 0 where
   pub grid : s.set.n ≡ w.n
+  pub valid : IsGridSet w.n s.set.members
   pub fresh : s.fresh ≡ []
   pub keys : (a : ℕ) → IsEntry w.n (among s.set.members) a → IsTrueKey w s a
 

@@ -41,6 +41,7 @@ pub fn begin_frame<M: QueuedMesh, G: Gauge>(mesh: &mut M, gauge: &mut G, odomete
     requires frame { IsDeferredFrame w }
     requires told { G.told gauge.old ≡ told_of w }
     requires of { IsFrameOf w (G.readings gauge.old) odometer (M.seen mesh.old) }
+    requires hold { ReadingsHold w.priority odometer (G.readings gauge.old) }
     requires quiet { IsQuiet (M.seen mesh.old) }
     requires far { odometer ≤ 2 ^ 62 }
     ensures told { G.told gauge.new ≡ G.told gauge.old }

@@ -2,10 +2,12 @@
 
 ghost use Rattle.std.specs.Prelude.{◌≡◌, ℕ, ◌+◌, ◌-◌, ◌*◌, ◌<◌, ◌≤◌, ◌^◌, IsTrue, List, length};
 ghost use Rattle.mesh_defs.specs.ClosedSet.{among};
+ghost use Rattle.mesh_defs.specs.GridSet.{IsGridSet};
+ghost use Rattle.mesh_defs.specs.Falling.{IsFalling};
 ghost use Rattle.frame_steps.specs.Steps.{IsFrameRun};
 ghost use Rattle.frame_steps.specs.Deferred.{DeferredFrame, IsDeferredFrame, IsOpen};
 ghost use Rattle.closure_laws.specs.Frame.{IsFrame};
-ghost use Rattle.frame_steps.specs.Stamps.{StampsHold};
+ghost use Rattle.frame_steps.specs.Stamps.{StampsHold, ReadingsHold};
 ghost use Rattle.deferred_loop.specs.Choice.{IsSparing};
 ghost use Rattle.deferred_loop.specs.Seen.{SeenMesh, IsQuiet, HasRoom, IsCountedBy};
 ghost use Rattle.deferred_loop.specs.Kept.{told_of, IsFrameOf, IsStamped};
@@ -43,6 +45,7 @@ fn advance_over<M: QueuedMesh, G: Gauge>(
     requires frame { IsDeferredFrame w }
     requires told { G.told gauge.old ≡ told_of w }
     requires of { IsFrameOf w (G.readings gauge.old) odometer (M.seen mesh.old) }
+    requires hold { ReadingsHold w.priority odometer (G.readings gauge.old) }
     requires quiet { IsQuiet (M.seen mesh.old) }
     requires budget { budget ≡ w.budget }
     requires far { odometer ≤ 2 ^ 62 }
@@ -97,8 +100,11 @@ pub fn advance<M: QueuedMesh, G: Gauge>(
     requires counted { G.count gauge.old < 2 ^ 61 }
     requires room { HasRoom (M.seen mesh.old).set.n (M.seen mesh.old).set.most budget }
     requires counters { ((M.seen mesh.old).set.splits < 2 ^ 61) × ((M.seen mesh.old).set.merges < 2 ^ 61) }
+    requires falls { IsFalling (G.told gauge.old).n (G.told gauge.old).of }
+    requires readings { ReadingsHold (G.told gauge.old).of odometer (G.readings gauge.old) }
+    requires stamps { StampsHold (G.told gauge.old).of odometer (M.seen mesh.old).stamps }
+    requires valid { IsGridSet (M.seen mesh.old).set.n (M.seen mesh.old).set.members }
     requires quiet { IsQuiet (M.seen mesh.old) }
-    requires hold { StampsHold (G.told gauge.old).of odometer (M.seen mesh.old).stamps }
     ensures told { G.told gauge.new ≡ G.told gauge.old }
     ensures readings { G.readings gauge.new ≡ G.readings gauge.old }
     ensures grid { (M.seen mesh.new).set.n ≡ (M.seen mesh.old).set.n }

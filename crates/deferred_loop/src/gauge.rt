@@ -2,8 +2,7 @@
 
 ghost use Rattle.std.specs.Prelude.{◌≡◌, ℕ, ◌+◌, ◌-◌, ◌*◌, ◌<◌, ◌≤◌, ◌^◌};
 ghost use Rattle.mesh_defs.specs.Triangle.{level_of};
-ghost use Rattle.mesh_defs.specs.Falling.{IsFalling};
-ghost use Rattle.frame_steps.specs.Stamps.{Readings, ReadingsHold};
+ghost use Rattle.frame_steps.specs.Stamps.{Readings};
 ghost use Rattle.deferred_loop.specs.Choice.{Priorities};
 
 use bintree_addr::{Rank, Tri};
@@ -20,6 +19,9 @@ pub struct Reading {
 }
 
 /// Tells priorities and bounds, and counts how often it was asked; at 2^64 - 1 the count stands still.
+///
+/// What it tells stays the same. That priorities fall from parent to child and lie between their bounds is asked where a
+/// frame begins.
 pub trait Gauge {
     ghost told: { Self → Priorities };
 
@@ -52,8 +54,4 @@ pub trait Gauge {
         ensures rises { count self.old ≤ count self.new }
         ensures most { count self.new ≤ count self.old + 1 }
         ensures counted { count self.new < 2 ^ 64 - 1 → count self.new ≡ count self.old + 1 };
-
-    ghost falls: { (g : Self) → IsFalling (told g).n (told g).of };
-
-    ghost hold: { (g : Self) (odometer : ℕ) → ReadingsHold (told g).of odometer (readings g) };
 }

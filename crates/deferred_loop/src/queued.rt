@@ -3,7 +3,7 @@
 ghost use Rattle.std.specs.Prelude.{◌≡◌, ℕ, ◌+◌, ◌<◌, ◌≤◌, ◌∷◌, ◌^◌, List, [], false, Contains, MatchOption};
 ghost use Rattle.mesh_defs.specs.Triangle.{IsSplittable};
 ghost use Rattle.mesh_defs.specs.ClosedSet.{leaves_of, among};
-ghost use Rattle.mesh_defs.specs.GridSet.{IsGridSet, IsForced, IsGain};
+ghost use Rattle.mesh_defs.specs.GridSet.{IsForced, IsGain};
 ghost use Rattle.closure_laws.specs.Diamond.{CanMerge};
 ghost use Rattle.frame_steps.specs.Steps.{leaf_count};
 ghost use Rattle.frame_steps.specs.Deferred.{IsEntry};
@@ -105,6 +105,4 @@ pub trait QueuedMesh {
     fn forget(&mut self)
         requires settled { (seen self.old).fresh ≡ [] }
         ensures { IsForgotten (seen self.old) (seen self.new) };
-
-    ghost valid: { (m : Self) → IsGridSet (seen m).set.n (seen m).set.members };
 }

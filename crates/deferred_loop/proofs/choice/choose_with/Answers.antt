@@ -3,7 +3,7 @@ use Rattle.mesh_defs.specs.Triangle.{IsSplittable}
 use Rattle.mesh_defs.specs.ClosedSet.{leaves_of, among}
 use Rattle.mesh_defs.specs.GridSet.{IsGain}
 use Rattle.deferred_loop.proofs.ChoiceLemmas.{first_splittable, leaves_small, fits_split, room_merge, end_blocked, leaves_here}
-use Rattle.deferred_loop.proofs.HeadLemmas.{set}
+use Rattle.deferred_loop.proofs.HeadLemmas.{grid_set_here}
 use Rattle.deferred_loop.proofs.choice.choose_with.Goals as goal
 
 pub gain-requires-clause-leaf : goal.gain-requires-clause-leaf
@@ -14,10 +14,12 @@ pub gain-requires-clause-splittable : goal.gain-requires-clause-splittable
 gain-requires-clause-splittable g c =
     subst (λ z. IsSplittable z c.args.first.now.tri) (sym c.requires.1.1.1.1.0.grid)
     (first_splittable g.w.n g.w.priority c.requires.1.1.0.falling g.w.budget c.requires.1.1.0.low (g.M.QueuedMesh.seen c.args.mesh.now).set.members
-    (set g.w c.requires.1.1.0 (g.M.QueuedMesh.seen c.args.mesh.now) c.requires.1.1.1.1.0 (g.met.M.QueuedMesh.valid c.args.mesh.now)) c.args.first.now c.requires.1.1.1.1.1.1.1)
+    c.requires.1.1.1.1.0.valid c.args.first.now c.requires.1.1.1.1.1.1.1)
 
 pub overflow_add-need : goal.overflow_add-need
-overflow_add-need g c = omega (arith, c.leaf_count.ensures, c.gain.ensures.small, leaves_small (g.M.QueuedMesh.seen c.args.mesh.now).set.n (g.M.QueuedMesh.seen c.args.mesh.now).set.members (g.met.M.QueuedMesh.valid c.args.mesh.now))
+overflow_add-need g c =
+    let s = g.M.QueuedMesh.seen c.args.mesh.now in
+    omega (arith, c.leaf_count.ensures, c.gain.ensures.small, leaves_small s.set.n s.set.members (grid_set_here g.w s c.requires.1.1.1.1.0))
 
 pub returns-then-need-budget-clause-next : goal.returns-then-need-budget-clause-next
 returns-then-need-budget-clause-next g c =
@@ -25,7 +27,7 @@ returns-then-need-budget-clause-next g c =
     let settled = c.requires.1.1.1.1.0 in
     let budget = c.requires.1.1.1.1.1.0 in
     let most = c.if-need-budget.true in
-    fits_split g.w.n g.w.priority c.requires.1.1.0.falling g.w.budget c.requires.1.1.0.low s.set.members (set g.w c.requires.1.1.0 s settled (g.met.M.QueuedMesh.valid c.args.mesh.now)) c.args.first.now c.gain.result
+    fits_split g.w.n g.w.priority c.requires.1.1.0.falling g.w.budget c.requires.1.1.0.low s.set.members settled.valid c.args.first.now c.gain.result
     c.requires.1.1.1.1.1.1.0 c.requires.1.1.1.1.1.1.1 (subst (λ z. IsGain z s.set.members c.args.first.now.tri c.gain.result) settled.grid c.gain.ensures.gain)
     (omega (arith, budget, most, leaves_here g.w s settled c.leaf_count.result c.leaf_count.ensures))
 
@@ -35,7 +37,7 @@ returns-in-Some-clause-next g c =
     let settled = c.requires.1.1.1.1.0 in
     let budget = c.requires.1.1.1.1.1.0 in
     let more = c.if-need-budget.false in
-    room_merge g.w.n g.w.priority c.requires.1.1.0.falling g.w.budget c.requires.1.1.0.low s.set.members (set g.w c.requires.1.1.0 s settled (g.met.M.QueuedMesh.valid c.args.mesh.now)) c.args.first.now c.in-Some.d c.gain.result
+    room_merge g.w.n g.w.priority c.requires.1.1.0.falling g.w.budget c.requires.1.1.0.low s.set.members settled.valid c.args.first.now c.in-Some.d c.gain.result
     c.requires.1.1.1.1.1.1.0 c.requires.1.1.1.1.1.1.1 (subst (λ z. IsGain z s.set.members c.args.first.now.tri c.gain.result) settled.grid c.gain.ensures.gain)
     (omega (arith, budget, more, leaves_here g.w s settled c.leaf_count.result c.leaf_count.ensures))
     c.in-Some.ensures.last.0 c.in-Some.ensures.last.1
@@ -46,7 +48,7 @@ returns-in-None-clause-next g c =
     let settled = c.requires.1.1.1.1.0 in
     let budget = c.requires.1.1.1.1.1.0 in
     let more = c.if-need-budget.false in
-    end_blocked g.w.n g.w.priority c.requires.1.1.0.falling g.w.budget c.requires.1.1.0.low s.set.members (set g.w c.requires.1.1.0 s settled (g.met.M.QueuedMesh.valid c.args.mesh.now))
+    end_blocked g.w.n g.w.priority c.requires.1.1.0.falling g.w.budget c.requires.1.1.0.low s.set.members settled.valid
     c.leaf_count.result (leaves_here g.w s settled c.leaf_count.result c.leaf_count.ensures) c.args.first.now c.gain.result
     c.requires.1.1.1.1.1.1.0 c.requires.1.1.1.1.1.1.1 (subst (λ z. IsGain z s.set.members c.args.first.now.tri c.gain.result) settled.grid c.gain.ensures.gain)
     (omega (arith, budget, more, leaves_here g.w s settled c.leaf_count.result c.leaf_count.ensures))

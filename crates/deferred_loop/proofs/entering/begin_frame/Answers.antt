@@ -1,4 +1,3 @@
-use Rattle.deferred_loop.proofs.EnterLemmas.{hold_here}
 use Rattle.deferred_loop.proofs.StartLemmas.{begun_sound, begun_address, start_charged, start_stamped}
 use Rattle.deferred_loop.proofs.entering.begin_frame.Goals as goal
 
@@ -11,15 +10,15 @@ enter_fresh-requires g c κs within =
         (
           c.requires.1.1.1.0,
           (
-            hold_here g.w (g.G.Gauge.told c.args.gauge.now) (g.G.Gauge.readings c.args.gauge.now) c.args.odometer c.requires.1.1.1.0 (g.met.G.Gauge.hold c.args.gauge.now c.args.odometer),
+            c.requires.1.1.1.1.1.0,
             (
               sound,
               (
                 (λ a i. c.begin.ensures.known a),
                 (
                   λ a i. begun_address g.w c.requires.1.1.0 (g.G.Gauge.readings c.args.gauge.now) c.args.odometer (g.M.QueuedMesh.seen c.args.mesh.now) (g.M.QueuedMesh.seen c.begin.new.self) c.requires.1.1.1.1.0 c.begin.ensures
-                      a (g.met.M.QueuedMesh.valid c.begin.new.self) i,
-                  c.requires.1.1.1.1.1.1,
+                      a i,
+                  c.requires.1.1.1.1.1.1.1,
                 ),
               ),
             ),

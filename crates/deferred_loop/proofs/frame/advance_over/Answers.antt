@@ -1,7 +1,7 @@
 use Rattle.std.proofs.Common.{sym, ◌∙◌, subst, arith}
 use Rattle.deferred_loop.specs.Seen.{PoolSet, IsCountedBy, HasRoom}
 use Rattle.deferred_loop.specs.Choice.{IsNextSplit, IsNextMerge}
-use Rattle.frame_steps.specs.Stamps.{Readings}
+use Rattle.frame_steps.specs.Stamps.{Readings, ReadingsHold}
 use Rattle.deferred_loop.specs.Kept.{IsStamped}
 use Rattle.deferred_loop.proofs.StepLemmas.{asked_stamped}
 use Rattle.deferred_loop.proofs.FrameLemmas.{split_less, merge_less, charged_small, counters_small, count_small, end_most, forgotten_stamped}
@@ -12,15 +12,16 @@ split_at-requires g c κs within =
     let small = charged_small g.w c.requires.1.1.0 (g.M.QueuedMesh.seen c.steps.mesh) (g.G.Gauge.count c.args.gauge.now) c.steps.splits c.steps.merges (g.G.Gauge.count c.steps.gauge) c.steps.invariant.charged in
     let few = small.0 in
     let counters = subst (λ (z : PoolSet). IsCountedBy (g.M.QueuedMesh.seen c.args.mesh.now).set z c.steps.splits c.steps.merges) (sym c.in-Split.ensures.asked.set) c.steps.invariant.counters in
-    let rising = counters_small (g.M.QueuedMesh.seen c.args.mesh.now).set (g.M.QueuedMesh.seen c.choose.new.mesh).set c.steps.splits c.steps.merges counters c.requires.1.1.1.1.1.1.1.1.1.1 small.0 small.1 in
+    let rising = counters_small (g.M.QueuedMesh.seen c.args.mesh.now).set (g.M.QueuedMesh.seen c.choose.new.mesh).set c.steps.splits c.steps.merges counters c.requires.1.1.1.1.1.1.1.1.1.1.1 small.0 small.1 in
     let next = subst (λ (z : PoolSet). IsNextSplit g.w.n g.w.budget g.w.priority z.members c.in-Split.t) (sym c.in-Split.ensures.asked.set) c.in-Split.ensures.next in
-    let room = subst (λ z. HasRoom g.w.n z g.w.budget) (sym counters.most) c.requires.1.1.1.1.1.1.1.1.1.0 in
-    (within.0, (within.1, (c.requires.1.1.0, (c.in-Split.ensures.told ∙ c.steps.invariant.told ∙ c.requires.1.1.1.0, (c.in-Split.ensures.asked.settled, (next, (c.requires.1.1.1.1.1.1.1.0, (omega arith, (rising.0, room)))))))))
+    let room = subst (λ z. HasRoom g.w.n z g.w.budget) (sym counters.most) c.requires.1.1.1.1.1.1.1.1.1.1.0 in
+    let hold = subst (λ (z : Readings). ReadingsHold g.w.priority c.args.odometer z) (sym (c.in-Split.ensures.readings ∙ c.steps.invariant.readings)) c.requires.1.1.1.1.1.0 in
+    (within.0, (within.1, (c.requires.1.1.0, (c.in-Split.ensures.told ∙ c.steps.invariant.told ∙ c.requires.1.1.1.0, (c.in-Split.ensures.asked.settled, (next, (hold, (c.requires.1.1.1.1.1.1.1.1.0, (omega arith, (rising.0, room))))))))))
 
 pub steps-smaller-in-Split : goal.steps-smaller-in-Split
 steps-smaller-in-Split g c =
     split_less g.w c.requires.1.1.0 (g.M.QueuedMesh.seen c.steps.mesh) (g.M.QueuedMesh.seen c.choose.new.mesh) (g.M.QueuedMesh.seen c.split_at.new.mesh)
-    c.steps.invariant.settled (g.met.M.QueuedMesh.valid c.steps.mesh) c.in-Split.ensures.asked.set c.split_at.ensures.step
+    c.steps.invariant.settled c.in-Split.ensures.asked.set c.split_at.ensures.step
 
 pub steps-preserved-in-Split : goal.steps-preserved-in-Split
 steps-preserved-in-Split g c =
@@ -45,14 +46,15 @@ merge_at-requires g c κs within =
     let small = charged_small g.w c.requires.1.1.0 (g.M.QueuedMesh.seen c.steps.mesh) (g.G.Gauge.count c.args.gauge.now) c.steps.splits c.steps.merges (g.G.Gauge.count c.steps.gauge) c.steps.invariant.charged in
     let few = small.1 in
     let counters = subst (λ (z : PoolSet). IsCountedBy (g.M.QueuedMesh.seen c.args.mesh.now).set z c.steps.splits c.steps.merges) (sym c.in-Merge.ensures.asked.set) c.steps.invariant.counters in
-    let rising = counters_small (g.M.QueuedMesh.seen c.args.mesh.now).set (g.M.QueuedMesh.seen c.choose.new.mesh).set c.steps.splits c.steps.merges counters c.requires.1.1.1.1.1.1.1.1.1.1 small.0 small.1 in
+    let rising = counters_small (g.M.QueuedMesh.seen c.args.mesh.now).set (g.M.QueuedMesh.seen c.choose.new.mesh).set c.steps.splits c.steps.merges counters c.requires.1.1.1.1.1.1.1.1.1.1.1 small.0 small.1 in
     let next = subst (λ (z : PoolSet). IsNextMerge g.w.n g.w.budget g.w.priority z.members c.in-Merge.t) (sym c.in-Merge.ensures.asked.set) c.in-Merge.ensures.next in
-    (within.0, (within.1, (c.requires.1.1.0, (c.in-Merge.ensures.told ∙ c.steps.invariant.told ∙ c.requires.1.1.1.0, (c.in-Merge.ensures.asked.settled, (next, (c.requires.1.1.1.1.1.1.1.0, (omega arith, rising.1))))))))
+    let hold = subst (λ (z : Readings). ReadingsHold g.w.priority c.args.odometer z) (sym (c.in-Merge.ensures.readings ∙ c.steps.invariant.readings)) c.requires.1.1.1.1.1.0 in
+    (within.0, (within.1, (c.requires.1.1.0, (c.in-Merge.ensures.told ∙ c.steps.invariant.told ∙ c.requires.1.1.1.0, (c.in-Merge.ensures.asked.settled, (next, (hold, (c.requires.1.1.1.1.1.1.1.1.0, (omega arith, rising.1)))))))))
 
 pub steps-smaller : goal.steps-smaller
 steps-smaller g c =
     merge_less g.w c.requires.1.1.0 (g.M.QueuedMesh.seen c.steps.mesh) (g.M.QueuedMesh.seen c.choose.new.mesh) (g.M.QueuedMesh.seen c.merge_at.new.mesh)
-    c.steps.invariant.settled (g.met.M.QueuedMesh.valid c.steps.mesh) c.in-Merge.ensures.asked.set c.merge_at.ensures.step
+    c.steps.invariant.settled c.in-Merge.ensures.asked.set c.merge_at.ensures.step
 
 pub steps-preserved : goal.steps-preserved
 steps-preserved g c =
@@ -80,7 +82,7 @@ returns-in-End-clause-most g c =
 pub returns-in-End-clause-counted : goal.returns-in-End-clause-counted
 returns-in-End-clause-counted g c =
     count_small g.w c.requires.1.1.0 (g.M.QueuedMesh.seen c.choose.new.mesh) (g.G.Gauge.count c.args.gauge.now) c.steps.splits c.steps.merges (g.G.Gauge.count c.choose.new.gauge)
-    (c.in-End.ensures.asked.charged (g.G.Gauge.count c.args.gauge.now) c.steps.splits c.steps.merges c.steps.invariant.charged) c.requires.1.1.1.1.1.1.1.1.0
+    (c.in-End.ensures.asked.charged (g.G.Gauge.count c.args.gauge.now) c.steps.splits c.steps.merges c.steps.invariant.charged) c.requires.1.1.1.1.1.1.1.1.1.0
 
 pub returns-in-End-clause-counters : goal.returns-in-End-clause-counters
 returns-in-End-clause-counters g c = subst (λ (z : PoolSet). IsCountedBy (g.M.QueuedMesh.seen c.args.mesh.now).set z c.steps.splits c.steps.merges)

@@ -3,9 +3,8 @@ use Rattle.deferred_loop.specs.Seen.{PoolSet, IsCountedBy}
 use Rattle.closure_laws.specs.Diamond.{IsWithoutDiamond}
 use Rattle.frame_steps.specs.Steps.{IsMergeStep}
 use Rattle.deferred_loop.proofs.ChoiceLemmas.{merge_counted}
-use Rattle.deferred_loop.proofs.HeadLemmas.{set}
-use Rattle.deferred_loop.proofs.EnterLemmas.{hold_here}
-use Rattle.deferred_loop.proofs.StepLemmas.{renewed_sound, fresh_address, merge_charged, step_stamped, merge_step, can_here}
+use Rattle.deferred_loop.proofs.HeadLemmas.{grid_set_here}
+use Rattle.deferred_loop.proofs.StepLemmas.{merge_sound, fresh_address, merge_charged, step_stamped, merge_step, can_here}
 use Rattle.deferred_loop.proofs.step.merge_at.Goals as goal
 
 pub merge-requires-clause-can : goal.merge-requires-clause-can
@@ -14,20 +13,20 @@ merge-requires-clause-can g c = can_here g.w (g.M.QueuedMesh.seen c.args.mesh.no
 pub overflow_sub-merges : goal.overflow_sub-merges
 overflow_sub-merges g c =
     let before = (g.M.QueuedMesh.seen c.args.mesh.now).set in let now = (g.M.QueuedMesh.seen c.merge.new.self).set in
-    let k = merge_counted before.n now.n before.members c.args.t now.members c.merge.ensures.n (g.met.M.QueuedMesh.valid c.args.mesh.now) (can_here g.w (g.M.QueuedMesh.seen c.args.mesh.now) c.requires.1.1.1.1.0 c.args.t c.requires.1.1.1.1.1.0) c.merge.ensures.merged in
+    let k = merge_counted before.n now.n before.members c.args.t now.members c.merge.ensures.n (grid_set_here g.w (g.M.QueuedMesh.seen c.args.mesh.now) c.requires.1.1.1.1.0) (can_here g.w (g.M.QueuedMesh.seen c.args.mesh.now) c.requires.1.1.1.1.0 c.args.t c.requires.1.1.1.1.1.0) c.merge.ensures.merged in
     omega (arith, k.few, k.count, k.small, c.leaf_count-before.ensures, c.leaf_count.ensures)
 
 pub overflow_add-merges : goal.overflow_add-merges
 overflow_add-merges g c =
     let before = (g.M.QueuedMesh.seen c.args.mesh.now).set in let now = (g.M.QueuedMesh.seen c.merge.new.self).set in
-    let k = merge_counted before.n now.n before.members c.args.t now.members c.merge.ensures.n (g.met.M.QueuedMesh.valid c.args.mesh.now) (can_here g.w (g.M.QueuedMesh.seen c.args.mesh.now) c.requires.1.1.1.1.0 c.args.t c.requires.1.1.1.1.1.0) c.merge.ensures.merged in
-    let room = c.requires.1.1.1.1.1.1.1.0 in
+    let k = merge_counted before.n now.n before.members c.args.t now.members c.merge.ensures.n (grid_set_here g.w (g.M.QueuedMesh.seen c.args.mesh.now) c.requires.1.1.1.1.0) (can_here g.w (g.M.QueuedMesh.seen c.args.mesh.now) c.requires.1.1.1.1.0 c.args.t c.requires.1.1.1.1.1.0) c.merge.ensures.merged in
+    let room = c.requires.1.1.1.1.1.1.1.1.0 in
     omega (arith, k.few, k.count, k.small, c.leaf_count-before.ensures, c.leaf_count.ensures)
 
 pub enter_fresh-requires : goal.enter_fresh-requires
 enter_fresh-requires g c κs within =
-    let sound = renewed_sound g.w (g.M.QueuedMesh.seen c.args.mesh.now) (g.M.QueuedMesh.seen c.merge.new.self) c.requires.1.1.1.1.0 c.merge.ensures.n c.merge.ensures.renewed in
-    (within.0, (within.1, (c.requires.1.1.1.0, (hold_here g.w (g.G.Gauge.told c.args.gauge.now) (g.G.Gauge.readings c.args.gauge.now) c.args.odometer c.requires.1.1.1.0 (g.met.G.Gauge.hold c.args.gauge.now c.args.odometer), (sound, (c.merge.ensures.renewed.unknown, (λ a i. fresh_address g.w (g.M.QueuedMesh.seen c.args.mesh.now) (g.M.QueuedMesh.seen c.merge.new.self) a sound.grid (g.met.M.QueuedMesh.valid c.merge.new.self) c.merge.ensures.renewed i, c.requires.1.1.1.1.1.1.0)))))))
+    let sound = merge_sound g.w (g.M.QueuedMesh.seen c.args.mesh.now) (g.M.QueuedMesh.seen c.merge.new.self) c.args.t c.requires.1.1.1.1.0 c.requires.1.1.1.1.1.0.last.lead.mergeable c.merge.ensures in
+    (within.0, (within.1, (c.requires.1.1.1.0, (c.requires.1.1.1.1.1.1.0, (sound, (c.merge.ensures.renewed.unknown, (λ a i. fresh_address g.w (g.M.QueuedMesh.seen c.args.mesh.now) (g.M.QueuedMesh.seen c.merge.new.self) a sound c.merge.ensures.renewed i, c.requires.1.1.1.1.1.1.1.0)))))))
 
 pub returns-clause-step : goal.returns-clause-step
 returns-clause-step g c =
@@ -38,7 +37,7 @@ returns-clause-step g c =
 pub returns-clause-counters : goal.returns-clause-counters
 returns-clause-counters g c =
     let before = (g.M.QueuedMesh.seen c.args.mesh.now).set in let now = (g.M.QueuedMesh.seen c.merge.new.self).set in
-    let k = merge_counted before.n now.n before.members c.args.t now.members c.merge.ensures.n (g.met.M.QueuedMesh.valid c.args.mesh.now) (can_here g.w (g.M.QueuedMesh.seen c.args.mesh.now) c.requires.1.1.1.1.0 c.args.t c.requires.1.1.1.1.1.0) c.merge.ensures.merged in
+    let k = merge_counted before.n now.n before.members c.args.t now.members c.merge.ensures.n (grid_set_here g.w (g.M.QueuedMesh.seen c.args.mesh.now) c.requires.1.1.1.1.0) (can_here g.w (g.M.QueuedMesh.seen c.args.mesh.now) c.requires.1.1.1.1.0 c.args.t c.requires.1.1.1.1.1.0) c.merge.ensures.merged in
     λ start added counted.
     subst (λ (z : PoolSet). IsCountedBy start z added (c.args.merges.now + (c.leaf_count-before.result - c.leaf_count.result))) (sym c.enter_fresh.ensures.entered.set) record {
       most = c.merge.ensures.most ∙ counted.most;
@@ -50,13 +49,13 @@ pub returns-clause-charged : goal.returns-clause-charged
 returns-clause-charged g c =
     let settled = c.requires.1.1.1.1.0 in
     let before = (g.M.QueuedMesh.seen c.args.mesh.now).set in let now = (g.M.QueuedMesh.seen c.merge.new.self).set in
-    let k = merge_counted before.n now.n before.members c.args.t now.members c.merge.ensures.n (g.met.M.QueuedMesh.valid c.args.mesh.now) (can_here g.w (g.M.QueuedMesh.seen c.args.mesh.now) c.requires.1.1.1.1.0 c.args.t c.requires.1.1.1.1.1.0) c.merge.ensures.merged in
+    let k = merge_counted before.n now.n before.members c.args.t now.members c.merge.ensures.n (grid_set_here g.w (g.M.QueuedMesh.seen c.args.mesh.now) c.requires.1.1.1.1.0) (can_here g.w (g.M.QueuedMesh.seen c.args.mesh.now) c.requires.1.1.1.1.0 c.args.t c.requires.1.1.1.1.1.0) c.merge.ensures.merged in
     let merged = subst (λ z. IsWithoutDiamond z before.members c.args.t now.members) settled.grid c.merge.ensures.merged in
     λ evaluations added charged.
     merge_charged g.w (g.M.QueuedMesh.seen c.args.mesh.now) (g.M.QueuedMesh.seen c.merge.new.self) (g.M.QueuedMesh.seen c.enter_fresh.new.mesh) settled c.merge.ensures.n c.merge.ensures.renewed
     (g.G.Gauge.readings c.args.gauge.now) c.args.odometer c.enter_fresh.ensures.entered c.args.t evaluations added c.args.merges.now
     (c.args.merges.now + (c.leaf_count-before.result - c.leaf_count.result)) (g.G.Gauge.count c.args.gauge.now) (g.G.Gauge.count c.enter_fresh.new.gauge)
-    (set g.w c.requires.1.1.0 (g.M.QueuedMesh.seen c.args.mesh.now) settled (g.met.M.QueuedMesh.valid c.args.mesh.now)) c.requires.1.1.1.1.1.0.last.lead.mergeable merged
+    settled.valid c.requires.1.1.1.1.1.0.last.lead.mergeable merged
     (merge_step g.w before.members c.args.t now.members c.requires.1.1.1.1.1.0 merged) c.enter_fresh.ensures.most
     (omega (arith, k.few, k.count, k.small, c.leaf_count-before.ensures, c.leaf_count.ensures)) charged
 

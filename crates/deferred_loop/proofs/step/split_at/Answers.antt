@@ -4,14 +4,13 @@ use Rattle.deferred_loop.specs.Seen.{PoolSet, IsCountedBy}
 use Rattle.mesh_defs.specs.GridSet.{IsForced}
 use Rattle.frame_steps.specs.Steps.{IsSplitStep, leaf_count}
 use Rattle.deferred_loop.proofs.ChoiceLemmas.{split_counted, split_room}
-use Rattle.deferred_loop.proofs.HeadLemmas.{set}
-use Rattle.deferred_loop.proofs.EnterLemmas.{hold_here}
-use Rattle.deferred_loop.proofs.StepLemmas.{renewed_sound, fresh_address, split_charged, step_stamped, split_step, splittable}
+use Rattle.deferred_loop.proofs.HeadLemmas.{grid_set_here}
+use Rattle.deferred_loop.proofs.StepLemmas.{split_sound, fresh_address, split_charged, step_stamped, split_step, splittable}
 use Rattle.deferred_loop.proofs.step.split_at.Goals as goal
 
 pub split-requires-clause-splittable : goal.split-requires-clause-splittable
 split-requires-clause-splittable g c =
-    splittable g.w c.requires.1.1.0 (g.M.QueuedMesh.seen c.args.mesh.now) c.requires.1.1.1.1.0 (g.met.M.QueuedMesh.valid c.args.mesh.now) c.args.t c.requires.1.1.1.1.1.0
+    splittable g.w c.requires.1.1.0 (g.M.QueuedMesh.seen c.args.mesh.now) c.requires.1.1.1.1.0 c.args.t c.requires.1.1.1.1.1.0
 
 pub split-requires-clause-leaf : goal.split-requires-clause-leaf
 split-requires-clause-leaf g c =
@@ -22,25 +21,25 @@ split-requires-clause-room g c after forced =
     let s = g.M.QueuedMesh.seen c.args.mesh.now in
     let grid = c.requires.1.1.1.1.0.grid in
     subst (λ z. leaf_count z after ≤ s.set.most) (sym grid)
-    (split_room g.w.n s.set.most g.w.budget g.w.priority s.set.members c.args.t after c.requires.1.1.1.1.1.1.1.1.1 c.requires.1.1.1.1.1.0 (subst (λ z. IsForced z s.set.members c.args.t after) grid forced))
+    (split_room g.w.n s.set.most g.w.budget g.w.priority s.set.members c.args.t after c.requires.1.1.1.1.1.1.1.1.1.1 c.requires.1.1.1.1.1.0 (subst (λ z. IsForced z s.set.members c.args.t after) grid forced))
 
 pub overflow_sub-splits : goal.overflow_sub-splits
 overflow_sub-splits g c =
     let before = (g.M.QueuedMesh.seen c.args.mesh.now).set in let now = (g.M.QueuedMesh.seen c.split.new.self).set in
-    let k = split_counted before.n now.n before.members c.args.t now.members c.split.ensures.n (g.met.M.QueuedMesh.valid c.args.mesh.now) c.split.ensures.forced in
+    let k = split_counted before.n now.n before.members c.args.t now.members c.split.ensures.n (grid_set_here g.w (g.M.QueuedMesh.seen c.args.mesh.now) c.requires.1.1.1.1.0) c.split.ensures.forced in
     omega (arith, k.few, k.count, k.small, c.leaf_count-before.ensures, c.leaf_count.ensures)
 
 pub overflow_add-splits : goal.overflow_add-splits
 overflow_add-splits g c =
     let before = (g.M.QueuedMesh.seen c.args.mesh.now).set in let now = (g.M.QueuedMesh.seen c.split.new.self).set in
-    let k = split_counted before.n now.n before.members c.args.t now.members c.split.ensures.n (g.met.M.QueuedMesh.valid c.args.mesh.now) c.split.ensures.forced in
-    let room = c.requires.1.1.1.1.1.1.1.0 in
+    let k = split_counted before.n now.n before.members c.args.t now.members c.split.ensures.n (grid_set_here g.w (g.M.QueuedMesh.seen c.args.mesh.now) c.requires.1.1.1.1.0) c.split.ensures.forced in
+    let room = c.requires.1.1.1.1.1.1.1.1.0 in
     omega (arith, k.few, k.count, k.small, c.leaf_count-before.ensures, c.leaf_count.ensures)
 
 pub enter_fresh-requires : goal.enter_fresh-requires
 enter_fresh-requires g c κs within =
-    let sound = renewed_sound g.w (g.M.QueuedMesh.seen c.args.mesh.now) (g.M.QueuedMesh.seen c.split.new.self) c.requires.1.1.1.1.0 c.split.ensures.n c.split.ensures.renewed in
-    (within.0, (within.1, (c.requires.1.1.1.0, (hold_here g.w (g.G.Gauge.told c.args.gauge.now) (g.G.Gauge.readings c.args.gauge.now) c.args.odometer c.requires.1.1.1.0 (g.met.G.Gauge.hold c.args.gauge.now c.args.odometer), (sound, (c.split.ensures.renewed.unknown, (λ a i. fresh_address g.w (g.M.QueuedMesh.seen c.args.mesh.now) (g.M.QueuedMesh.seen c.split.new.self) a sound.grid (g.met.M.QueuedMesh.valid c.split.new.self) c.split.ensures.renewed i, c.requires.1.1.1.1.1.1.0)))))))
+    let sound = split_sound g.w (g.M.QueuedMesh.seen c.args.mesh.now) (g.M.QueuedMesh.seen c.split.new.self) c.args.t c.requires.1.1.1.1.0 c.split.ensures in
+    (within.0, (within.1, (c.requires.1.1.1.0, (c.requires.1.1.1.1.1.1.0, (sound, (c.split.ensures.renewed.unknown, (λ a i. fresh_address g.w (g.M.QueuedMesh.seen c.args.mesh.now) (g.M.QueuedMesh.seen c.split.new.self) a sound c.split.ensures.renewed i, c.requires.1.1.1.1.1.1.1.0)))))))
 
 pub returns-clause-step : goal.returns-clause-step
 returns-clause-step g c =
@@ -51,7 +50,7 @@ returns-clause-step g c =
 pub returns-clause-counters : goal.returns-clause-counters
 returns-clause-counters g c =
     let before = (g.M.QueuedMesh.seen c.args.mesh.now).set in let now = (g.M.QueuedMesh.seen c.split.new.self).set in
-    let k = split_counted before.n now.n before.members c.args.t now.members c.split.ensures.n (g.met.M.QueuedMesh.valid c.args.mesh.now) c.split.ensures.forced in
+    let k = split_counted before.n now.n before.members c.args.t now.members c.split.ensures.n (grid_set_here g.w (g.M.QueuedMesh.seen c.args.mesh.now) c.requires.1.1.1.1.0) c.split.ensures.forced in
     λ start removed counted.
     subst (λ (z : PoolSet). IsCountedBy start z (c.args.splits.now + (c.leaf_count.result - c.leaf_count-before.result)) removed) (sym c.enter_fresh.ensures.entered.set) record {
       most = c.split.ensures.most ∙ counted.most;
@@ -63,13 +62,13 @@ pub returns-clause-charged : goal.returns-clause-charged
 returns-clause-charged g c =
     let settled = c.requires.1.1.1.1.0 in
     let before = (g.M.QueuedMesh.seen c.args.mesh.now).set in let now = (g.M.QueuedMesh.seen c.split.new.self).set in
-    let k = split_counted before.n now.n before.members c.args.t now.members c.split.ensures.n (g.met.M.QueuedMesh.valid c.args.mesh.now) c.split.ensures.forced in
+    let k = split_counted before.n now.n before.members c.args.t now.members c.split.ensures.n (grid_set_here g.w (g.M.QueuedMesh.seen c.args.mesh.now) c.requires.1.1.1.1.0) c.split.ensures.forced in
     let forced = subst (λ z. IsForced z before.members c.args.t now.members) settled.grid c.split.ensures.forced in
     λ evaluations removed charged.
     split_charged g.w (g.M.QueuedMesh.seen c.args.mesh.now) (g.M.QueuedMesh.seen c.split.new.self) (g.M.QueuedMesh.seen c.enter_fresh.new.mesh) settled c.split.ensures.n c.split.ensures.renewed
     (g.G.Gauge.readings c.args.gauge.now) c.args.odometer c.enter_fresh.ensures.entered c.args.t evaluations c.args.splits.now removed
     (c.args.splits.now + (c.leaf_count.result - c.leaf_count-before.result)) (g.G.Gauge.count c.args.gauge.now) (g.G.Gauge.count c.enter_fresh.new.gauge)
-    (set g.w c.requires.1.1.0 (g.M.QueuedMesh.seen c.args.mesh.now) settled (g.met.M.QueuedMesh.valid c.args.mesh.now)) forced
+    settled.valid forced
     (split_step g.w before.members c.args.t now.members c.requires.1.1.1.1.1.0 forced) c.enter_fresh.ensures.most
     (omega (arith, k.few, k.count, k.small, c.leaf_count-before.ensures, c.leaf_count.ensures)) charged
 
