@@ -1,9 +1,7 @@
 -- For tests: a mesh of two leaves, and the priorities of a table for them.
-use Rattle.std.proofs.Common.{◌≡◌, ℕ, ◌+◌, ◌-◌, ◌*◌, ◌/◌, ◌<◌, ◌≤◌, ◌⊎◌, inl, inr, Bool, true, false, cond, eqb, nat_eq, ◌||◌, IsTrue, List, [], ◌∷◌, length, Contains, Option, None, Some, refl, sym, ◌∙◌, subst, arith, rules, ⊎_elim}
+use Rattle.std.proofs.Common.{◌≡◌, ℕ, ◌/◌, ◌<◌, ◌≤◌, ◌⊎◌, inl, inr, Bool, true, false, cond, eqb, nat_eq, ◌||◌, IsTrue, List, [], ◌∷◌, Contains, None, Some, refl, sym, ◌∙◌, subst, arith, rules, ⊎_elim}
 use Rattle.std.specs.List.{IsDistinct}
-use Rattle.std.proofs.lemmas.Bool.{cases_Bool, cond_both, cond-true, cond-false, both_ways, or_cases, eqb-true, cases_lt}
-use Rattle.std.proofs.lemmas.Option.{none-some}
-use Rattle.std.proofs.Math.Option.{some-injective}
+use Rattle.std.proofs.lemmas.Bool.{cond_both, both_ways, or_cases, eqb-true, cases_lt}
 use Rattle.closure_laws.specs.Order.{IsNoLater}
 use Rattle.mesh_defs.specs.Triangle.{level_of}
 use Rattle.mesh_defs.specs.ClosedSet.{leaves_of, among}
@@ -12,7 +10,7 @@ use Rattle.mesh_defs.specs.Falling.{IsFalling}
 use Rattle.mesh_defs.proofs.ListLemmas.{IsIn, IsIn-contains, Contains-in}
 use Rattle.frame_steps.specs.Steps.{leaf_count}
 use Rattle.frame_steps.specs.Deferred.{IsEntry, leaf, member}
-use Rattle.frame_steps.specs.Stamps.{Stamp, Readings, is_due, IsBetween, StampsHold}
+use Rattle.frame_steps.specs.Stamps.{Stamp, is_due}
 use Rattle.frame_steps.proofs.ExampleLemmas.{forced}
 use Rattle.deferred_loop.specs.Seen.{SeenMesh, best_key, sure, IsHead, IsBegun}
 use Rattle.deferred_loop.specs.declared.queued.Head.{Head}
