@@ -98,11 +98,18 @@ a_last_line_without_lf_is_accepted|frame\nframe|0|2|
 an_unknown_word_comes_after_a_whole_mesh|frame\nfly\n|4|1|line 2 refused: unknown command\n
 nothing_is_made_after_a_refused_line|frame\nfly\nframe\n|4|1|line 2 refused: unknown command\n
 a_refused_last_line_without_lf|frame\nfram|4|1|line 2 refused: unknown command\n
-an_empty_line_is_refused|\n|4|0|line 1 refused: unknown command\n
-an_empty_line_between_frames_is_refused|frame\n\nframe\n|4|1|line 2 refused: unknown command\n
-a_blank_after_the_word_is_refused|frame \n|4|0|line 1 refused: unknown command\n
-a_cr_after_the_word_is_refused|frame\r\n|4|0|line 1 refused: unknown command\n
-a_blank_before_the_word_is_refused| frame\n|4|0|line 1 refused: unknown command\n
+an_empty_line_does_nothing|\n|0|0|
+an_empty_line_is_a_line|frame\n\nfly\n|4|1|line 3 refused: unknown command\n
+a_comment_does_nothing|# a frame\nframe\n|0|1|
+a_blank_after_the_word_is_dropped|frame \n|0|1|
+a_cr_after_the_word_is_dropped|frame\r\n|0|1|
+a_blank_before_the_word_is_dropped| frame\n|0|1|
+a_second_field_is_refused|frame 1\n|4|0|line 1 refused: wrong fields\n
+a_word_in_the_place_of_a_number_is_refused|frame\ncamera 1 two 3\n|4|1|line 2 refused: bad number in field 2\n
+a_row_beyond_the_grid_is_refused|set 0 3 0\n|4|0|line 1 refused: out of range in field 2\n
+a_budget_beyond_that_of_the_words_is_refused|budget 3\n|4|0|line 1 refused: out of range in field 1\n
+a_seventh_plane_is_refused|plane 0 0 1 9\nplane 0 0 1 9\nplane 0 0 1 9\nplane 0 0 1 9\nplane 0 0 1 9\nplane 0 0 1 9\nplane 0 0 1 9\n|4|0|line 7 refused: too many planes\n
+a_camera_over_a_flat_grid_changes_nothing|camera 1 1 40\nframe\n|0|1|
 a_sixth_letter_is_refused|frames\n|4|0|line 1 refused: unknown command\n
 a_capital_letter_is_refused|Frame\n|4|0|line 1 refused: unknown command\n
 a_zero_byte_is_refused|fram\0\n|4|0|line 1 refused: unknown command\n
@@ -111,7 +118,7 @@ TABLE
 start a_line_longer_than_a_read_is_refused
 head -c 300000 /dev/zero | tr '\0' x >s
 run mesh g s out 2 1
-expect 4 0 'line 1 refused: unknown command\n'
+expect 4 0 'line 1 refused: line too long\n'
 
 start a_script_of_a_thousand_frames
 for ((k = 0; k < 1000; k++)); do echo frame; done >s

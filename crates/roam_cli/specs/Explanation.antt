@@ -1,7 +1,7 @@
 -- Which statuses the report tells of. This project's own.
 use Rattle.std.specs.Prelude.{◌≡◌, ◌⊎◌}
-use Rattle.roam_run.specs.declared.status.Status.{Status}
-use Rattle.roam_run.specs.declared.status.Status.TheVariants.{Done, GridRefused, ScriptRefused}
+use Rattle.run_laws.specs.declared.status.Status.{Status}
+use Rattle.run_laws.specs.declared.status.Status.TheVariants.{Done, GridRefused, ScriptRefused}
 
 -- the run was carried out, or its refusal is a line of the report
 abbrev pub IsTold : Status → Type 0

@@ -1,8 +1,8 @@
-pub mod ActLemmas
-pub mod LineLemmas
-pub mod StepLemmas
-pub mod ReadingLemmas
-pub mod ScriptReading
-pub mod RunLemmas
 pub mod InfoLemmas
-pub mod PictureLemmas
+pub mod MeshLemmas
+pub mod FrameLemmas
+pub mod StageLemmas
+pub mod ReadingLemmas
+pub mod EndLemmas
+pub mod GridLemmas
+pub mod TopLemmas

@@ -1,5 +1,5 @@
 -- A grid that is read from a shelf, piece by piece.
-use Rattle.std.proofs.Common.{arith, ◌+◌, length-append, Result, OnOk, IfOk, Bool, true, ◌≡◌, ◌≢◌, ℕ, ◌≤◌, List, [], ◌++◌, length, take, drop, Option, Some, Ok, Err, refl, sym, ◌∙◌, ap, append_assoc}
+use Rattle.std.proofs.Common.{arith, ◌+◌, length-append, Result, OnOk, IfOk, Bool, true, ◌≡◌, ◌≢◌, ℕ, ◌≤◌, List, [], ◌++◌, length, take, drop, Option, Some, Ok, Err, refl, sym, ◌∙◌, ap, append_assoc, append-nil, false, ◌∷◌, zero}
 use Rattle.std.proofs.Math.Seq.{take-append_seam}
 use Rattle.std.proofs.lemmas.List.{take-append-drop, length-take-le}
 use Rattle.mesh_defs.specs.HeightField.{HeightField}
@@ -8,12 +8,12 @@ use Rattle.pgm_grid.specs.declared.fault.PgmFault.{PgmFault}
 use Rattle.pgm_grid.specs.declared.fault.PgmFault.TheVariants.{BadMagic, BadHeader, HeaderTooLong, BadMaxval, NotSquare, BadSide, Truncated, BadSample, AboveMaxval, Trailing, NoMemory, TooLong}
 use Rattle.std.proofs.lemmas.Result.{IfOk-at_ok, IfErr-at_err}
 use Rattle.pgm_grid.specs.Laws.{OthersAreAbsent, GridsHaveHeaders}
-use Rattle.pgm_grid.specs.PgmText.{HasWholeHeader}
+use Rattle.pgm_header.specs.Reading.{header_of}
 use Rattle.pgm_grid.specs.Progress.{Progress, grid_of, resume, taken, IsSettled, EndsHeader}
-use Rattle.roam_run.specs.Promise.{HasEnded}
+use Rattle.run_laws.specs.Promise.{seen, HasEnded, HasReadHeader, IsUndecided}
 use Rattle.roam_run.specs.declared.grid_file.GridStop.{GridStop}
 use Rattle.roam_run.specs.declared.grid_file.GridStop.TheVariants as stop
-use Rattle.roam_run.specs.GridStop.{stop_for}
+use Rattle.roam_run.specs.GridStop.{stop_for, StopsUndecided}
 
 -- The reader has taken some bytes, and where the shelf tells its files, these are the front of the named
 -- file, whose other bytes are unread.
@@ -114,12 +114,13 @@ reading-unsettled files rest name reader others reading settled =
     IfErr-at_err (λ fault. fault ≢ NoMemory) e (others (reading.bytes ++ [])) refl
 
 -- the header of a grid ended with a piece
-pub reading-header : (files : Option (List NamedFile)) (rest : Option (List ℕ)) (name piece : List ℕ) (count : ℕ) (reader : Progress)
+pub reading-header : (files : Option (List NamedFile)) (rest rest' : Option (List ℕ)) (name piece : List ℕ) (count : ℕ) (reader : Progress)
     → IsReading files rest name reader
+    → ((unread : List ℕ) → rest ≡ Some unread → rest' ≡ Some (drop count unread))
     → ((unread : List ℕ) → rest ≡ Some unread → piece ≡ take count unread)
     → EndsHeader reader piece
-    → (all : List NamedFile) → files ≡ Some all → HasWholeHeader (bytes_of all name)
-reading-header files rest name piece count reader reading gives ends all is =
+    → (all : List NamedFile) → files ≡ Some all → HasReadHeader (bytes_of all name) 1 rest'
+reading-header files rest rest' name piece count reader reading takes gives ends all is =
     let here = reading.told all is in
     let header = ends.ends reading.bytes reading.means in
     let split = sym (take-append-drop count here.0) ∙ ap (λ m. m ++ drop count here.0) (sym (gives here.0 here.1)) in
@@ -136,7 +137,49 @@ reading-header files rest name piece count reader reading gives ends all is =
         cut = whole ∙ ap (λ m. m ++ drop count here.0) header.has.cut ∙ append_assoc header.has.text header.rest (drop count here.0);
         place = header.has.place;
       },
+      λ one unread told. (header.rest, ap (λ m. header.rest ++ m) (same-some (drop count here.0) unread (sym (takes here.0 here.1) ∙ told))),
     )
+  where
+    same-some : (xs ys : List ℕ) → Some xs ≡ Some ys → xs ≡ ys
+    same-some xs ys e = cc
+
+-- a read failed: no refusal of what was read is settled
+pub reading-failed : (files : Option (List NamedFile)) (rest rest' : Option (List ℕ)) (ended' : Bool) (name : List ℕ) (reader : Progress)
+    → IsReading files rest name reader → ((fault : PgmFault) → IsSettled reader fault → ⊥) → rest' ≡ rest → ended' ≡ false
+    → (all : List NamedFile) → files ≡ Some all → StopsUndecided (bytes_of all name) rest' ended'
+unfolding IsSettled
+reading-failed files rest rest' ended' name reader reading unsettled kept not_ended all is =
+    let here = reading.told all is in
+    record {
+      read = reading.bytes;
+      unread = here.0;
+      cut = here.2;
+      not_opened = λ e. absurd (both (sym not_ended ∙ e));
+      left = λ e. kept ∙ here.1;
+      undecided = λ fault settled. unsettled fault (λ more. reading.means more ∙ settled more);
+    }
+  where
+    both : false ≡ true → ⊥
+    both e = cc
+
+-- nothing is no grid, and a first byte of 0 has another refusal
+nothing-read : grid_of [] ≡ Err Truncated
+unfolding grid_of header_of
+nothing-read = refl
+
+zero-read : grid_of (0 ∷ []) ≡ Err BadMagic
+unfolding grid_of header_of
+zero-read = refl
+
+-- no refusal is settled of a file of which nothing was read
+pub nothing-undecided : IsUndecided []
+nothing-undecided fault settled = differ (sym nothing-read ∙ settled []) (sym zero-read ∙ settled (0 ∷ []))
+  where
+    fault_of : PgmFault → Result HeightField PgmFault
+    fault_of why = Err why
+
+    differ : fault_of Truncated ≡ fault_of fault → fault_of BadMagic ≡ fault_of fault → ⊥
+    differ one two = cc
 
 -- what holds where there is a value holds of an answer that is a value
 on-ok : {A E : Type 0} (answer : Result A E) (P : Type 0) → ((value : A) → answer ≡ Ok value → P) → OnOk answer P
@@ -147,20 +190,50 @@ module _ (files : Option (List NamedFile)) (rest : Option (List ℕ)) (name : Li
     (nothing : (unread : List ℕ) → rest ≡ Some unread → unread ≡ []) where
   -- a file that is read to its end begins with the header of its grid
   pub grid-header : (answer : Result HeightField GridStop) → GridsHaveHeaders → IfOk answer (λ grid. resume reader [] ≡ Ok grid)
-      → OnOk answer ((all : List NamedFile) → files ≡ Some all → HasWholeHeader (bytes_of all name))
-  grid-header answer headers value = on-ok answer _ (λ grid is all told.
+      → (rest' : Option (List ℕ)) (count : ℕ) → count ≡ 0 → ((unread : List ℕ) → rest ≡ Some unread → rest' ≡ Some (drop count unread))
+      → OnOk answer ((all : List NamedFile) → files ≡ Some all → HasReadHeader (bytes_of all name) 1 rest')
+  grid-header answer headers value rest' count none takes = on-ok answer _ (λ grid is all told.
       let here = reading.told all told in
       let whole = here.2 ∙ ap (λ m. reading.bytes ++ m) (nothing here.0 here.1) in
       let read = ap grid_of whole ∙ sym (reading.means []) ∙ IfOk-at_ok _ is value in
-      let found = headers grid (bytes_of all name) read in (found.0, found.1, found.2, found.3))
+      let found = headers grid (bytes_of all name) read in
+      let left = takes here.0 here.1 ∙ ap (λ k. Some (drop k here.0)) none ∙ ap Some (nothing here.0 here.1) in (
+        found.0,
+        found.1,
+        found.2,
+        found.3,
+        λ one unread is_left. (found.2, sym (append-nil found.2) ∙ ap (λ m. found.2 ++ m) (same-rest [] unread (sym left ∙ is_left))),
+      ))
+    where
+      same-rest : (xs ys : List ℕ) → Some xs ≡ Some ys → xs ≡ ys
+      same-rest xs ys e = cc
 
   -- a read that gave no byte leaves nothing
-  pub grid-ended : (ended : Bool) (rest' : Option (List ℕ)) (count : ℕ) (answer : Result HeightField GridStop) → count ≡ 0 → ended ≡ true
-      → ((unread : List ℕ) → rest ≡ Some unread → rest' ≡ Some (drop count unread))
-      → OnOk answer (HasEnded ended files rest')
-  grid-ended ended rest' count answer none at_end takes = on-ok answer _ (λ grid is. record {
+  pub grid-ended : (ended : Bool) (rest' : Option (List ℕ)) (opens count : ℕ) (files' : Option (List NamedFile)) (answer : Result HeightField GridStop)
+      → files' ≡ files → count ≡ 0 → ended ≡ true → ((unread : List ℕ) → rest ≡ Some unread → rest' ≡ Some (drop count unread))
+      → OnOk answer (HasEnded (seen files' rest' opens ended))
+  grid-ended ended rest' opens count files' answer same none at_end takes = on-ok answer _ (λ grid is. record {
     at_end = at_end;
     nothing_left = λ all told.
-        let here = reading.told all told in
+        let here = reading.told all (sym same ∙ told) in
         takes here.0 here.1 ∙ ap (λ k. Some (drop k here.0)) none ∙ ap Some (nothing here.0 here.1);
   })
+
+-- a new reader has settled nothing
+pub start-unsettled : (reader : Progress) → ((more : List ℕ) → resume reader more ≡ grid_of more) → (fault : PgmFault) → IsSettled reader fault → ⊥
+unfolding IsSettled
+start-unsettled reader means fault settled = nothing-undecided fault (λ more. sym (means more) ∙ settled more)
+
+-- nothing was read of a file that could not be opened
+pub opening-failed : (file : List ℕ) (rest : Option (List ℕ)) (ended : Bool) → ended ≡ true → StopsUndecided file rest ended
+opening-failed file rest ended at_end = record {
+  read = [];
+  unread = file;
+  cut = refl;
+  not_opened = λ e. refl;
+  left = λ e. absurd (both (sym e ∙ at_end));
+  undecided = nothing-undecided;
+}
+  where
+    both : false ≡ true → ⊥
+    both e = cc

@@ -1,13 +1,7 @@
-pub mod Words
 pub mod WordView
-pub mod Act
-pub mod Picture
-pub mod ReportText
-pub mod Script
-pub mod Outcome
-pub mod Cause
-pub mod Step
-pub mod PictureView
+pub mod SceneView
+pub mod MeshSeen
+pub mod StageView
 pub mod Taking
 pub mod GridStop
-pub mod Promise
+pub mod Leaving

@@ -1,30 +1,31 @@
--- The commands of the code in the words of `Words`, and what the code knows of them.
+-- The commands of the code in the words of a run, and what the code knows of them.
+-- Words: scripted_seen, command_seen, IsPrefixLength, IsMeshCommand, IsAccepted.
 use Rattle.std.specs.Prelude.{ℕ, ◌<◌, ◌≤◌, List, length}
 use Rattle.roam_run.specs.declared.words.MeshWords.{MeshWords}
 use Rattle.roam_run.specs.declared.words.Command.{Command}
 use Rattle.roam_run.specs.declared.words.Command.TheVariants.{Mesh, Info}
-use Rattle.roam_run.specs.Words as words
+use Rattle.run_laws.specs.Words as words
 
-abbrev pub mesh_seen : MeshWords → words.MeshCommand
-mesh_seen c = record {
-  grid = c.grid.now;
+-- the frames of `mesh`
+abbrev pub scripted_seen : MeshWords → words.Scripted
+scripted_seen c = record {
   script = c.script.now;
-  prefix = c.prefix.now;
   budget = c.budget;
   spacing = c.spacing;
+  show = words.AsMeshes c.prefix.now;
 }
 
 abbrev pub command_seen : Command → words.Command
-command_seen (Mesh command) = words.MeshOf (mesh_seen command)
-command_seen (Info grid) = words.InfoOf grid.now
+command_seen (Mesh command) = words.OnGrid command.grid.now (words.Frames (scripted_seen command))
+command_seen (Info grid) = words.OnGrid grid.now words.Facts
 
 -- a prefix has 1 to 200 bytes
 abbrev pub IsPrefixLength : List ℕ → Type 0
 IsPrefixLength prefix = (0 < length prefix) × (length prefix ≤ 200)
 
 -- budget and spacing lie within their bounds, and the prefix has an accepted length
-pub record IsMeshCommand (command : words.MeshCommand) : Type 0 where
-  pub prefix_length : IsPrefixLength command.prefix
+pub record IsMeshCommand (command : MeshWords) : Type 0 where
+  pub prefix_length : IsPrefixLength command.prefix.now
   pub budget_low : 2 ≤ command.budget
   pub budget_high : command.budget ≤ 1048576
   pub spacing_low : 1 ≤ command.spacing
@@ -32,5 +33,5 @@ pub record IsMeshCommand (command : words.MeshCommand) : Type 0 where
 
 -- so it is of `mesh`
 abbrev pub IsAccepted : Command → Type 0
-IsAccepted (Mesh command) = IsMeshCommand (mesh_seen command)
+IsAccepted (Mesh command) = IsMeshCommand command
 IsAccepted (Info grid) = Unit {0}

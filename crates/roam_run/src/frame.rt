@@ -1,13 +1,15 @@
 //! A frame: its mesh, and then its line of the report.
 
 ghost use Rattle.std.specs.Prelude.{◌≡◌, ◌<◌, ◌≤◌, false, length, OnOk, OnErr};
-ghost use Rattle.roam_run.specs.Act.{told, Stands, IsCutShort};
-ghost use Rattle.roam_run.specs.Cause.{WritesHaveCause};
-ghost use Rattle.roam_run.specs.PictureView.{picture_seen, IsWritable};
-ghost use Rattle.roam_run.specs.Script.{frame_acts};
+ghost use Rattle.run_laws.specs.Act.{told, Stands, IsCutShort};
+ghost use Rattle.run_laws.specs.Cause.{WritesHaveCause};
+ghost use Rattle.run_laws.specs.Words.{AsMeshes};
+ghost use Rattle.run_laws.specs.Outcome.{picture_acts};
+ghost use Rattle.roam_run.specs.MeshSeen.{picture_seen, IsMeshOf};
 
-use crate::picture::Picture;
+use crate::mesh::FrameMesh;
 use crate::report::frame_report;
+use crate::scene::Scene;
 use obj_write::write_mesh;
 use roam_edge::{Failed, MeshSink, Sink};
 
@@ -15,7 +17,9 @@ use roam_edge::{Failed, MeshSink, Sink};
 pub(crate) fn write_frame<M: MeshSink, R: Sink>(
     prefix: &str,
     number: u32,
-    picture: &Picture,
+    scene: &Scene,
+    mesh: &FrameMesh,
+    merges: u32,
     meshes: &mut M,
     report: &mut R,
 ) -> Result<(), Failed>
@@ -24,15 +28,17 @@ pub(crate) fn write_frame<M: MeshSink, R: Sink>(
     requires prefix_short { length prefix.now ≤ 200 }
     requires number_low { 1 ≤ number }
     requires number_high { number ≤ 999999 }
-    requires writable { IsWritable picture.now }
+    requires mesh { IsMeshOf scene.now mesh.now }
     ensures ok { OnOk result (Stands (told (M.meshes meshes.old) (R.contents report.old))
-        (told (M.meshes meshes.new) (R.contents report.new)) (frame_acts prefix.now (picture_seen picture.now) number)) }
+        (told (M.meshes meshes.new) (R.contents report.new))
+        (picture_acts (AsMeshes prefix.now) number (picture_seen scene.now merges mesh.now))) }
     ensures idle { OnOk result (M.under_way meshes.new ≡ false) }
     ensures err { OnErr result (IsCutShort (told (M.meshes meshes.old) (R.contents report.old))
-        (told (M.meshes meshes.new) (R.contents report.new)) (frame_acts prefix.now (picture_seen picture.now) number)) }
+        (told (M.meshes meshes.new) (R.contents report.new))
+        (picture_acts (AsMeshes prefix.now) number (picture_seen scene.now merges mesh.now))) }
     ensures faults { WritesHaveCause (M.faults meshes.old) (M.faults meshes.new)
         (R.faults report.old) (R.faults report.new) result }
 {
-    write_mesh(&picture.view(), prefix, number, meshes)?;
-    report.write(frame_report(number, picture).as_slice())
+    write_mesh(&mesh.view(scene), prefix, number, meshes)?;
+    report.write(frame_report(number, scene, mesh, merges).as_slice())
 }

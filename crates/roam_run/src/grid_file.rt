@@ -4,10 +4,9 @@ ghost use Rattle.std.specs.Prelude.{◌≡◌, ◌≢◌, List, [], true, OnOk, 
 ghost use Rattle.roam_edge.specs.Fault.{Rose, next_count};
 ghost use Rattle.roam_edge.specs.Shelf.{NamedFile, bytes_of};
 ghost use Rattle.pgm_grid.specs.declared.fault.PgmFault.{PgmFault as Fault};
-ghost use Rattle.pgm_grid.specs.PgmText.{HasWholeHeader};
 ghost use Rattle.pgm_grid.specs.Progress.{grid_of, resume};
-ghost use Rattle.roam_run.specs.GridStop.{stop_for};
-ghost use Rattle.roam_run.specs.Promise.{HasEnded};
+ghost use Rattle.run_laws.specs.Promise.{seen, HasEnded, HasReadHeader};
+ghost use Rattle.roam_run.specs.GridStop.{stop_for, StopsUndecided};
 
 use pgm_grid::{Grid, PgmFault, PgmReader, grids_and_texts};
 use roam_edge::Shelf;
@@ -36,14 +35,19 @@ pub(crate) fn read_grid<F: Shelf>(
     ensures ok { IfOk result (λ grid. (files : List NamedFile) → F.files shelf.old ≡ Some files →
         grid_of (bytes_of files name.now) ≡ Ok grid) }
     // A file that is read was read to its end, and begins with a whole header.
-    ensures ended { OnOk result (HasEnded (F.ended shelf.new) (F.files shelf.old) (F.rest shelf.new)) }
+    ensures ended { OnOk result (HasEnded (seen (F.files shelf.new) (F.rest shelf.new) (F.opens shelf.new)
+        (F.ended shelf.new))) }
     ensures header { OnOk result ((files : List NamedFile) → F.files shelf.old ≡ Some files →
-        HasWholeHeader (bytes_of files name.now)) }
+        HasReadHeader (bytes_of files name.now) 1 (F.rest shelf.new)) }
     ensures refused { (fault : Fault) → result ≡ Err (GridStop.Refused fault) →
         (files : List NamedFile) → F.files shelf.old ≡ Some files →
         grid_of (bytes_of files name.now) ≡ Err fault }
     ensures no_memory { result ≡ Err GridStop.NoMemory →
-        (files : List NamedFile) → F.files shelf.old ≡ Some files → HasWholeHeader (bytes_of files name.now) }
+        (files : List NamedFile) → F.files shelf.old ≡ Some files →
+        HasReadHeader (bytes_of files name.now) 1 (F.rest shelf.new) }
+    // Where a read failed, no refusal of the grid is settled yet.
+    ensures undecided { result ≡ Err GridStop.Failed → (files : List NamedFile) → F.files shelf.old ≡ Some files →
+        StopsUndecided (bytes_of files name.now) (F.rest shelf.new) (F.ended shelf.new) }
     ensures files { F.files shelf.new ≡ F.files shelf.old }
     ensures opens { F.opens shelf.new ≡ next_count (F.opens shelf.old) }
     ensures failed { result ≡ Err GridStop.Failed → Rose (F.faults shelf.old) (F.faults shelf.new) }

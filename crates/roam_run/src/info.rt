@@ -2,14 +2,15 @@
 
 ghost use Rattle.std.specs.Prelude.{◌≡◌, ◌+◌, ◌<◌, ◌≤◌, max, length};
 ghost use Rattle.mesh_defs.specs.BoundingBox.{least, greatest};
-ghost use Rattle.mesh_defs.specs.HeightField.{side_of};
 ghost use Rattle.mesh_defs.specs.Thickness.{thickness_of};
-ghost use Rattle.roam_run.specs.ReportText.{info_line};
+ghost use Rattle.run_laws.specs.ReportText.{info_line};
 
-use crate::text::{Text, push_bytes, push_number};
+use crate::text::Text;
 use arrayvec::ArrayVec;
 use bintree_addr::Tri;
+use pgm_grid::side_for;
 use roam_lanes::range;
+use roam_num::{push_bytes, push_number};
 use wedgie_tree::Wedges;
 
 /// The line on a grid, of which the wedges are.
@@ -20,7 +21,7 @@ pub(crate) fn info_report(wedges: &Wedges) -> Text
     let (low, high) = extremes(grid.heights());
     let mut text = ArrayVec::new();
     push_bytes(&mut text, b"side ");
-    push_number(&mut text, side_for(grid.n()));
+    push_number(&mut text, side_for(grid.n()) as u64);
     push_bytes(&mut text, b" maxval ");
     push_number(&mut text, u64::from(grid.maxval()));
     push_bytes(&mut text, b" low ");
@@ -40,14 +41,6 @@ fn base_thickness(wedges: &Wedges) -> u32
     let lower = Tri::new(2).unwrap();
     let upper = Tri::new(3).unwrap();
     wedges.thickness(lower).max(wedges.thickness(upper))
-}
-
-/// The points of a side.
-fn side_for(n: u32) -> u64
-    requires { n ≤ 11 }
-    ensures { result ≡ side_of n }
-{
-    (1 << n) + 1
 }
 
 /// The least and the greatest height, of which there is one at least.

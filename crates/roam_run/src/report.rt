@@ -1,42 +1,108 @@
 //! The lines of the report.
 
-ghost use Rattle.std.specs.Prelude.{◌≡◌, ◌+◌, ◌≤◌, ◌++◌, length, decimal};
+ghost use Rattle.std.specs.Prelude.{◌≡◌, ◌+◌, ◌*◌, ◌≤◌, ◌++◌, All, length, decimal};
 ghost use Rattle.arrayvec.specs.ArrayVec.{array_vec_len};
-ghost use Rattle.roam_run.specs.PictureView.{picture_seen};
-ghost use Rattle.roam_run.specs.ReportText.{frame_line, blocked_text, grid_fault_text, grid_refusal, script_fault_text, line_refusal};
+ghost use Rattle.mesh_defs.specs.Triangle.{level_of};
+ghost use Rattle.mesh_defs.specs.MeshText.{triangle_mark, is_same_mark};
+ghost use Rattle.run_laws.specs.Picture.{mark_count};
+ghost use Rattle.run_laws.specs.ReportText.{frame_line, blocked_text, marks_text, grid_fault_text, grid_refusal, script_fault_text, line_refusal};
+ghost use Rattle.roam_run.specs.MeshSeen.{picture_seen, IsMeshOf};
+ghost use Rattle.roam_run.specs.StageView.{refusal};
 
-use crate::picture::Picture;
-use crate::script_fault::ScriptFault;
-use crate::text::{Text, push_bytes, push_number};
+use crate::mesh::FrameMesh;
+use crate::scene::Scene;
+use crate::text::Text;
 use arrayvec::ArrayVec;
-use bintree_addr::Blocked;
+use bintree_addr::{Blocked, Tri};
+use mesh_defs::Mark;
 use pgm_grid::PgmFault;
+use roam_num::{push_bytes, push_number};
+use roam_script::ScriptFault;
 
-/// The line of a frame. Until a mesh goes on from the one before, each is made anew: so all that was
-/// split in the frame before is merged.
-pub(crate) fn frame_report(number: u32, picture: &Picture) -> Text
-    requires some { 2 ≤ length picture.now.leaves.items }
-    ensures { result.items ≡ frame_line number (picture_seen picture.now) }
+/// The line of a frame, where so many triangles were split in the frame before. Each mesh is made anew:
+/// so all of those are merged, and all that it shows are split.
+pub(crate) fn frame_report(number: u32, scene: &Scene, mesh: &FrameMesh, merges: u32) -> Text
+    requires { IsMeshOf scene.now mesh.now }
+    ensures { result.items ≡ frame_line number (picture_seen scene.now merges mesh.now) }
 {
-    let triangles = picture.leaves.len() as u64;
-    let splits = triangles - 2;
-    let merges = if number <= 1 { 0 } else { splits };
+    let triangles = mesh.leaves.len() as u64;
+    let splits = mesh.size;
     let mut text = ArrayVec::new();
     push_placed(&mut text, b"frame ", u64::from(number));
     push_placed(&mut text, b" triangles ", triangles);
-    push_placed(&mut text, b" vertices ", u64::from(picture.vertices));
-    push_placed(&mut text, b" worst ", picture.worst);
-    push_placed(&mut text, b" splits ", splits);
-    push_placed(&mut text, b" merges ", merges);
+    push_placed(&mut text, b" vertices ", u64::from(mesh.vertices));
+    push_placed(&mut text, b" worst ", mesh.worst);
+    push_placed(&mut text, b" splits ", u64::from(splits));
+    push_placed(&mut text, b" merges ", u64::from(merges));
     push_bytes(&mut text, b" blocked ");
-    push_blocked(&mut text, &picture.blocked);
+    push_blocked(&mut text, &mesh.blocked);
+    push_marks(&mut text, scene, &mesh.leaves);
     push_bytes(&mut text, b"\n");
     text
 }
 
+/// Appends how many triangles have each mark, where a plane is in force.
+fn push_marks(text: &mut Text, scene: &Scene, leaves: &[Tri])
+    requires levels { All (λ a. level_of a ≤ 2 * scene.now.grid.n) leaves.now }
+    requires room { array_vec_len text.old + 120 ≤ 640 }
+    ensures items { text.new.items ≡ text.old.items ++ marks_text scene.now scene.now.view.planes leaves.now }
+    ensures len { array_vec_len text.new ≤ array_vec_len text.old + 120 }
+{
+    if scene.planes.len() == 0 {
+        return;
+    }
+    push_count(text, b" inside ", count_marks(scene, leaves, Mark::Inside));
+    push_count(text, b" cut ", count_marks(scene, leaves, Mark::Cut));
+    push_count(
+        text,
+        b" outside ",
+        count_marks(scene, leaves, Mark::Outside),
+    );
+}
+
+/// Appends words, and a count.
+fn push_count(text: &mut Text, words: &[u8], count: usize)
+    requires short { length words.now ≤ 20 }
+    requires room { array_vec_len text.old + 40 ≤ 640 }
+    ensures items { text.new.items ≡ text.old.items ++ (words.now ++ decimal count) }
+    ensures len { array_vec_len text.new ≤ array_vec_len text.old + 40 }
+{
+    push_bytes(text, words);
+    push_number(text, count as u64);
+}
+
+/// How many of the triangles have this mark.
+fn count_marks(scene: &Scene, leaves: &[Tri], mark: Mark) -> usize
+    requires { All (λ a. level_of a ≤ 2 * scene.now.grid.n) leaves.now }
+    ensures { result ≡ mark_count scene.now mark leaves.now }
+{
+    let mut count = 0;
+    for leaf in leaves {
+        if has_mark(scene, *leaf, mark) {
+            count += 1;
+        }
+    }
+    count
+}
+
+/// Whether the triangle has this mark.
+fn has_mark(scene: &Scene, leaf: Tri, mark: Mark) -> bool
+    requires { level_of leaf ≤ 2 * scene.now.grid.n }
+    ensures { result ≡ is_same_mark mark (triangle_mark scene.now.grid.n scene.now.grid.heights
+        scene.now.view.spacing scene.now.view.planes leaf) }
+{
+    let found = scene.planes.mark(&scene.wedges.cuboid(leaf, scene.spacing));
+    match (mark, found) {
+        (Mark::Inside, Mark::Inside) => true,
+        (Mark::Cut, Mark::Cut) => true,
+        (Mark::Outside, Mark::Outside) => true,
+        _ => false,
+    }
+}
+
 /// Appends which triangle blocks, and how many triangles the mesh would have with it.
 fn push_blocked(text: &mut Text, blocked: &Option<Blocked>)
-    requires room { array_vec_len text.old + 80 ≤ 512 }
+    requires room { array_vec_len text.old + 80 ≤ 640 }
     ensures items { text.new.items ≡ text.old.items ++ blocked_text blocked.now }
     ensures len { array_vec_len text.new ≤ array_vec_len text.old + 80 }
 {
@@ -62,31 +128,42 @@ pub(crate) fn grid_report(fault: PgmFault) -> Text
 
 /// The line of a script's line that is refused, which is counted from 1.
 pub(crate) fn line_report(number: u32, fault: ScriptFault) -> Text
-    ensures { result.items ≡ line_refusal number fault }
+    ensures { result.items ≡ line_refusal (refusal number fault) }
 {
     let mut text = ArrayVec::new();
     push_bytes(&mut text, b"line ");
     push_number(&mut text, u64::from(number));
     push_bytes(&mut text, b" refused: ");
-    push_bytes(&mut text, words_of(fault));
+    push_script_fault(&mut text, fault);
     push_bytes(&mut text, b"\n");
     text
 }
 
-/// Why a line is refused, in words.
-fn words_of(fault: ScriptFault) -> &'static [u8]
-    ensures words { result.now ≡ script_fault_text fault }
-    ensures short { length result.now ≤ 40 }
+/// Appends why a line is refused.
+fn push_script_fault(text: &mut Text, fault: ScriptFault)
+    requires room { array_vec_len text.old + 64 ≤ 640 }
+    ensures items { text.new.items ≡ text.old.items ++ script_fault_text fault }
+    ensures len { array_vec_len text.new ≤ array_vec_len text.old + 64 }
 {
     match fault {
-        ScriptFault::UnknownCommand => b"unknown command",
-        ScriptFault::TooManyFrames => b"too many frames",
+        ScriptFault::LineTooLong => push_bytes(text, b"line too long"),
+        ScriptFault::UnknownCommand => push_bytes(text, b"unknown command"),
+        ScriptFault::WrongFields => push_bytes(text, b"wrong fields"),
+        ScriptFault::BadNumber { field } => {
+            push_placed(text, b"bad number in field ", u64::from(field))
+        }
+        ScriptFault::OutOfRange { field } => {
+            push_placed(text, b"out of range in field ", u64::from(field))
+        }
+        ScriptFault::TooManyLines => push_bytes(text, b"too many lines"),
+        ScriptFault::TooManyFrames => push_bytes(text, b"too many frames"),
+        ScriptFault::TooManyPlanes => push_bytes(text, b"too many planes"),
     }
 }
 
 /// Appends why a grid is refused.
 fn push_grid_fault(text: &mut Text, fault: PgmFault)
-    requires room { array_vec_len text.old + 64 ≤ 512 }
+    requires room { array_vec_len text.old + 64 ≤ 640 }
     ensures items { text.new.items ≡ text.old.items ++ grid_fault_text fault }
     ensures len { array_vec_len text.new ≤ array_vec_len text.old + 64 }
 {
@@ -109,7 +186,7 @@ fn push_grid_fault(text: &mut Text, fault: PgmFault)
 /// Appends words, and the number of a place.
 fn push_placed(text: &mut Text, words: &[u8], place: u64)
     requires short { length words.now ≤ 40 }
-    requires room { array_vec_len text.old + 60 ≤ 512 }
+    requires room { array_vec_len text.old + 60 ≤ 640 }
     ensures items { text.new.items ≡ text.old.items ++ (words.now ++ decimal place) }
     ensures len { array_vec_len text.new ≤ array_vec_len text.old + 60 }
 {

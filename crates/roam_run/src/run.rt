@@ -1,29 +1,38 @@
 //! The top call: a run from words to meshes and a report.
 
-ghost use Rattle.std.specs.Prelude.{◌≡◌, ◌≢◌, ◌+◌, ◌-◌, ◌^◌, ◌<◌, ◌≤◌, ◌⊎◌, ◌↔◌, ◌∷◌, ℕ, List, [], Option, map, Some, None, true, false, string_bytes};
+ghost use Rattle.std.specs.Prelude.{◌≡◌, ◌≢◌, ◌+◌, ◌-◌, ◌^◌, ◌<◌, ◌≤◌, ◌⊎◌, ◌↔◌, ◌∷◌, ℕ, List, [], Option, map, Some, None, All, IsTrue, is_some, true, false, string_bytes};
+ghost use Rattle.mesh_defs.specs.HeightField.{HeightField};
 ghost use Rattle.roam_edge.specs.MeshSink.{Mesh};
 ghost use Rattle.roam_edge.specs.Shelf.{NamedFile, bytes_of};
-ghost use Rattle.pgm_grid.specs.Progress.{grid_of};
-ghost use Rattle.roam_run.specs.Act.{told, ReportLine};
-ghost use Rattle.roam_run.specs.Cause.{StatusHasCause, StatusWritesHaveCause};
-ghost use Rattle.roam_run.specs.Outcome.{IsOutcome, IsCommandOutcome, info_outcome};
-ghost use Rattle.pgm_grid.specs.PgmText.{HasWholeHeader};
-ghost use Rattle.roam_run.specs.Promise.{EndsAs, EndsRight, HasEnded, LeavesAtReadFault, LeavesAtNoMemory, OpensForStatus, KeepsBestMeshes, CommandReadFault, CommandNoMemory, CertifiesFrames, is_complete};
-ghost use Rattle.roam_run.specs.Script.{Outcome, outcome};
-ghost use Rattle.roam_run.specs.WordView.{mesh_seen, IsMeshCommand};
-ghost use Rattle.roam_run.specs.Words.{command_of, file_count, MeshOf};
+ghost use Rattle.run_laws.specs.Act.{told};
+ghost use Rattle.run_laws.specs.Cause.{StatusHasCause, StatusWritesHaveCause};
+ghost use Rattle.run_laws.specs.Words.{Scripted, OnGrid, Frames, Facts, command_of, file_count};
+ghost use Rattle.run_laws.specs.Picture.{IsCertified};
+ghost use Rattle.run_laws.specs.Outcome.{Outcome, IsOutcome, IsCommandOutcome, HasOneOutcome, text_outcome};
+ghost use Rattle.run_laws.specs.Promise.{seen, AreFiles, EndsAs, EndsRight, HasEnded, OpensForStatus, LeavesAtReadFault, LeavesAtNoMemory, IsAccepted, is_complete, may_end};
+ghost use Rattle.run_laws.specs.Headline.{IsRunOf, KeepsGoodMeshes};
+ghost use Rattle.roam_run.specs.Taking.{DoesAs};
+ghost use Rattle.roam_run.specs.Leaving.{CommandEnds, CommandReadFault, CommandNoMemory};
+ghost use Rattle.roam_run.specs.WordView.{scripted_seen, IsMeshCommand};
 
 use crate::grid_file::{GridStop, read_grid};
 use crate::info::info_report;
-use crate::laws::picture_laws;
-use crate::picture::Picture;
 use crate::report::grid_report;
-use crate::script::{Scene, run_script};
-use crate::status::{Run, Status};
+use crate::scene::Scene;
+use crate::script::run_script;
+use crate::stage::Stage;
 use crate::words::{Command, MeshWords, command_in};
 use roam_edge::{MeshSink, Shelf, Sink};
+use run_laws::{Status, run_laws};
 use std::alloc::Global;
 use wedgie_tree::Wedges;
+
+/// What a run answers.
+#[derive(Clone, Copy, Debug, PartialEq, Eq)]
+pub struct Run {
+    /// How the run ended.
+    pub status: Status,
+}
 
 /// Carries out the words of a command line: reads the files that they name from the shelf, writes a
 /// mesh for each frame of the script, and a line of the report behind each.
@@ -31,9 +40,9 @@ use wedgie_tree::Wedges;
 /// The words are those after the program's name. What comes in whatever pieces is handed on as it
 /// comes; a frame's mesh is written and finished before its line is written, and the first call that
 /// fails ends the run.
-/// Cost (not proved): a few steps a byte of the files; for `mesh` a rank and a sort of the triangles and the
-/// forced splits of the mesh, once, and the writing of the mesh for each frame. Memory is taken for the
-/// heights, the wedges and the mesh, before the script is opened.
+/// Cost (not proved): a few steps a byte of the files; for a frame line after a line that changes what is
+/// seen, a rank and a sort of the triangles and the forced splits of the mesh; for every frame the writing
+/// of its mesh. Memory is taken for the heights, the wedges, and each mesh that is made.
 pub fn roam<F: Shelf, M: MeshSink, R: Sink>(
     alloc: Global,
     words: &[String],
@@ -47,42 +56,63 @@ pub fn roam<F: Shelf, M: MeshSink, R: Sink>(
     requires report_faults { R.faults report.old < 2 ^ 64 - 1 }
     requires opens { F.opens shelf.old ≤ 2 ^ 63 }
 
+    // The headline: each finished mesh is a best mesh of the state at its frame line, whatever the status.
+    ensures best { (files : List NamedFile) (all : List Mesh) (run : Scripted) (grid : HeightField) →
+        F.files shelf.old ≡ Some files → M.meshes meshes.old ≡ Some all →
+        IsRunOf (map string_bytes words.now) files run grid →
+        KeepsGoodMeshes run grid (bytes_of files run.script) all (M.meshes meshes.new) result.status }
+
     // The outcome: what stands after each status.
-    ensures outcome { (files : List NamedFile) → F.files shelf.old ≡ Some files →
+    ensures outcome { (files : List NamedFile) → AreFiles (F.files shelf.old) (map string_bytes words.now) files →
         EndsRight (told (M.meshes meshes.old) (R.contents report.old))
         (told (M.meshes meshes.new) (R.contents report.new))
-        (IsOutcome (map string_bytes words.now) files) result.status }
-    ensures one_outcome { (files : List NamedFile) (end other : Outcome) → IsOutcome (map string_bytes words.now) files end →
+        (seen (F.files shelf.old) (F.rest shelf.old) (F.opens shelf.old) (F.ended shelf.old))
+        (seen (F.files shelf.new) (F.rest shelf.new) (F.opens shelf.new) (F.ended shelf.new))
+        (map string_bytes words.now) files result.status }
+    ensures some_outcome { (files : List NamedFile) →
+        (end : Outcome) × IsOutcome (map string_bytes words.now) files end }
+    ensures one_outcome { (files : List NamedFile) (end other : Outcome) →
+        HasOneOutcome (command_of (map string_bytes words.now)) →
+        IsOutcome (map string_bytes words.now) files end →
         IsOutcome (map string_bytes words.now) files other → end ≡ other }
-    ensures read_fault { result.status ≡ Status.ReadFault → (files : List NamedFile) → F.files shelf.old ≡ Some files →
+    ensures read_fault { result.status ≡ Status.ReadFault →
         LeavesAtReadFault (told (M.meshes meshes.old) (R.contents report.old))
-        (told (M.meshes meshes.new) (R.contents report.new)) (F.opens shelf.old) (F.opens shelf.new)
-        (F.rest shelf.new) (map string_bytes words.now) files }
-    ensures no_memory { result.status ≡ Status.NoMemory → (files : List NamedFile) → F.files shelf.old ≡ Some files →
+        (told (M.meshes meshes.new) (R.contents report.new))
+        (seen (F.files shelf.old) (F.rest shelf.old) (F.opens shelf.old) (F.ended shelf.old))
+        (seen (F.files shelf.new) (F.rest shelf.new) (F.opens shelf.new) (F.ended shelf.new))
+        (map string_bytes words.now) }
+    ensures no_memory { result.status ≡ Status.NoMemory →
         LeavesAtNoMemory (told (M.meshes meshes.old) (R.contents report.old))
-        (told (M.meshes meshes.new) (R.contents report.new)) (map string_bytes words.now) files }
+        (told (M.meshes meshes.new) (R.contents report.new))
+        (seen (F.files shelf.old) (F.rest shelf.old) (F.opens shelf.old) (F.ended shelf.old))
+        (seen (F.files shelf.new) (F.rest shelf.new) (F.opens shelf.new) (F.ended shelf.new))
+        (map string_bytes words.now) }
+    ensures complete { (files : List NamedFile) → AreFiles (F.files shelf.old) (map string_bytes words.now) files →
+        IsAccepted (map string_bytes words.now) files → F.faults shelf.new ≡ F.faults shelf.old →
+        M.faults meshes.new ≡ M.faults meshes.old → R.faults report.new ≡ R.faults report.old →
+        (result.status ≡ Status.Done) ⊎ (result.status ≡ Status.NoMemory) }
 
-    // The headline: each finished mesh is a best mesh within the budget, whatever the status.
-    ensures best { (files : List NamedFile) (all : List Mesh) → F.files shelf.old ≡ Some files →
-        M.meshes meshes.old ≡ Some all →
-        KeepsBestMeshes (map string_bytes words.now) files all (M.meshes meshes.new) }
-
-    // The blocking triangle that a frame's line tells is a certificate.
-    ensures certificate { (files : List NamedFile) → CertifiesFrames (map string_bytes words.now) files }
+    // What a frame's line tells of blocking is a certificate.
+    ensures certificate { (files : List NamedFile) (end : Outcome) → IsTrue (is_some end.engine) →
+        IsOutcome (map string_bytes words.now) files end → All IsCertified end.pictures }
 
     // The causes.
     ensures usage { (result.status ≡ Status.Usage) ↔ (command_of (map string_bytes words.now) ≡ None) }
+    ensures status { IsTrue (may_end (command_of (map string_bytes words.now)) result.status) }
     ensures untouched { result.status ≡ Status.Usage →
         (shelf.new ≡ shelf.old) × (meshes.new ≡ meshes.old) × (report.new ≡ report.old) }
+    ensures faults { StatusHasCause (F.faults shelf.old) (F.faults shelf.new) (M.faults meshes.old)
+        (M.faults meshes.new) (R.faults report.old) (R.faults report.new) result.status }
     ensures read_cause { (result.status ≡ Status.ReadFault) ↔ (F.faults shelf.old < F.faults shelf.new) }
     ensures write_cause { (result.status ≡ Status.WriteFault) ↔
         ((M.faults meshes.old < M.faults meshes.new) ⊎ (R.faults report.old < R.faults report.new)) }
     ensures opens { OpensForStatus (F.opens shelf.old) (F.opens shelf.new)
         (file_count (command_of (map string_bytes words.now))) result.status }
-    ensures done { result.status ≡ Status.Done → HasEnded (F.ended shelf.new) (F.files shelf.old) (F.rest shelf.new) }
+    ensures done { result.status ≡ Status.Done → 0 < file_count (command_of (map string_bytes words.now)) →
+        HasEnded (seen (F.files shelf.new) (F.rest shelf.new) (F.opens shelf.new) (F.ended shelf.new)) }
     ensures idle { result.status ≢ Status.WriteFault → M.under_way meshes.new ≡ false }
 {
-    picture_laws();
+    run_laws();
     let status = match command_in(words) {
         None => Status::Usage,
         Some(Command::Mesh(command)) => run_mesh(alloc, &command, shelf, meshes, report),
@@ -100,43 +130,52 @@ fn run_mesh<F: Shelf, M: MeshSink, R: Sink>(
     report: &mut R,
 ) -> Status
     requires idle { M.under_way meshes.old ≡ false }
-    requires accepted { IsMeshCommand (mesh_seen command.now) }
+    requires accepted { IsMeshCommand command.now }
     requires opens { F.opens shelf.old ≤ 2 ^ 63 }
     ensures outcome { (files : List NamedFile) → F.files shelf.old ≡ Some files →
-        EndsRight (told (M.meshes meshes.old) (R.contents report.old))
+        CommandEnds (told (M.meshes meshes.old) (R.contents report.old))
         (told (M.meshes meshes.new) (R.contents report.new))
-        (IsCommandOutcome (MeshOf (mesh_seen command.now)) files) result }
-    ensures read_fault { result ≡ Status.ReadFault → (files : List NamedFile) → F.files shelf.old ≡ Some files →
+        (seen (F.files shelf.old) (F.rest shelf.old) (F.opens shelf.old) (F.ended shelf.old))
+        (seen (F.files shelf.new) (F.rest shelf.new) (F.opens shelf.new) (F.ended shelf.new))
+        (OnGrid command.now.grid.now (Frames (scripted_seen command.now))) files result }
+    ensures read_fault { result ≡ Status.ReadFault →
         CommandReadFault (told (M.meshes meshes.old) (R.contents report.old))
-        (told (M.meshes meshes.new) (R.contents report.new)) (F.opens shelf.old) (F.opens shelf.new)
-        (F.rest shelf.new) (MeshOf (mesh_seen command.now)) files }
-    ensures no_memory { result ≡ Status.NoMemory → (files : List NamedFile) → F.files shelf.old ≡ Some files →
+        (told (M.meshes meshes.new) (R.contents report.new))
+        (seen (F.files shelf.old) (F.rest shelf.old) (F.opens shelf.old) (F.ended shelf.old))
+        (seen (F.files shelf.new) (F.rest shelf.new) (F.opens shelf.new) (F.ended shelf.new))
+        (OnGrid command.now.grid.now (Frames (scripted_seen command.now))) }
+    ensures no_memory { result ≡ Status.NoMemory →
         CommandNoMemory (told (M.meshes meshes.old) (R.contents report.old))
-        (told (M.meshes meshes.new) (R.contents report.new)) command.now.grid.now files }
-    ensures best { (words : List (List ℕ)) (files : List NamedFile) (all : List Mesh) →
-        Some (MeshOf (mesh_seen command.now)) ≡ command_of words → F.files shelf.old ≡ Some files →
-        M.meshes meshes.old ≡ Some all → KeepsBestMeshes words files all (M.meshes meshes.new) }
+        (told (M.meshes meshes.new) (R.contents report.new))
+        (seen (F.files shelf.old) (F.rest shelf.old) (F.opens shelf.old) (F.ended shelf.old))
+        (seen (F.files shelf.new) (F.rest shelf.new) (F.opens shelf.new) (F.ended shelf.new))
+        (OnGrid command.now.grid.now (Frames (scripted_seen command.now))) }
     ensures not_usage { result ≢ Status.Usage }
     ensures faults { StatusHasCause (F.faults shelf.old) (F.faults shelf.new) (M.faults meshes.old)
         (M.faults meshes.new) (R.faults report.old) (R.faults report.new) result }
     ensures opens { OpensForStatus (F.opens shelf.old) (F.opens shelf.new) 2 result }
-    ensures done { result ≡ Status.Done → HasEnded (F.ended shelf.new) (F.files shelf.old) (F.rest shelf.new) }
+    ensures done { result ≡ Status.Done →
+        HasEnded (seen (F.files shelf.new) (F.rest shelf.new) (F.opens shelf.new) (F.ended shelf.new)) }
     ensures idle { result ≢ Status.WriteFault → M.under_way meshes.new ≡ false }
 {
     match read_grid(alloc, command.grid, shelf) {
         Ok(grid) => {
-            let Ok(picture) = Picture::make(alloc, grid, command.budget, command.spacing) else {
+            let Ok(scene) = Scene::new(alloc, grid, command.spacing, command.budget) else {
                 return Status::NoMemory;
             };
-            let scene = Scene {
-                prefix: command.prefix,
-                picture: &picture,
-            };
-            run_script(&scene, command.script, shelf, meshes, report)
+            let mut stage = Stage::new(alloc, scene);
+            run_script(
+                command.prefix,
+                &mut stage,
+                command.script,
+                shelf,
+                meshes,
+                report,
+            )
         }
         Err(GridStop::NoMemory) => Status::NoMemory,
         Err(GridStop::Failed) => Status::ReadFault,
-        Err(GridStop::Refused(fault)) => end_with_line(
+        Err(GridStop::Refused(fault)) => end_with_text(
             grid_report(fault).as_slice(),
             Status::GridRefused,
             report,
@@ -148,26 +187,35 @@ fn run_mesh<F: Shelf, M: MeshSink, R: Sink>(
 fn run_info<F: Shelf, R: Sink>(alloc: Global, name: &str, shelf: &mut F, report: &mut R) -> Status
     requires { F.opens shelf.old ≤ 2 ^ 63 }
     ensures outcome { (meshes : Option (List Mesh)) (files : List NamedFile) → F.files shelf.old ≡ Some files →
-        EndsAs (told meshes (R.contents report.old)) (told meshes (R.contents report.new))
-        (info_outcome (grid_of (bytes_of files name.now))) result }
-    ensures stopped { (result ≡ Status.ReadFault) ⊎ (result ≡ Status.NoMemory) →
-        R.contents report.new ≡ R.contents report.old }
-    ensures no_memory { result ≡ Status.NoMemory → (files : List NamedFile) → F.files shelf.old ≡ Some files →
-        HasWholeHeader (bytes_of files name.now) }
-    ensures not_usage { result ≢ Status.Usage }
+        CommandEnds (told meshes (R.contents report.old)) (told meshes (R.contents report.new))
+        (seen (F.files shelf.old) (F.rest shelf.old) (F.opens shelf.old) (F.ended shelf.old))
+        (seen (F.files shelf.new) (F.rest shelf.new) (F.opens shelf.new) (F.ended shelf.new))
+        (OnGrid name.now Facts) files result }
+    ensures read_fault { result ≡ Status.ReadFault → (meshes : Option (List Mesh)) →
+        CommandReadFault (told meshes (R.contents report.old)) (told meshes (R.contents report.new))
+        (seen (F.files shelf.old) (F.rest shelf.old) (F.opens shelf.old) (F.ended shelf.old))
+        (seen (F.files shelf.new) (F.rest shelf.new) (F.opens shelf.new) (F.ended shelf.new))
+        (OnGrid name.now Facts) }
+    ensures no_memory { result ≡ Status.NoMemory → (meshes : Option (List Mesh)) →
+        CommandNoMemory (told meshes (R.contents report.old)) (told meshes (R.contents report.new))
+        (seen (F.files shelf.old) (F.rest shelf.old) (F.opens shelf.old) (F.ended shelf.old))
+        (seen (F.files shelf.new) (F.rest shelf.new) (F.opens shelf.new) (F.ended shelf.new))
+        (OnGrid name.now Facts) }
+    ensures status { (result ≢ Status.Usage) × (result ≢ Status.ScriptRefused) }
     ensures faults { StatusHasCause (F.faults shelf.old) (F.faults shelf.new) 0 0
         (R.faults report.old) (R.faults report.new) result }
     ensures opens { F.opens shelf.new ≡ F.opens shelf.old + 1 }
-    ensures done { result ≡ Status.Done → HasEnded (F.ended shelf.new) (F.files shelf.old) (F.rest shelf.new) }
+    ensures done { result ≡ Status.Done →
+        HasEnded (seen (F.files shelf.new) (F.rest shelf.new) (F.opens shelf.new) (F.ended shelf.new)) }
 {
     match read_grid(alloc, name, shelf) {
         Ok(grid) => match Wedges::build(alloc, grid) {
-            Ok(wedges) => end_with_line(info_report(&wedges).as_slice(), Status::Done, report),
+            Ok(wedges) => end_with_text(info_report(&wedges).as_slice(), Status::Done, report),
             Err(_) => Status::NoMemory,
         },
         Err(GridStop::NoMemory) => Status::NoMemory,
         Err(GridStop::Failed) => Status::ReadFault,
-        Err(GridStop::Refused(fault)) => end_with_line(
+        Err(GridStop::Refused(fault)) => end_with_text(
             grid_report(fault).as_slice(),
             Status::GridRefused,
             report,
@@ -175,15 +223,15 @@ fn run_info<F: Shelf, R: Sink>(alloc: Global, name: &str, shelf: &mut F, report:
     }
 }
 
-/// Writes the last line of a run, which ends with this status unless the write fails.
-fn end_with_line<R: Sink>(line: &[u8], status: Status, report: &mut R) -> Status
+/// Writes the last text of a run, which ends with this status unless the write fails.
+fn end_with_text<R: Sink>(text: &[u8], status: Status, report: &mut R) -> Status
     requires { is_complete status ≡ true }
-    ensures ends { (meshes : Option (List Mesh)) → EndsAs (told meshes (R.contents report.old))
-        (told meshes (R.contents report.new)) (outcome (ReportLine line.now ∷ []) status) result }
+    ensures ends { (meshes : Option (List Mesh)) (files : ℕ) → DoesAs (told meshes (R.contents report.old))
+        (told meshes (R.contents report.new)) (text_outcome text.now status files) result }
     ensures status { (result ≡ status) ⊎ (result ≡ Status.WriteFault) }
     ensures faults { (count : ℕ) → StatusWritesHaveCause count count (R.faults report.old) (R.faults report.new) result }
 {
-    match report.write(line) {
+    match report.write(text) {
         Ok(()) => status,
         Err(_) => Status::WriteFault,
     }

@@ -1,25 +1,29 @@
 //! A script, carried out as its bytes come.
 
-ghost use Rattle.std.specs.Prelude.{◌≡◌, ◌≢◌, ◌+◌, ◌<◌, ◌≤◌, List, ◌∷◌, [], Some, false, codes, length, OnOk, IsErrOf};
+ghost use Rattle.std.specs.Prelude.{◌≡◌, ◌≢◌, ◌+◌, ◌*◌, ◌<◌, ◌≤◌, ◌⊎◌, ℕ, List, ◌∷◌, [], ◌++◌, Some, Err, false, length, OnOk};
 ghost use Rattle.roam_edge.specs.Fault.{HasCause, next_count};
 ghost use Rattle.roam_edge.specs.Shelf.{NamedFile, bytes_of};
 ghost use Rattle.roam_edge.specs.Sink.{Appends};
-ghost use Rattle.roam_run.specs.Act.{told};
-ghost use Rattle.roam_run.specs.Cause.{StatusHasCause, StatusWritesHaveCause};
-ghost use Rattle.roam_run.specs.Promise.{EndsAs, StandsForRead, IsScriptEnd, IsRunEnd, HasEnded};
-ghost use Rattle.roam_run.specs.ReportText.{line_refusal};
-ghost use Rattle.roam_run.specs.Script.{line_fault};
-ghost use Rattle.roam_run.specs.Step.{HasBegun, TakesLine, TakesPiece, left_outcome, place};
-ghost use Rattle.roam_run.specs.Taking.{shown, place_of, status_for, IsScene, NotFailed, StopsHaveCause};
+ghost use Rattle.run_laws.specs.Cause.{StatusHasCause, StatusWritesHaveCause};
+ghost use Rattle.run_laws.specs.Promise.{seen, HasEnded};
+ghost use Rattle.run_laws.specs.Walk.{Walk, walk_of};
+ghost use Rattle.run_laws.specs.Picture.{Picture};
+ghost use Rattle.run_laws.specs.Outcome.{Outcome, shown_acts, IsFramesOutcome};
+ghost use Rattle.run_laws.specs.Words.{AsMeshes};
+ghost use Rattle.run_laws.specs.Act.{Told, told, Stands};
+ghost use Rattle.run_laws.specs.ReportText.{line_refusal};
+ghost use Rattle.run_laws.specs.Laws.{KeepsStates};
+ghost use Rattle.roam_run.specs.StageView.{IsStage, IsAt, Begins, refusal};
+ghost use Rattle.roam_run.specs.Taking.{NotFailed, StopsHaveCause, TakesBytes, TakesFrame, status_for, IsScriptEnd, DoesAs, AreFirst, EndsScript, StopsReading};
+ghost use Rattle.roam_run.specs.WordView.{IsPrefixLength};
 
 use crate::frame::write_frame;
 use crate::grid_file::PIECE;
-use crate::picture::Picture;
 use crate::report::line_report;
-use crate::script_fault::ScriptFault;
-use crate::status::Status;
-use arrayvec::ArrayVec;
+use crate::stage::Stage;
 use roam_edge::{Failed, MeshSink, Shelf, Sink};
+use roam_script::{Line, ScriptFault, line_laws, read_line};
+use run_laws::{Status, state_laws};
 
 /// Why a run goes no further.
 #[derive(Clone, Copy, Debug, PartialEq, Eq)]
@@ -28,152 +32,165 @@ pub(crate) enum Stop {
     Refused,
     /// A write failed.
     Failed,
-}
-
-/// The bytes of the longest line that is accepted.
-const LINE_ROOM: usize = 5;
-
-/// The greatest number of frames: their numbers have six digits.
-const MOST_FRAMES: u32 = 999_999;
-
-/// What every frame shows.
-#[derive(Clone, Copy)]
-pub(crate) struct Scene<'a> {
-    /// What the name of each mesh begins with.
-    pub(crate) prefix: &'a str,
-    /// What each frame shows.
-    pub(crate) picture: &'a Picture,
-}
-
-/// How far a script was carried out.
-#[derive(Drop)]
-pub(crate) struct Progress {
-    /// The frames that were made, one a line.
-    pub(crate) frames: u32,
-    /// The bytes of the line that has begun.
-    pub(crate) part: ArrayVec<u8, LINE_ROOM>,
-}
-
-/// Why the line is refused, or None where it makes the next frame.
-fn fault_of(frames: u32, line: &[u8]) -> Option<ScriptFault>
-    ensures { result ≡ line_fault frames line.now }
-{
-    if line != b"frame".as_slice() {
-        return Some(ScriptFault::UnknownCommand);
-    }
-    if frames < MOST_FRAMES {
-        None
-    } else {
-        Some(ScriptFault::TooManyFrames)
-    }
+    /// There is no room for a mesh.
+    NoMemory,
 }
 
 /// Writes that a line is refused.
 fn refuse<R: Sink>(number: u32, fault: ScriptFault, report: &mut R) -> Result<(), Failed>
-    ensures bytes { Appends (R.contents report.old) (R.contents report.new) (line_refusal number fault) result }
+    ensures bytes { Appends (R.contents report.old) (R.contents report.new)
+        (line_refusal (refusal number fault)) result }
     ensures faults { HasCause (R.faults report.old) (R.faults report.new) result }
 {
     report.write(line_report(number, fault).as_slice())
 }
 
-/// Makes the next frame of a line, or refuses the line.
-fn take_line<M: MeshSink, R: Sink>(
-    scene: &Scene<'_>,
-    frames: u32,
-    line: &[u8],
+/// Makes the frame of a line, and shows it.
+fn take_frame<M: MeshSink, R: Sink>(
+    prefix: &str,
+    stage: &mut Stage,
     meshes: &mut M,
     report: &mut R,
 ) -> Result<(), Stop>
     requires idle { M.under_way meshes.old ≡ false }
-    requires scene { IsScene scene.now }
-    requires frames { frames ≤ 999999 }
-    ensures outcome { TakesLine (told (M.meshes meshes.old) (R.contents report.old))
-        (told (M.meshes meshes.new) (R.contents report.new)) (shown scene.now) frames
-        (line_fault frames line.now) result }
-    ensures fewer { OnOk result (frames < 999999) }
-    ensures word { OnOk result (line.now ≡ codes "frame") }
+    requires prefix { IsPrefixLength prefix.now }
+    requires stage { IsStage stage.old }
+    requires lines { stage.old.lines < 10000000 }
+    requires frames { stage.old.frames < 999999 }
+    ensures outcome { TakesFrame (told (M.meshes meshes.old) (R.contents report.old))
+        (told (M.meshes meshes.new) (R.contents report.new)) (AsMeshes prefix.now) stage.old stage.new result }
+    ensures stage { OnOk result (IsStage stage.new) }
+    ensures scene { OnOk result (stage.new.scene ≡ stage.old.scene) }
+    ensures most { OnOk result (stage.new.most ≡ stage.old.most) }
+    ensures lines { OnOk result (stage.new.lines ≡ stage.old.lines + 1) }
+    ensures frames { OnOk result (stage.new.frames ≡ stage.old.frames + 1) }
+    ensures part { OnOk result (stage.new.part.items ≡ []) }
     ensures idle { NotFailed result → M.under_way meshes.new ≡ false }
     ensures faults { StopsHaveCause (M.faults meshes.old) (M.faults meshes.new)
         (R.faults report.old) (R.faults report.new) result }
 {
-    if let Some(fault) = fault_of(frames, line) {
-        return match refuse(frames + 1, fault, report) {
-            Ok(()) => Err(Stop::Refused),
-            Err(_) => Err(Stop::Failed),
-        };
-    }
-    match write_frame(scene.prefix, frames + 1, scene.picture, meshes, report) {
-        Ok(()) => Ok(()),
+    let Ok(mesh) = stage.take_mesh() else {
+        return Err(Stop::NoMemory);
+    };
+    let number = stage.frames + 1;
+    match write_frame(
+        prefix,
+        number,
+        &stage.scene,
+        &mesh,
+        stage.split,
+        meshes,
+        report,
+    ) {
+        Ok(()) => {
+            stage.end_frame(mesh);
+            Ok(())
+        }
         Err(_) => Err(Stop::Failed),
     }
 }
 
-/// Takes one byte of a script: the line that has begun goes on, or it ends and is carried out.
+/// Carries out the line that has begun, which ends here, or refuses it.
+fn take_line<M: MeshSink, R: Sink>(
+    prefix: &str,
+    stage: &mut Stage,
+    meshes: &mut M,
+    report: &mut R,
+) -> Result<(), Stop>
+    requires idle { M.under_way meshes.old ≡ false }
+    requires prefix { IsPrefixLength prefix.now }
+    requires stage { IsStage stage.old }
+    ensures outcome { (before : Told) (start : Walk) (read : List ℕ) →
+        KeepsStates start.state.grid.n start →
+        IsAt before (told (M.meshes meshes.old) (R.contents report.old)) (AsMeshes prefix.now) start read stage.old →
+        TakesBytes before (told (M.meshes meshes.new) (R.contents report.new)) (AsMeshes prefix.now) start
+        (read ++ 10 ∷ []) stage.new result }
+    ensures stage { OnOk result (IsStage stage.new) }
+    ensures lines { OnOk result (stage.new.lines ≡ stage.old.lines + 1) }
+    ensures part { OnOk result (stage.new.part.items ≡ []) }
+    ensures idle { NotFailed result → M.under_way meshes.new ≡ false }
+    ensures faults { StopsHaveCause (M.faults meshes.old) (M.faults meshes.new)
+        (R.faults report.old) (R.faults report.new) result }
+{
+    state_laws();
+    line_laws();
+    match read_line(stage.part.as_slice(), &stage.limits()) {
+        Ok(Line::Frame) => take_frame(prefix, stage, meshes, report),
+        Ok(line) => {
+            stage.end_line(line);
+            Ok(())
+        }
+        Err(fault) => match refuse(stage.lines + 1, fault, report) {
+            Ok(()) => Err(Stop::Refused),
+            Err(_) => Err(Stop::Failed),
+        },
+    }
+}
+
+/// Takes one byte of a script: the line that has begun goes on, or it ends and is carried out. A line
+/// that no further byte can mend is refused at once.
 fn take_byte<M: MeshSink, R: Sink>(
-    scene: &Scene<'_>,
-    progress: &mut Progress,
+    prefix: &str,
+    stage: &mut Stage,
     byte: u8,
     meshes: &mut M,
     report: &mut R,
 ) -> Result<(), Stop>
     requires idle { M.under_way meshes.old ≡ false }
-    requires scene { IsScene scene.now }
-    requires frames { progress.old.frames ≤ 999999 }
-    requires part { HasBegun progress.old.part.items }
-    ensures outcome { TakesPiece (told (M.meshes meshes.old) (R.contents report.old))
-        (told (M.meshes meshes.new) (R.contents report.new)) (shown scene.now)
-        (place_of progress.old) (place_of progress.new) (byte ∷ []) result }
-    ensures frames { OnOk result (progress.new.frames ≤ 999999) }
-    ensures part { OnOk result (HasBegun progress.new.part.items) }
+    requires prefix { IsPrefixLength prefix.now }
+    requires stage { IsStage stage.old }
+    ensures outcome { (before : Told) (start : Walk) (read : List ℕ) →
+        KeepsStates start.state.grid.n start →
+        IsAt before (told (M.meshes meshes.old) (R.contents report.old)) (AsMeshes prefix.now) start read stage.old →
+        TakesBytes before (told (M.meshes meshes.new) (R.contents report.new)) (AsMeshes prefix.now) start
+        (read ++ byte ∷ []) stage.new result }
+    ensures stage { OnOk result (IsStage stage.new) }
+    ensures longer { OnOk result (201 * stage.old.lines + length stage.old.part.items + 1
+        ≤ 201 * stage.new.lines + length stage.new.part.items) }
     ensures idle { NotFailed result → M.under_way meshes.new ≡ false }
     ensures faults { StopsHaveCause (M.faults meshes.old) (M.faults meshes.new)
         (R.faults report.old) (R.faults report.new) result }
 {
     if byte == b'\n' {
-        take_line(
-            scene,
-            progress.frames,
-            progress.part.as_slice(),
-            meshes,
-            report,
-        )?;
-        progress.frames += 1;
-        progress.part.clear();
-        return Ok(());
+        return take_line(prefix, stage, meshes, report);
     }
-    if progress.part.is_full() {
-        return match refuse(progress.frames + 1, ScriptFault::UnknownCommand, report) {
+    match stage.settled_fault() {
+        Some(fault) => match refuse(stage.lines + 1, fault, report) {
             Ok(()) => Err(Stop::Refused),
             Err(_) => Err(Stop::Failed),
-        };
+        },
+        None => {
+            stage.part.push(byte);
+            Ok(())
+        }
     }
-    progress.part.push(byte);
-    Ok(())
 }
 
 /// Takes a piece of a script.
 fn take_piece<M: MeshSink, R: Sink>(
-    scene: &Scene<'_>,
-    progress: &mut Progress,
+    prefix: &str,
+    stage: &mut Stage,
     piece: &[u8],
     meshes: &mut M,
     report: &mut R,
 ) -> Result<(), Stop>
     requires idle { M.under_way meshes.old ≡ false }
-    requires scene { IsScene scene.now }
-    requires frames { progress.old.frames ≤ 999999 }
-    requires part { HasBegun progress.old.part.items }
-    ensures outcome { TakesPiece (told (M.meshes meshes.old) (R.contents report.old))
-        (told (M.meshes meshes.new) (R.contents report.new)) (shown scene.now)
-        (place_of progress.old) (place_of progress.new) piece.now result }
-    ensures frames { OnOk result (progress.new.frames ≤ 999999) }
-    ensures part { OnOk result (HasBegun progress.new.part.items) }
+    requires prefix { IsPrefixLength prefix.now }
+    requires stage { IsStage stage.old }
+    ensures outcome { (before : Told) (start : Walk) (read : List ℕ) →
+        KeepsStates start.state.grid.n start →
+        IsAt before (told (M.meshes meshes.old) (R.contents report.old)) (AsMeshes prefix.now) start read stage.old →
+        TakesBytes before (told (M.meshes meshes.new) (R.contents report.new)) (AsMeshes prefix.now) start
+        (read ++ piece.now) stage.new result }
+    ensures stage { OnOk result (IsStage stage.new) }
+    ensures longer { OnOk result (201 * stage.old.lines + length stage.old.part.items + length piece.now
+        ≤ 201 * stage.new.lines + length stage.new.part.items) }
     ensures idle { NotFailed result → M.under_way meshes.new ≡ false }
     ensures faults { StopsHaveCause (M.faults meshes.old) (M.faults meshes.new)
         (R.faults report.old) (R.faults report.new) result }
 {
     for byte in piece {
-        take_byte(scene, progress, *byte, meshes, report)?;
+        take_byte(prefix, stage, *byte, meshes, report)?;
     }
     Ok(())
 }
@@ -185,38 +202,32 @@ fn status_of(stop: Stop) -> Status
     match stop {
         Stop::Refused => Status::ScriptRefused,
         Stop::Failed => Status::WriteFault,
+        Stop::NoMemory => Status::NoMemory,
     }
 }
 
 /// Ends a script: bytes after the last LF are a line too.
 fn end_script<M: MeshSink, R: Sink>(
-    scene: &Scene<'_>,
-    progress: &Progress,
+    prefix: &str,
+    stage: &mut Stage,
     meshes: &mut M,
     report: &mut R,
 ) -> Status
     requires idle { M.under_way meshes.old ≡ false }
-    requires scene { IsScene scene.now }
-    requires frames { progress.now.frames ≤ 999999 }
-    requires part { HasBegun progress.now.part.items }
-    ensures ends { EndsAs (told (M.meshes meshes.old) (R.contents report.old))
-        (told (M.meshes meshes.new) (R.contents report.new))
-        (left_outcome (shown scene.now) (place_of progress.now) []) result }
+    requires prefix { IsPrefixLength prefix.now }
+    requires stage { IsStage stage.old }
+    ensures ends { (before : Told) (start : Walk) (read : List ℕ) → KeepsStates start.state.grid.n start →
+        IsAt before (told (M.meshes meshes.old) (R.contents report.old)) (AsMeshes prefix.now) start read stage.old →
+        EndsScript before (told (M.meshes meshes.new) (R.contents report.new)) (AsMeshes prefix.now) start read result }
     ensures status { IsScriptEnd result }
     ensures idle { result ≢ Status.WriteFault → M.under_way meshes.new ≡ false }
     ensures faults { StatusWritesHaveCause (M.faults meshes.old) (M.faults meshes.new)
         (R.faults report.old) (R.faults report.new) result }
 {
-    if progress.part.is_empty() {
+    if stage.part.is_empty() {
         return Status::Done;
     }
-    match take_line(
-        scene,
-        progress.frames,
-        progress.part.as_slice(),
-        meshes,
-        report,
-    ) {
+    match take_line(prefix, stage, meshes, report) {
         Ok(()) => Status::Done,
         Err(stop) => status_of(stop),
     }
@@ -224,24 +235,36 @@ fn end_script<M: MeshSink, R: Sink>(
 
 /// Reads the script of this name and carries out its lines, each whole line before the next read.
 pub(crate) fn run_script<F: Shelf, M: MeshSink, R: Sink>(
-    scene: &Scene<'_>,
+    prefix: &str,
+    stage: &mut Stage,
     name: &str,
     shelf: &mut F,
     meshes: &mut M,
     report: &mut R,
 ) -> Status
     requires idle { M.under_way meshes.old ≡ false }
-    requires scene { IsScene scene.now }
-    ensures ends { (files : List NamedFile) → F.files shelf.old ≡ Some files →
-        EndsAs (told (M.meshes meshes.old) (R.contents report.old))
-        (told (M.meshes meshes.new) (R.contents report.new))
-        (left_outcome (shown scene.now) (place 0 []) (bytes_of files name.now)) result }
-    ensures read_fault { result ≡ Status.ReadFault → (files : List NamedFile) → F.files shelf.old ≡ Some files →
-        StandsForRead (told (M.meshes meshes.old) (R.contents report.old))
-        (told (M.meshes meshes.new) (R.contents report.new)) (F.rest shelf.new)
-        (shown scene.now) (bytes_of files name.now) }
-    ensures status { IsRunEnd result }
-    ensures done { result ≡ Status.Done → HasEnded (F.ended shelf.new) (F.files shelf.old) (F.rest shelf.new) }
+    requires prefix { IsPrefixLength prefix.now }
+    requires stage { IsStage stage.old }
+    ensures ends { (start : Walk) → KeepsStates start.state.grid.n start → Begins start stage.old →
+        (files : List NamedFile) → F.files shelf.old ≡ Some files → result ≢ Status.ReadFault → result ≢ Status.NoMemory →
+        (end : Outcome) × IsFramesOutcome (AsMeshes prefix.now) 2 (walk_of start (bytes_of files name.now)) end
+        × DoesAs (told (M.meshes meshes.old) (R.contents report.old))
+        (told (M.meshes meshes.new) (R.contents report.new)) end result }
+    ensures read_fault { result ≡ Status.ReadFault → (start : Walk) → KeepsStates start.state.grid.n start →
+        Begins start stage.old → (files : List NamedFile) → F.files shelf.old ≡ Some files →
+        StopsReading (told (M.meshes meshes.old) (R.contents report.old))
+        (told (M.meshes meshes.new) (R.contents report.new)) (AsMeshes prefix.now) start
+        (bytes_of files name.now) (F.rest shelf.new) (F.ended shelf.new) }
+    ensures no_memory { result ≡ Status.NoMemory → (start : Walk) → KeepsStates start.state.grid.n start →
+        Begins start stage.old → (pictures : List Picture)
+        × Stands (told (M.meshes meshes.old) (R.contents report.old))
+        (told (M.meshes meshes.new) (R.contents report.new)) (shown_acts (AsMeshes prefix.now) 1 pictures)
+        × ((files : List NamedFile) → F.files shelf.old ≡ Some files →
+        AreFirst (AsMeshes prefix.now) (walk_of start (bytes_of files name.now)) pictures) }
+    ensures status { (result ≡ Status.ReadFault) ⊎ IsScriptEnd result }
+    ensures done { result ≡ Status.Done → HasEnded (seen (F.files shelf.new) (F.rest shelf.new)
+        (F.opens shelf.new) (F.ended shelf.new)) }
+    ensures files { F.files shelf.new ≡ F.files shelf.old }
     ensures opens { F.opens shelf.new ≡ next_count (F.opens shelf.old) }
     ensures idle { result ≢ Status.WriteFault → M.under_way meshes.new ≡ false }
     ensures faults { StatusHasCause (F.faults shelf.old) (F.faults shelf.new) (M.faults meshes.old)
@@ -250,19 +273,15 @@ pub(crate) fn run_script<F: Shelf, M: MeshSink, R: Sink>(
     let Ok(()) = shelf.open_named(name) else {
         return Status::ReadFault;
     };
-    let mut progress = Progress {
-        frames: 0,
-        part: ArrayVec::new(),
-    };
     let mut buffer = [0; PIECE];
     'pieces: loop {
         let Ok(count) = shelf.read(&mut buffer) else {
             return Status::ReadFault;
         };
         if count == 0 {
-            return end_script(scene, &progress, meshes, report);
+            return end_script(prefix, stage, meshes, report);
         }
-        if let Err(stop) = take_piece(scene, &mut progress, &buffer[..count], meshes, report) {
+        if let Err(stop) = take_piece(prefix, stage, &buffer[..count], meshes, report) {
             return status_of(stop);
         }
     }

@@ -2,7 +2,7 @@
 
 ghost use Rattle.std.specs.Prelude.{◌≡◌, ◌≤◌, ◌&&◌, ◌==◌, map, string_bytes, codes, bytes_eq, IfSome};
 ghost use Rattle.std.specs.Option.{option_map};
-ghost use Rattle.roam_run.specs.Words.{command_of, number_word};
+ghost use Rattle.run_laws.specs.Words.{command_of, number_word};
 ghost use Rattle.roam_run.specs.WordView.{command_seen, IsAccepted};
 
 use roam_num::read_dec;

@@ -1,12 +1,14 @@
-use Rattle.std.proofs.Common.{◌≡◌, ℕ, List, Some, Err, inl, inr, take, rules, arith, ap, ◌∙◌}
+use Rattle.std.proofs.Common.{◌≡◌, ℕ, List, [], refl, Some, Err, inl, inr, take, rules, arith, ap, ◌∙◌}
+use Rattle.std.proofs.lemmas.Grind.{common_steps}
 use Rattle.roam_run.specs.GridStop.{stop_for}
 use Rattle.roam_run.specs.declared.grid_file.GridStop.TheVariants.{Refused, NoMemory}
-use Rattle.roam_run.proofs.ReadingLemmas.{reading-begin, reading-more, reading-refused, reading-unsettled, reading-header, grid-header, grid-ended, front-read, stop_for-refused, stop_for-memory}
+use Rattle.roam_run.proofs.ReadingLemmas.{reading-begin, reading-more, reading-refused, reading-unsettled, reading-failed, start-unsettled, opening-failed, reading-header, grid-header, grid-ended, front-read, stop_for-refused, stop_for-memory}
 use Rattle.roam_run.proofs.grid_file.read_grid.Goals as goal
 
 pub pieces-init : goal.pieces-init
 pieces-init g c = record {
   reading = reading-begin _ _ _ _ c.new-reader.ensures.value c.new-reader.ensures.count c.in-Ok.ensures.opened.chosen;
+  unsettled = start-unsettled _ c.new-reader.ensures.value;
   few = omega (arith, c.new-reader.ensures.count);
   open_file = search rules;
   files = search rules;
@@ -28,6 +30,7 @@ pieces-preserved g c = record {
       (λ unread here. ap (take c.in-Ok-read.count) (c.in-Ok-read.ensures.bytes.gives unread here)
       ∙ front-read c.in-Ok-read.count unread _ (c.in-Ok-read.ensures.bytes.within unread here))
       c.in_default-feed.ensures.ok c.in_default-feed.ensures.count;
+  unsettled = c.in_default-feed.ensures.unsettled;
   few = c.in_default-feed.ensures.limit;
   open_file = search rules;
   files = search rules;
@@ -42,15 +45,22 @@ returns-in-Err-clause-no_memory g c is all told =
     ∙ front-read c.in-Ok-read.count unread _ (c.in-Ok-read.ensures.bytes.within unread here) in
     elim (c.in-Err.ensures.no_memory (ap Err wanted)) [
       | inl settled ↦ absurd (reading-unsettled _ _ _ _ c.grids_and_texts.ensures.others c.pieces.invariant.reading settled)
-      | inr ends ↦ reading-header _ _ _ _ c.in-Ok-read.count _ c.pieces.invariant.reading gives ends all told
+      | inr ends ↦ reading-header _ _ _ _ _ c.in-Ok-read.count _ c.pieces.invariant.reading c.in-Ok-read.ensures.bytes.takes gives ends all told
     ]
 
 pub returns-then-count-eq0-clause-header : goal.returns-then-count-eq0-clause-header
 returns-then-count-eq0-clause-header g c =
     grid-header _ _ _ _ c.pieces.invariant.reading (λ unread is. (c.in-Ok-read.ensures.bytes.empty unread is).0 c.if-count-eq0.true)
-    c.finished.result c.grids_and_texts.ensures.headers c.finished.ensures.ok
+    c.finished.result c.grids_and_texts.ensures.headers c.finished.ensures.ok _ c.in-Ok-read.count c.if-count-eq0.true c.in-Ok-read.ensures.bytes.takes
 
 pub returns-then-count-eq0-clause-ended : goal.returns-then-count-eq0-clause-ended
 returns-then-count-eq0-clause-ended g c =
     grid-ended _ _ _ _ c.pieces.invariant.reading (λ unread is. (c.in-Ok-read.ensures.bytes.empty unread is).0 c.if-count-eq0.true)
-    _ _ c.in-Ok-read.count c.finished.result c.if-count-eq0.true (c.in-Ok-read.ensures.ends.at_end c.if-count-eq0.true) c.in-Ok-read.ensures.bytes.takes
+    _ _ _ c.in-Ok-read.count _ c.finished.result (c.in-Ok-read.ensures.others ∙ c.pieces.invariant.files) c.if-count-eq0.true (c.in-Ok-read.ensures.ends.at_end c.if-count-eq0.true) c.in-Ok-read.ensures.bytes.takes
+
+pub returns-in_default-read-clause-undecided : goal.returns-in_default-read-clause-undecided
+returns-in_default-read-clause-undecided g c is all told =
+    reading-failed _ _ _ _ _ _ c.pieces.invariant.reading c.pieces.invariant.unsettled c.in_default-read.ensures.bytes.kept (c.in_default-read.ensures.ends.failed ∙ c.pieces.invariant.open_file) all told
+
+pub returns-in_default-clause-undecided : goal.returns-in_default-clause-undecided
+returns-in_default-clause-undecided g c is all told = opening-failed _ _ _ (grind (arith, common_steps))

@@ -1,6 +1,7 @@
 use Rattle.std.proofs.Common.{◌≡◌, ◌-◌, ◌^◌, ◌≤◌, false}
 use Rattle.roam_edge.specs.Fault.{next_count}
-use Rattle.pgm_grid.specs.Progress.{taken}
+use Rattle.pgm_grid.specs.declared.fault.PgmFault.{PgmFault}
+use Rattle.pgm_grid.specs.Progress.{taken, IsSettled}
 use Rattle.roam_run.proofs.ReadingLemmas.{IsReading}
 use Rattle.roam_run.proofs.grid_file.read_grid.Given as goal
 
@@ -8,6 +9,7 @@ use Rattle.roam_run.proofs.grid_file.read_grid.Given as goal
 abbrev pub invariant-pieces : goal.invariant-pieces
 invariant-pieces g l = record {
   reading : IsReading (g.F.Shelf.files l.fn.shelf) (g.F.Shelf.rest l.shelf) l.name l.reader;
+  unsettled : (fault : PgmFault) → IsSettled l.reader fault → ⊥;
   few : taken l.reader ≤ 2 ^ 28;
   open_file : g.F.Shelf.ended l.shelf ≡ false;
   files : g.F.Shelf.files l.shelf ≡ g.F.Shelf.files l.fn.shelf;

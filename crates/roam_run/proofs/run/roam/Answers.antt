@@ -1,23 +1,80 @@
-use Rattle.std.proofs.Common.{map, string_bytes, Some, sym, ◌∙◌, ap}
-use Rattle.roam_run.proofs.RunLemmas.{usage-ends, command-ends, info-ends}
-use Rattle.roam_run.specs.WordView.{command_seen, mesh_seen}
-use Rattle.roam_run.specs.Words.{MeshOf}
+use Rattle.std.proofs.Common.{◌≡◌, ℕ, List, map, string_bytes, Some, None, refl, sym, ◌∙◌, ap, arith}
+use Rattle.run_laws.specs.Words.{Command, OnGrid, Frames, Facts, command_of}
+use Rattle.roam_run.specs.WordView.{scripted_seen, command_seen}
+use Rattle.roam_run.proofs.TopLemmas.{told-files, usage-ends, words-end, words-read_fault, words-no_memory, not-read, not-write, accepted-done}
 use Rattle.roam_run.proofs.run.roam.Goals as goal
 
 pub returns-in-None-clause-outcome : goal.returns-in-None-clause-outcome
-returns-in-None-clause-outcome g c all told_files = usage-ends _ _ all c.in-None.ensures.value
+returns-in-None-clause-outcome g c files are =
+    let is_none : command_of (map string_bytes c.args.words.now) ≡ None = sym c.in-None.ensures.value in
+    usage-ends _ _ (map string_bytes c.args.words.now) files is_none
+
+pub returns-in-None-clause-certificate : goal.returns-in-None-clause-certificate
+returns-in-None-clause-certificate g c files end = c.run_laws.ensures.certificate (map string_bytes c.args.words.now) files end
+
+pub returns-in-Some-Mesh-clause-best : goal.returns-in-Some-Mesh-clause-best
+returns-in-Some-Mesh-clause-best g c files all run grid told_files told_meshes is_run =
+    let words : List (List ℕ) = map string_bytes c.args.words.now in
+    let command : Command = OnGrid c.in-Some-Mesh.command.grid.now (Frames (scripted_seen c.in-Some-Mesh.command)) in
+    let is_command : command_of words ≡ Some command =
+    sym c.in-Some-Mesh.ensures.value ∙ ap (λ command. Some (command_seen command)) c.in-Some-Mesh.field-0-is in
+    c.run_laws.ensures.headline words files run grid _ _ _ _ all _ is_run told_files told_meshes
+    (words-end _ _ _ _ words command is_command files _ (c.run_mesh-status.ensures.outcome files told_files))
+    (λ e. words-read_fault _ _ _ _ words command is_command (c.run_mesh-status.ensures.read_fault e))
+    (λ e. words-no_memory _ _ _ _ words command is_command (c.run_mesh-status.ensures.no_memory e))
 
 pub returns-in-Some-Mesh-clause-outcome : goal.returns-in-Some-Mesh-clause-outcome
-returns-in-Some-Mesh-clause-outcome g c all told_files =
-    command-ends _ _ _ all (MeshOf (mesh_seen c.in-Some-Mesh.command)) _
-    (ap (λ command. Some (command_seen command)) (sym c.in-Some-Mesh.field-0-is) ∙ c.in-Some-Mesh.ensures.value)
-    (c.run_mesh-status.ensures.outcome all told_files)
+returns-in-Some-Mesh-clause-outcome g c files are =
+    let words : List (List ℕ) = map string_bytes c.args.words.now in
+    let command : Command = OnGrid c.in-Some-Mesh.command.grid.now (Frames (scripted_seen c.in-Some-Mesh.command)) in
+    let is_command : command_of words ≡ Some command =
+    sym c.in-Some-Mesh.ensures.value ∙ ap (λ command. Some (command_seen command)) c.in-Some-Mesh.field-0-is in
+    words-end _ _ _ _ words command is_command files _
+    (c.run_mesh-status.ensures.outcome files (told-files _ words files _ _ is_command are))
 
-pub returns-in-Some-Info-clause-outcome : goal.returns-in-Some-Info-clause-outcome
-returns-in-Some-Info-clause-outcome g c all told_files =
-    info-ends _ _ _ all c.in-Some-Info.grid.now _
-    (ap (λ command. Some (command_seen command)) (sym c.in-Some-Info.field-0-is) ∙ c.in-Some-Info.ensures.value)
-    (c.run_info-status.ensures.outcome (g.M.MeshSink.meshes c.args.meshes.now) all told_files)
+pub returns-in-Some-Mesh-clause-complete : goal.returns-in-Some-Mesh-clause-complete
+returns-in-Some-Mesh-clause-complete g c files are accepted shelf_same meshes_same report_same =
+    let words : List (List ℕ) = map string_bytes c.args.words.now in
+    let cause = c.run_mesh-status.ensures.faults in
+    accepted-done c.run_laws.ensures.done _ _ _ _ words files accepted _ (returns-in-Some-Mesh-clause-outcome g c files are)
+    (not-read _ _ _ _ _ _ _ c.requires.shelf_faults shelf_same cause)
+    (not-write _ _ _ _ _ _ _ c.requires.mesh_faults c.requires.report_faults meshes_same report_same cause)
 
 pub returns-in-Some-Mesh-clause-certificate : goal.returns-in-Some-Mesh-clause-certificate
-returns-in-Some-Mesh-clause-certificate g c all = c.picture_laws.ensures.certificate (map string_bytes c.args.words.now) all
+returns-in-Some-Mesh-clause-certificate g c files end = c.run_laws.ensures.certificate (map string_bytes c.args.words.now) files end
+
+pub returns-in-Some-Info-clause-outcome : goal.returns-in-Some-Info-clause-outcome
+returns-in-Some-Info-clause-outcome g c files are =
+    let words : List (List ℕ) = map string_bytes c.args.words.now in
+    let command : Command = OnGrid c.in-Some-Info.grid.now Facts in
+    let is_command : command_of words ≡ Some command =
+    sym c.in-Some-Info.ensures.value ∙ ap (λ command. Some (command_seen command)) c.in-Some-Info.field-0-is in
+    words-end _ _ _ _ words command is_command files _
+    (c.run_info-status.ensures.outcome (g.M.MeshSink.meshes c.args.meshes.now) files (told-files _ words files _ _ is_command are))
+
+pub returns-in-Some-Info-clause-read_fault : goal.returns-in-Some-Info-clause-read_fault
+returns-in-Some-Info-clause-read_fault g c e =
+    let words : List (List ℕ) = map string_bytes c.args.words.now in
+    let command : Command = OnGrid c.in-Some-Info.grid.now Facts in
+    let is_command : command_of words ≡ Some command =
+    sym c.in-Some-Info.ensures.value ∙ ap (λ command. Some (command_seen command)) c.in-Some-Info.field-0-is in
+    words-read_fault _ _ _ _ words command is_command (c.run_info-status.ensures.read_fault e (g.M.MeshSink.meshes c.args.meshes.now))
+
+pub returns-in-Some-Info-clause-no_memory : goal.returns-in-Some-Info-clause-no_memory
+returns-in-Some-Info-clause-no_memory g c e =
+    let words : List (List ℕ) = map string_bytes c.args.words.now in
+    let command : Command = OnGrid c.in-Some-Info.grid.now Facts in
+    let is_command : command_of words ≡ Some command =
+    sym c.in-Some-Info.ensures.value ∙ ap (λ command. Some (command_seen command)) c.in-Some-Info.field-0-is in
+    words-no_memory _ _ _ _ words command is_command (c.run_info-status.ensures.no_memory e (g.M.MeshSink.meshes c.args.meshes.now))
+
+pub returns-in-Some-Info-clause-complete : goal.returns-in-Some-Info-clause-complete
+returns-in-Some-Info-clause-complete g c files are accepted shelf_same meshes_same report_same =
+    let words : List (List ℕ) = map string_bytes c.args.words.now in
+    let cause = c.run_info-status.ensures.faults in
+    accepted-done c.run_laws.ensures.done _ _ _ _ words files accepted _ (returns-in-Some-Info-clause-outcome g c files are)
+    (not-read _ _ _ _ _ _ _ c.requires.shelf_faults shelf_same cause)
+    (not-write _ _ 0 0 _ _ _ (omega arith) c.requires.report_faults refl report_same cause)
+
+pub returns-in-Some-Info-clause-certificate : goal.returns-in-Some-Info-clause-certificate
+returns-in-Some-Info-clause-certificate g c files end = c.run_laws.ensures.certificate (map string_bytes c.args.words.now) files end

@@ -1,19 +1,23 @@
-use Rattle.std.proofs.Common.{◌≡◌, ◌≢◌, [], arith}
+use Rattle.std.proofs.Common.{◌≡◌, ◌≢◌, [], ◌∷◌, ◌++◌, List, ℕ, ◌∙◌, ap, sym, arith, append-nil}
 use Rattle.std.proofs.lemmas.Grind.{common_steps}
-use Rattle.roam_run.proofs.ScriptReading.{end-empty, end-frame, end-stop}
+use Rattle.run_laws.specs.Walk.{walk_of}
+use Rattle.roam_run.proofs.EndLemmas.{ends-empty, ends-stop, ends-same, last-line}
 use Rattle.roam_run.proofs.script.end_script.Goals as goal
 
 pub returns-then-is_empty-clause-ends : goal.returns-then-is_empty-clause-ends
-returns-then-is_empty-clause-ends g c =
-    let empty : c.args.progress.now.part.items ≡ [] = grind (arith, common_steps) in
-    end-empty _ _ _ _ empty
+returns-then-is_empty-clause-ends g c before start read keeps at =
+    let none : c.args.stage.now.part.items ≡ [] = grind (arith, common_steps) in
+    ends-empty before _ _ start read c.args.stage.now at none
 
 pub returns-in-Ok-clause-ends : goal.returns-in-Ok-clause-ends
-returns-in-Ok-clause-ends g c =
-    let some : c.args.progress.now.part.items ≢ [] = grind (arith, common_steps) in
-    end-frame _ _ _ _ _ _ c.as_slice.ensures.value some c.requires.part.one_line c.in-Ok.ensures.outcome
+returns-in-Ok-clause-ends g c before start read keeps at =
+    let some : c.args.stage.now.part.items ≢ [] = grind (arith, common_steps) in
+    ends-same before _ _ start read (read ++ 10 ∷ []) _ (last-line before _ _ start read c.args.stage.now at some)
+    (ends-empty before _ _ start (read ++ 10 ∷ []) c.take_line.new.stage (c.in-Ok.ensures.outcome before start read keeps at).ok c.in-Ok.ensures.part)
 
 pub returns-in-Err-clause-ends : goal.returns-in-Err-clause-ends
-returns-in-Err-clause-ends g c =
-    let some : c.args.progress.now.part.items ≢ [] = grind (arith, common_steps) in
-    rw c.status_of.ensures (end-stop _ _ _ _ _ _ c.as_slice.ensures.value some c.requires.part.one_line c.in-Err.stop c.in-Err.ensures.outcome)
+returns-in-Err-clause-ends g c before start read keeps at =
+    let some : c.args.stage.now.part.items ≢ [] = grind (arith, common_steps) in
+    rw c.status_of.ensures (ends-same before _ _ start read ((read ++ 10 ∷ []) ++ []) _
+    (last-line before _ _ start read c.args.stage.now at some ∙ ap (walk_of start) (sym (append-nil (read ++ 10 ∷ []))))
+    (ends-stop before _ _ start (read ++ 10 ∷ []) [] c.take_line.new.stage c.in-Err.stop (c.in-Err.ensures.outcome before start read keeps at)))

@@ -1,0 +1,232 @@
+-- How a command on a grid ends: at its grid, at its line of facts, and at its script.
+use Rattle.std.proofs.Common.{◌≡◌, ◌≢◌, ℕ, ◌+◌, ◌^◌, ◌≤◌, Bool, List, [], ◌++◌, length, take, Option, Some, Result, Ok, Err, refl, sym, ◌∙◌, ap, subst, arith, inl, inr}
+use Rattle.std.proofs.Math.Nat.{min-eq_left}
+use Rattle.std.proofs.Math.Seq.{take-append_seam}
+use Rattle.mesh_defs.specs.HeightField.{HeightField}
+use Rattle.mesh_defs.specs.State.{State, start_state}
+use Rattle.roam_edge.specs.Fault.{next_count}
+use Rattle.roam_edge.specs.MeshSink.{Mesh}
+use Rattle.roam_edge.specs.Shelf.{NamedFile, bytes_of}
+use Rattle.roam_edge.specs.Told.{IsFront}
+use Rattle.pgm_grid.specs.declared.fault.PgmFault.{PgmFault}
+use Rattle.pgm_grid.specs.Progress.{grid_of}
+use Rattle.run_laws.specs.declared.status.Status.{Status}
+use Rattle.run_laws.specs.declared.status.Status.TheVariants as ends
+use Rattle.run_laws.specs.Walk.{Walk, start_walk, walk_of, HasBegun}
+use Rattle.run_laws.specs.Words.{Scripted, Job, Frames, Facts, OnGrid}
+use Rattle.run_laws.specs.Picture.{Picture, ArePictures}
+use Rattle.run_laws.specs.Act.{Told, told, Stands}
+use Rattle.run_laws.specs.ReportText.{info_line, grid_refusal}
+use Rattle.run_laws.specs.Outcome.{Outcome, text_outcome, shown_acts, script_walk, IsFramesOutcome, IsGridOutcome}
+use Rattle.run_laws.specs.Laws.{KeepsStates}
+use Rattle.run_laws.specs.Promise.{Seen, ScriptHasRead, HasReadHeader}
+use Rattle.run_laws.proofs.ActLemmas.{stands-nothing, cut-only-line}
+use Rattle.roam_run.specs.declared.stage.Stage.{Stage}
+use Rattle.roam_run.specs.StageView.{Begins}
+use Rattle.roam_run.specs.GridStop.{StopsUndecided}
+use Rattle.roam_run.specs.Taking.{DoesAs, AreFirst, StopsReading}
+use Rattle.roam_run.specs.Leaving.{CommandEnds, CommandReadFault, CommandNoMemory}
+
+-- a count that is far from its greatest value goes up by one
+pub next_count-one : (before now : ℕ) → before ≤ 2 ^ 63 → now ≡ next_count before → now ≡ before + 1
+next_count-one before now low is = is ∙ min-eq_left (omega (arith, low))
+
+-- and by two where one more follows
+pub next_count-two : (before middle now : ℕ) → before ≤ 2 ^ 63 → middle ≡ next_count before → now ≡ next_count middle → now ≡ before + 2
+next_count-two before middle now low is more =
+    let one = next_count-one before middle low is in
+    let two : now ≡ middle + 1 = more ∙ min-eq_left (omega (arith, low, one)) in
+    omega (arith, one, two)
+
+-- the last text of a run was cut short
+pub text-cut : (meshes : Option (List Mesh)) (report report' : Option (List ℕ)) (text : List ℕ) (status : Status) (files : ℕ)
+    → ((all : List ℕ) → report ≡ Some all → (front : List ℕ) × IsFront front text × (report' ≡ Some (all ++ front)))
+    → DoesAs (told meshes report) (told meshes report') (text_outcome text status files) ends.WriteFault
+text-cut meshes report report' text status files part =
+    record { complete = λ e. cc; cut_short = λ e. cut-only-line meshes report report' text [] part }
+
+-- a command ends as the outcome says that what its grid is read as leads to
+ends-as : (before now : Told) (old new : Seen) (name : List ℕ) (job : Job) (files : List NamedFile) (answer : Result HeightField PgmFault) (end : Outcome) (status : Status)
+    → grid_of (bytes_of files name) ≡ answer → IsGridOutcome job answer files end → new.opens ≡ old.opens + end.opened
+    → DoesAs before now end status → CommandEnds before now old new (OnGrid name job) files status
+ends-as before now old new name job files answer end status found is opened does =
+    let P : Result HeightField PgmFault → Type 0 = λ a. IsGridOutcome job a files end in
+    record { ends = λ m r. (end, subst P (sym found) is, record { opened = opened; complete = does.complete; cut_short = does.cut_short }) }
+
+-- the refusal of its grid ends a command
+pub refused-ends : (before now : Told) (old new : Seen) (name : List ℕ) (job : Job) (files : List NamedFile) (fault : PgmFault) (text : List ℕ) (status : Status)
+    → grid_of (bytes_of files name) ≡ Err fault → text ≡ grid_refusal fault → new.opens ≡ old.opens + 1
+    → DoesAs before now (text_outcome text ends.GridRefused 1) status → CommandEnds before now old new (OnGrid name job) files status
+refused-ends before now old new name job files fault text status found is opened does =
+    let P : List ℕ → Type 0 = λ t. DoesAs before now (text_outcome t ends.GridRefused 1) status in
+    ends-as before now old new name job files (Err fault) (text_outcome (grid_refusal fault) ends.GridRefused 1) status found refl opened (subst P is does)
+
+-- the line of facts ends a command
+pub facts-end : (before now : Told) (old new : Seen) (name : List ℕ) (files : List NamedFile) (grid : HeightField) (text : List ℕ) (status : Status)
+    → grid_of (bytes_of files name) ≡ Ok grid → text ≡ info_line grid → new.opens ≡ old.opens + 1
+    → DoesAs before now (text_outcome text ends.Done 1) status → CommandEnds before now old new (OnGrid name Facts) files status
+facts-end before now old new name files grid text status found is opened does =
+    let P : List ℕ → Type 0 = λ t. DoesAs before now (text_outcome t ends.Done 1) status in
+    ends-as before now old new name Facts files (Ok grid) (text_outcome (info_line grid) ends.Done 1) status found refl opened (subst P is does)
+
+-- a read of its grid failed
+pub grid-fault : (before : Told) (old new : Seen) (name : List ℕ) (job : Job) → new.opens ≡ old.opens + 1
+    → ((files : List NamedFile) → old.files ≡ Some files → StopsUndecided (bytes_of files name) new.rest new.ended)
+    → CommandReadFault before before old new (OnGrid name job)
+grid-fault before old new name job opened stops = record {
+  file = 0;
+  opened = opened;
+  before_script = λ first. stands-nothing before;
+  at_file = λ files told_files.
+      let at = stops files told_files in
+      record {
+        name = name;
+        read = at.read;
+        unread = at.unread;
+        acts = [];
+        named = refl;
+        cut = at.cut;
+        not_opened = at.not_opened;
+        left = at.left;
+        has_read = (at.undecided, refl);
+        stands = stands-nothing before;
+      };
+}
+
+-- commands are the same
+same-name : (name other : List ℕ) (job job' : Job) → OnGrid name job ≡ OnGrid other job' → name ≡ other
+same-name name other job job' e = cc
+
+-- memory ran out at the grid
+pub grid-memory : (before : Told) (old new : Seen) (name : List ℕ) (job : Job) → new.opens ≡ old.opens + 1
+    → ((files : List NamedFile) → old.files ≡ Some files → HasReadHeader (bytes_of files name) 1 new.rest)
+    → CommandNoMemory before before old new (OnGrid name job)
+grid-memory before old new name job opened header = record {
+  opened = 1;
+  stood = [];
+  count = opened;
+  early = record { opened_before = λ some. absurd (some refl); frames = λ files told_files. inl refl };
+  stands = stands-nothing before;
+  grid_opened = λ other job' e. omega arith;
+  header = λ other job' files e told_files.
+      let P : List ℕ → Type 0 = λ l. HasReadHeader (bytes_of files l) 1 new.rest in
+      subst P (same-name name other job job' e) (header files told_files);
+}
+
+-- a header that was read stays so where one more file was opened
+header-later : (bytes : List ℕ) (rest rest' : Option (List ℕ)) → HasReadHeader bytes 1 rest → HasReadHeader bytes 2 rest'
+header-later bytes rest rest' header = (header.0, header.1, header.2, header.3, λ two. absurd (apart two))
+  where
+    apart : ◌≡◌ {A = ℕ} 2 1 → ⊥
+    apart e = cc
+
+module _ (s : Scripted) (grid : HeightField) where
+  -- the walk before the first line
+  abbrev pub first_walk : Walk
+  first_walk = start_walk s.budget (start_state grid s.spacing s.budget)
+
+  -- it keeps its states
+  pub first-keeps : 2 ≤ s.budget → KeepsStates grid.n first_walk
+  first-keeps low = record { level = refl; low = low; frames = tt }
+
+  -- a stage before the first line shows it
+  pub first-begins : (first : State) (stage : Stage) → first ≡ start_state grid s.spacing s.budget → stage.scene ≡ first → stage.most ≡ first.budget
+      → stage.lines ≡ 0 → stage.frames ≡ 0 → stage.split ≡ 0 → stage.part.items ≡ [] → Begins first_walk stage
+  first-begins first stage starts scene most lines frames split part = record {
+    goes = refl;
+    none = refl;
+    shows = record {
+      state = scene ∙ starts;
+      most = most ∙ ap (λ (state : State). state.budget) starts;
+      lines = lines;
+      frames = frames;
+      split = split;
+      begun = part;
+    };
+  }
+
+  module _ (before now : Told) (old new : Seen) (name : List ℕ) (opened : new.opens ≡ old.opens + 2) where
+    -- the script ended
+    pub script-ends : (files : List NamedFile) (status : Status) → grid_of (bytes_of files name) ≡ Ok grid
+        → (status ≢ ends.ReadFault → status ≢ ends.NoMemory → (end : Outcome) × IsFramesOutcome s.show 2 (walk_of first_walk (bytes_of files s.script)) end
+        × DoesAs before now end status)
+        → CommandEnds before now old new (OnGrid name (Frames s)) files status
+    script-ends files status found does = record {
+      ends = λ memory fault.
+          let did = does fault memory in
+          let two : new.opens ≡ old.opens + did.0.opened = opened ∙ ap (λ (end : Outcome). old.opens + end.opened) (sym did.1.2) in
+          (ends-as before now old new name (Frames s) files (Ok grid) did.0 status found did.1 two did.2).ends memory fault;
+    }
+
+    -- what was carried out of a script that was read in part
+    stopped-read : (file : List ℕ) (rest : Option (List ℕ)) (ended : Bool) (stops : StopsReading before now s.show first_walk file rest ended)
+        → ScriptHasRead s grid stops.read (shown_acts s.show 1 stops.here.pictures)
+    stopped-read file rest ended stops =
+        let come = stops.come in
+        let P : Walk → Type 0 = λ w. HasBegun w.lines stops.here.begun in
+        let Q : Walk → Type 0 = λ w. ArePictures s.show [] w.frames stops.here.pictures in
+        record {
+          lines = come.lines;
+          begun = stops.here.begun;
+          pictures = stops.here.pictures;
+          cut = come.cut;
+          whole = come.whole;
+          accepted = ap (λ (w : Walk). w.stop) come.walked ∙ come.accepted;
+          undecided = subst P (sym come.walked) come.undecided;
+          shown = subst Q (sym come.walked) come.shown;
+          done = refl;
+        }
+
+    -- a read of the script failed
+    pub script-fault : ((files : List NamedFile) → old.files ≡ Some files → grid_of (bytes_of files name) ≡ Ok grid)
+        → ((files : List NamedFile) → old.files ≡ Some files → StopsReading before now s.show first_walk (bytes_of files s.script) new.rest new.ended)
+        → CommandReadFault before now old new (OnGrid name (Frames s))
+    script-fault found stops = record {
+      file = 1;
+      opened = opened;
+      before_script = λ first. absurd (apart (first refl));
+      at_file = λ files told_files.
+          let at = stops files told_files in
+          record {
+            name = s.script;
+            read = at.read;
+            unread = at.unread;
+            acts = shown_acts s.show 1 at.here.pictures;
+            named = refl;
+            cut = at.cut;
+            not_opened = at.not_opened;
+            left = at.left;
+            has_read = (grid, found files told_files, stopped-read (bytes_of files s.script) new.rest new.ended at);
+            stands = at.come.stands;
+          };
+    }
+      where
+        apart : ◌≡◌ {A = ℕ} 1 0 → ⊥
+        apart e = cc
+
+    -- memory ran out at a frame
+    pub script-memory : (rest : Option (List ℕ)) (pictures : List Picture)
+        → ((files : List NamedFile) → old.files ≡ Some files → grid_of (bytes_of files name) ≡ Ok grid)
+        → ((files : List NamedFile) → old.files ≡ Some files → HasReadHeader (bytes_of files name) 1 rest)
+        → Stands before now (shown_acts s.show 1 pictures)
+        → ((files : List NamedFile) → old.files ≡ Some files → AreFirst s.show (walk_of first_walk (bytes_of files s.script)) pictures)
+        → CommandNoMemory before now old new (OnGrid name (Frames s))
+    script-memory rest pictures found header stands firsts = record {
+      opened = 2;
+      stood = shown_acts s.show 1 pictures;
+      count = opened;
+      early = record {
+        opened_before = λ some. refl;
+        frames = λ files told_files.
+            let first = firsts files told_files in
+            let taken : take (length first.firsts) (script_walk s grid (bytes_of files s.script)).frames ≡ first.firsts =
+            ap (λ (l : List State). take (length first.firsts) l) first.cut ∙ take-append_seam first.firsts first.later in
+            let P : List State → Type 0 = λ l. ArePictures s.show [] l pictures in
+            inr (grid, pictures, length first.firsts, found files told_files, subst P (sym taken) first.shown, refl);
+      };
+      stands = stands;
+      grid_opened = λ other job' e. omega arith;
+      header = λ other job' files e told_files.
+          let P : List ℕ → Type 0 = λ l. HasReadHeader (bytes_of files l) 2 new.rest in
+          subst P (same-name name other (Frames s) job' e) (header-later (bytes_of files name) rest new.rest (header files told_files));
+    }

@@ -1,0 +1,109 @@
+-- What words do whose command is known: the promises of a run from those of its command.
+use Rattle.std.proofs.Common.{◌≡◌, ◌≢◌, ℕ, zero, suc, ◌+◌, ◌-◌, ◌^◌, ◌<◌, ◌≤◌, ◌⊎◌, IsTrue, List, [], ◌∷◌, length, Option, Some, None, refl, sym, ◌∙◌, ap, subst, inl, inr, arith}
+use Rattle.mesh_defs.specs.HeightField.{HeightField}
+use Rattle.roam_edge.specs.Shelf.{NamedFile}
+use Rattle.roam_edge.specs.Fault.{Rose}
+use Rattle.run_laws.specs.declared.status.Status.{Status}
+use Rattle.run_laws.specs.declared.status.Status.TheVariants.{Done, NoMemory, Usage, GridRefused, ScriptRefused, ReadFault, WriteFault}
+use Rattle.run_laws.specs.Act.{Told}
+use Rattle.run_laws.specs.Cause.{StatusHasCause, StatusWritesHaveCause}
+use Rattle.run_laws.specs.Laws.{AcceptedIsDone}
+use Rattle.run_laws.specs.Words.{Scripted, Job, Frames, Facts, Command, OnGrid, names_of, file_count, command_of}
+use Rattle.run_laws.specs.Outcome.{Outcome, plain_outcome, IsWordsOutcome, IsOutcome}
+use Rattle.run_laws.specs.Promise.{Seen, AreFiles, is_complete, EndsAs, EndsRight, LeavesAtReadFault, LeavesAtNoMemory, IsAccepted}
+use Rattle.run_laws.proofs.ActLemmas.{stands-nothing}
+use Rattle.roam_run.specs.Leaving.{CommandEnds, CommandReadFault, CommandNoMemory}
+
+-- words of a command name a file: so the shelf's files are told where an outcome is over them
+pub told-files : (told : Option (List NamedFile)) (words : List (List ℕ)) (files : List NamedFile) (name : List ℕ) (job : Job)
+    → command_of words ≡ Some (OnGrid name job) → AreFiles told words files → told ≡ Some files
+told-files told words files name job is are =
+    let P : Option Command → Type 0 = λ c. 0 < file_count c in
+    are (subst P (sym is) (omega arith))
+
+-- words that are no command open nothing, and do nothing
+pub usage-ends : (before : Told) (old : Seen) (words : List (List ℕ)) (files : List NamedFile) → command_of words ≡ None → EndsRight before before old old words files Usage
+unfolding IsOutcome
+usage-ends before old words files none =
+    let end : Outcome = plain_outcome [] Usage 0 in
+    let P : Option Command → Type 0 = λ c. IsWordsOutcome c files end in
+    record {
+      ends = λ m r. (
+        end,
+        subst P (sym none) refl,
+        record { opened = omega arith; complete = λ e. (stands-nothing before, refl); cut_short = λ e. cc },
+      );
+    }
+
+module _ (before now : Told) (old new : Seen) (words : List (List ℕ)) (command : Command) (is_command : command_of words ≡ Some command) where
+  -- a command ends as its words
+  pub words-end : (files : List NamedFile) (status : Status) → CommandEnds before now old new command files status → EndsRight before now old new words files status
+  unfolding IsOutcome
+  words-end files status is = record {
+    ends = λ m r.
+        let e = is.ends m r in
+        let P : Option Command → Type 0 = λ c. IsWordsOutcome c files e.0 in
+        (e.0, subst P (sym is_command) e.1, e.2);
+  }
+
+  -- a read failed, of a file of the words
+  pub words-read_fault : CommandReadFault before now old new command → LeavesAtReadFault before now old new words
+  words-read_fault is = record {
+    command = command;
+    file = is.file;
+    is_command = is_command;
+    opened = is.opened;
+    before_script = is.before_script;
+    at_file = is.at_file;
+  }
+
+  -- memory ran out, for words of this command
+  pub words-no_memory : CommandNoMemory before now old new command → LeavesAtNoMemory before now old new words
+  words-no_memory is = record {
+    command = command;
+    opened = is.opened;
+    stood = is.stood;
+    is_command = is_command;
+    count = is.count;
+    early = is.early;
+    stands = is.stands;
+    grid_opened = is.grid_opened;
+    header = is.header;
+  }
+
+-- a count that did not change did not rise
+same-not-rose : (old new : ℕ) → old < 2 ^ 64 - 1 → new ≡ old → Rose old new → ⊥
+same-not-rose old new low same rose = omega (arith, rose, same, low)
+
+-- no read failed where the count of the shelf is as before
+pub not-read : (shelf shelf' meshes meshes' report report' : ℕ) (status : Status) → shelf < 2 ^ 64 - 1 → shelf' ≡ shelf
+    → StatusHasCause shelf shelf' meshes meshes' report report' status → status ≢ ReadFault
+not-read shelf shelf' meshes meshes' report report' status low same cause e = same-not-rose shelf shelf' low same (cause.read e)
+
+not-either : (meshes meshes' report report' : ℕ) → meshes < 2 ^ 64 - 1 → report < 2 ^ 64 - 1 → meshes' ≡ meshes → report' ≡ report
+    → Rose meshes meshes' ⊎ Rose report report' → ⊥
+not-either meshes meshes' report report' low_meshes low_report same_meshes same_report (inl rose) = same-not-rose meshes meshes' low_meshes same_meshes rose
+not-either meshes meshes' report report' low_meshes low_report same_meshes same_report (inr rose) = same-not-rose report report' low_report same_report rose
+
+-- no write failed where the counts of the sinks are as before
+pub not-write : (shelf shelf' meshes meshes' report report' : ℕ) (status : Status) → meshes < 2 ^ 64 - 1 → report < 2 ^ 64 - 1 → meshes' ≡ meshes → report' ≡ report
+    → StatusHasCause shelf shelf' meshes meshes' report report' status → status ≢ WriteFault
+not-write shelf shelf' meshes meshes' report report' status low_meshes low_report same_meshes same_report cause e =
+    not-either meshes meshes' report report' low_meshes low_report same_meshes same_report (cause.writes.write e).cause
+
+-- what is accepted is done, unless memory ran out or something outside failed
+module _ (done : AcceptedIsDone) (before now : Told) (old new : Seen) (words : List (List ℕ)) (files : List NamedFile) (accepted : IsAccepted words files) where
+  complete-done : (status : Status) → IsTrue (is_complete status) → status ≢ NoMemory → status ≢ ReadFault
+      → EndsRight before now old new words files status → status ≡ Done
+  complete-done status complete m r ends =
+      let e = ends.ends m r in
+      (e.2.complete complete).1 ∙ done words files e.0 accepted e.1
+
+  pub accepted-done : (status : Status) → EndsRight before now old new words files status → status ≢ ReadFault → status ≢ WriteFault → (status ≡ Done) ⊎ (status ≡ NoMemory)
+  accepted-done Done ends r w = inl refl
+  accepted-done NoMemory ends r w = inr refl
+  accepted-done Usage ends r w = inl (complete-done Usage refl (λ e. cc) r ends)
+  accepted-done GridRefused ends r w = inl (complete-done GridRefused refl (λ e. cc) r ends)
+  accepted-done ScriptRefused ends r w = inl (complete-done ScriptRefused refl (λ e. cc) r ends)
+  accepted-done ReadFault ends r w = absurd (r refl)
+  accepted-done WriteFault ends r w = absurd (w refl)

@@ -1,0 +1,32 @@
+-- What a command leaves, by the status of its run: the promises of a run, of one command.
+-- Words: CommandEnds, CommandReadFault, CommandNoMemory.
+use Rattle.std.specs.Prelude.{◌≡◌, ◌≢◌, ℕ, ◌+◌, ◌≤◌, IsTrue, List, [], Option, Some}
+use Rattle.roam_edge.specs.Shelf.{NamedFile, bytes_of}
+use Rattle.run_laws.specs.declared.status.Status.{Status}
+use Rattle.run_laws.specs.declared.status.Status.TheVariants.{NoMemory, ReadFault}
+use Rattle.run_laws.specs.Words.{Job, Command, OnGrid, has_script}
+use Rattle.run_laws.specs.Act.{Act, Told, Stands}
+use Rattle.run_laws.specs.Outcome.{Outcome, IsCommandOutcome}
+use Rattle.run_laws.specs.Promise.{Seen, EndsAs, FileReadFault, IsEarly, HasReadHeader}
+
+-- unless memory ran out or a read failed, the command ends as its outcome
+pub record CommandEnds (before now : Told) (old new : Seen) (command : Command) (files : List NamedFile) (status : Status) : Type 0 where
+  pub ends : status ≢ NoMemory → status ≢ ReadFault → (end : Outcome) × IsCommandOutcome command files end × EndsAs before now old new end status
+
+-- a read failed, at one of the command's files
+pub record CommandReadFault (before now : Told) (old new : Seen) (command : Command) : Type 0 where
+  pub file : ℕ
+  pub opened : new.opens ≡ old.opens + (file + 1)
+  pub before_script : (IsTrue (has_script command) → file ≡ 0) → Stands before now []
+  pub at_file : (files : List NamedFile) → old.files ≡ Some files → FileReadFault before now new command files file
+
+-- memory ran out
+pub record CommandNoMemory (before now : Told) (old new : Seen) (command : Command) : Type 0 where
+  pub opened : ℕ
+  pub stood : List Act
+  pub count : new.opens ≡ old.opens + opened
+  pub early : IsEarly command old.files opened stood
+  pub stands : Stands before now stood
+  pub grid_opened : (name : List ℕ) (job : Job) → command ≡ OnGrid name job → 1 ≤ opened
+  pub header : (name : List ℕ) (job : Job) (files : List NamedFile) → command ≡ OnGrid name job → old.files ≡ Some files
+      → HasReadHeader (bytes_of files name) opened new.rest
