@@ -110,6 +110,7 @@ pub fn roam<F: Shelf, M: MeshSink, R: Sink>(
         (file_count (command_of (map string_bytes words.now))) result.status }
     ensures done { result.status ≡ Status.Done → 0 < file_count (command_of (map string_bytes words.now)) →
         HasEnded (seen (F.files shelf.new) (F.rest shelf.new) (F.opens shelf.new) (F.ended shelf.new)) }
+    ensures files { F.files shelf.new ≡ F.files shelf.old }
     ensures idle { result.status ≢ Status.WriteFault → M.under_way meshes.new ≡ false }
 {
     run_laws();
@@ -156,6 +157,7 @@ fn run_mesh<F: Shelf, M: MeshSink, R: Sink>(
     ensures opens { OpensForStatus (F.opens shelf.old) (F.opens shelf.new) 2 result }
     ensures done { result ≡ Status.Done →
         HasEnded (seen (F.files shelf.new) (F.rest shelf.new) (F.opens shelf.new) (F.ended shelf.new)) }
+    ensures files { F.files shelf.new ≡ F.files shelf.old }
     ensures idle { result ≢ Status.WriteFault → M.under_way meshes.new ≡ false }
 {
     match read_grid(alloc, command.grid, shelf) {
@@ -205,6 +207,7 @@ fn run_info<F: Shelf, R: Sink>(alloc: Global, name: &str, shelf: &mut F, report:
     ensures faults { StatusHasCause (F.faults shelf.old) (F.faults shelf.new) 0 0
         (R.faults report.old) (R.faults report.new) result }
     ensures opens { F.opens shelf.new ≡ F.opens shelf.old + 1 }
+    ensures files { F.files shelf.new ≡ F.files shelf.old }
     ensures done { result ≡ Status.Done →
         HasEnded (seen (F.files shelf.new) (F.rest shelf.new) (F.opens shelf.new) (F.ended shelf.new)) }
 {
