@@ -42,23 +42,31 @@ done <<'TABLE'
 65 10 1500 1
 TABLE
 
-# Whole scripts over a rough grid: NAME SIDE SEED BUDGET SPACING SCRIPT (as printf's %b).
-while IFS='|' read -r name side seed budget spacing script; do
-  mkdir -- "$room/$name" "$room/$name/wanted" && cd -- "$room/$name" || exit 1
-  rough_grid "$side" "$seed" >g
-  printf '%b' "$script" >s
-  why=()
-  "$program" mesh g s out "$budget" "$spacing" >report 2>said
+# compare NAME BUDGET SPACING: the program's run over the grid g and the script s of the present folder has the report,
+# the exit status and the meshes of the plain program.
+compare() {
+  local status wanted mesh why=()
+  mkdir wanted
+  "$program" mesh g s out "$2" "$3" >report 2>said
   status=$?
-  python3 "$checks/greedy.py" g s wanted/out "$budget" "$spacing" >wanted/report
+  python3 "$checks/greedy.py" g s wanted/out "$2" "$3" >wanted/report
   wanted=$?
   [ "$status" -eq "$wanted" ] || why+=("exit status $status, not $wanted")
   cmp -s wanted/report report || why+=("the report is '$(head -c 200 report)', not '$(head -c 200 wanted/report)'")
   for mesh in wanted/*.obj; do
+    [ -f "$mesh" ] || continue
     cmp -s "$mesh" "${mesh##*/}" || why+=("${mesh##*/} differs")
   done
   [ "$(find . -maxdepth 1 -name '*.obj' | wc -l)" -eq "$(find wanted -name '*.obj' | wc -l)" ] || why+=("not as many meshes as wanted")
-  decide "$name" ${why[0]+"${why[@]}"}
+  decide "$1" ${why[0]+"${why[@]}"}
+}
+
+# Whole scripts over a rough grid: NAME SIDE SEED BUDGET SPACING SCRIPT (as printf's %b).
+while IFS='|' read -r name side seed budget spacing script; do
+  mkdir -- "$room/$name" && cd -- "$room/$name" || exit 1
+  rough_grid "$side" "$seed" >g
+  printf '%b' "$script" >s
+  compare "$name" "$budget" "$spacing"
 done <<'TABLE'
 a_script_that_moves_the_camera|9|5|60|30|frame\ncamera 0 0 900\nframe\ncamera 240 240 300\nframe\ncamera -90 400 0\nframe\nframe\n
 a_script_that_edits_heights|9|6|50|7|frame\nset 4 4 900\nframe\nraise 0 0 8 3 65535\nframe\nraise 2 1 7 8 -400\nframe\nset 0 0 1\nframe\n
@@ -66,5 +74,15 @@ a_script_with_planes|17|7|120|4|camera 8 8 500\nplane 1 0 0 -20\nframe\nplane 0 
 a_script_with_budgets|17|8|400|1|frame\nbudget 2\nframe\nbudget 33\nframe\n# as many as the words allow\nbudget 400\nframe\n
 a_script_of_all_lines_that_ends_refused|9|9|90|12|camera 10 20 700\nframe\nplane 1 1 0 -60\nset 1 8 0\nbudget 40\nframe\r\n\nraise 0 5 8 8 333\n noplanes\nframe\ncamera 1 2\nframe\n
 TABLE
+
+# Random scripts of all kinds of line over small grids (random_run.py), by their seeds.
+for seed in {1..30}; do
+  side=$(((1 << (1 + seed % 4)) + 1))
+  budget=$((2 + seed * 7 % 90))
+  name=random_script_${seed}_over_side_$side
+  mkdir -- "$room/$name" && cd -- "$room/$name" || exit 1
+  python3 "$checks/random_run.py" "$side" "$seed" g s "$budget"
+  compare "$name" "$budget" "$((4 + seed * 34))"
+done
 
 cd -- "$top" || exit 1

@@ -65,10 +65,16 @@ expect() {
 
 # --- Examples: the one line of `command`, run where the example's files lie, gives what is in expected/. ---
 
+# The files of all examples lie side by side, since one may name a grid of another.
+for example in "$top"/examples/*/; do
+  mkdir -p -- "$room/examples/$(basename -- "$example")"
+  cp -- "$example"* "$room/examples/$(basename -- "$example")" 2>/dev/null
+done
+
+# Of the meshes, as many are wanted as the report has lines of frames; expected/ has some of them, or all.
 for example in "$top"/examples/*/; do
   name=example_$(basename -- "$example" | tr - _)
-  mkdir -- "$room/$name" && cd -- "$room/$name" || exit 1
-  cp -- "$example"* . 2>/dev/null
+  cd -- "$room/examples/$(basename -- "$example")" || exit 1
   read -r _ words <./command
   why=()
   # shellcheck disable=SC2086 # words of an example have no blanks of their own
@@ -79,7 +85,7 @@ for example in "$top"/examples/*/; do
     [ -f "$mesh" ] || continue
     cmp -s -- "$mesh" "${mesh##*/}" || why+=("${mesh##*/} differs")
   done
-  [ "$(find . -name '*.obj' | wc -l)" -eq "$(find "$example/expected" -name '*.obj' | wc -l)" ] ||
+  [ "$(find . -name '*.obj' | wc -l)" -eq "$(grep -c '^frame ' "$example/expected/report")" ] ||
     why+=("not as many meshes as wanted")
   decide "$name" ${why[0]+"${why[@]}"}
 done
@@ -110,6 +116,7 @@ a_row_beyond_the_grid_is_refused|set 0 3 0\n|4|0|line 1 refused: out of range in
 a_budget_beyond_that_of_the_words_is_refused|budget 3\n|4|0|line 1 refused: out of range in field 1\n
 a_seventh_plane_is_refused|plane 0 0 1 9\nplane 0 0 1 9\nplane 0 0 1 9\nplane 0 0 1 9\nplane 0 0 1 9\nplane 0 0 1 9\nplane 0 0 1 9\n|4|0|line 7 refused: too many planes\n
 a_camera_over_a_flat_grid_changes_nothing|camera 1 1 40\nframe\n|0|1|
+edits_that_leave_the_heights|set 1 1 9\nset 1 1 0\nraise 0 0 2 2 -5\nframe\n|0|1|
 a_sixth_letter_is_refused|frames\n|4|0|line 1 refused: unknown command\n
 a_capital_letter_is_refused|Frame\n|4|0|line 1 refused: unknown command\n
 a_zero_byte_is_refused|fram\0\n|4|0|line 1 refused: unknown command\n
@@ -119,6 +126,16 @@ start a_line_longer_than_a_read_is_refused
 head -c 300000 /dev/zero | tr '\0' x >s
 run mesh g s out 2 1
 expect 4 0 'line 1 refused: line too long\n'
+
+start a_comment_of_200_bytes
+{ echo frame; head -c 200 /dev/zero | tr '\0' '#'; } >s
+run mesh g s out 2 1
+expect 0 1 "$(lines 1)"
+
+start a_comment_of_201_bytes
+{ echo frame; head -c 201 /dev/zero | tr '\0' '#'; echo; } >s
+run mesh g s out 2 1
+expect 4 1 "$(lines 1)line 2 refused: line too long\n"
 
 start a_script_of_a_thousand_frames
 for ((k = 0; k < 1000; k++)); do echo frame; done >s
