@@ -27,6 +27,4 @@ pub use queued::{Head, Last, QueuedMesh};
 pub use step::{merge_at, split_at};
 
 #[cfg(test)]
-mod halves;
-#[cfg(test)]
 mod tests;
