@@ -12,7 +12,7 @@ use Rattle.roam_edge.specs.MeshSink.{Mesh}
 use Rattle.obj_write.specs.Written.{mesh_with, IsPartOfMesh}
 use Rattle.run_laws.specs.declared.status.Status.{Status}
 use Rattle.run_laws.specs.Walk.{Refusal}
-use Rattle.run_laws.specs.Words.{Show, AsMeshes, Scripted, prefix_of}
+use Rattle.run_laws.specs.Words.{Show, AsMeshes, AsSums, Scripted, prefix_of}
 use Rattle.run_laws.specs.Act.{Act, WholeMesh, ReportText, meshes_of, Told, Stands, StandsInPart, IsCutShort}
 use Rattle.run_laws.specs.Picture.{Picture, triangles_of, IsPicture, ArePictures}
 use Rattle.run_laws.specs.Outcome.{Outcome, shown_acts, sum_acts, stop_acts, script_walk, IsScriptOutcome}
@@ -42,6 +42,14 @@ picture-good best prefix before k state p low f =
       );
     }
 
+-- sums add no mesh
+no-meshes : (level seed k : ℕ) (ps : List Picture) → meshes_of (shown_acts (AsSums level seed) k ps) ≡ []
+no-meshes level seed k [] = refl
+no-meshes level seed k (p ∷ ps) = no-meshes level seed (k + 1) ps
+
+not-some : IsSome (prefix_of (AsSums 0 0)) → ⊥
+not-some is = cc
+
 -- the meshes of frames are good
 good-meshes : FramesAreBest → (show : Show) (k n : ℕ) (before : List ℕ) (states : List State) (ps : List Picture) → AreStates n states
     → ArePictures show before states ps → AreGoodFrames show k states (meshes_of (shown_acts show k ps))
@@ -50,6 +58,9 @@ good-meshes best (AsMeshes prefix) k n before [] (p ∷ ps) low f = absurd f
 good-meshes best (AsMeshes prefix) k n before (s ∷ states) [] low f = absurd f
 good-meshes best (AsMeshes prefix) k n before (s ∷ states) (p ∷ ps) low f =
     ((λ finished. picture-good best prefix before k s p low.1 f.0), good-meshes best (AsMeshes prefix) (k + 1) n p.members states ps low.2 f.1)
+good-meshes best (AsSums level seed) k n before states ps low f =
+    let P : List Mesh → Type 0 = λ m. AreGoodFrames (AsSums level seed) k states m in
+    subst P (sym (no-meshes level seed k ps)) tt
 
 -- one mesh a frame
 count-meshes : (show : Show) (k : ℕ) (before : List ℕ) (states : List State) (ps : List Picture) → IsSome (prefix_of show)
@@ -58,6 +69,7 @@ count-meshes (AsMeshes prefix) k before [] [] some f = refl
 count-meshes (AsMeshes prefix) k before [] (p ∷ ps) some f = absurd f
 count-meshes (AsMeshes prefix) k before (s ∷ states) [] some f = absurd f
 count-meshes (AsMeshes prefix) k before (s ∷ states) (p ∷ ps) some f = omega (arith, count-meshes (AsMeshes prefix) (k + 1) p.members states ps some f.1)
+count-meshes (AsSums level seed) k before states ps some f = absurd (not-some some)
 
 -- all are finished
 finished-meshes : (acts : List Act) → AllByRecursion (λ (mesh : Mesh). mesh.finished ≡ true) (meshes_of acts)
@@ -72,6 +84,7 @@ no-mesh-stop (Some refusal) = refl
 -- what follows the frames adds no mesh
 no-mesh-sum : (show : Show) (ps : List Picture) (stop : Option Refusal) → meshes_of (sum_acts show ps ++ stop_acts stop) ≡ []
 no-mesh-sum (AsMeshes prefix) ps stop = no-mesh-stop stop
+no-mesh-sum (AsSums level seed) ps stop = no-mesh-stop stop
 
 outcome-meshes : (show : Show) (ps : List Picture) (stop : Option Refusal)
     → meshes_of (shown_acts show 1 ps ++ (sum_acts show ps ++ stop_acts stop)) ≡ meshes_of (shown_acts show 1 ps)

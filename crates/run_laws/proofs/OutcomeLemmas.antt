@@ -1,5 +1,5 @@
 -- Outcomes: there is one, it exists, what is accepted ends with Done, and its pictures are certified.
-use Rattle.std.proofs.Common.{◌≡◌, ℕ, ◌≤◌, ◌&&◌, Bool, true, false, nat_le, if◌then◌else◌, IsTrue, is_some, List, [], ◌∷◌, All, Option, Some, None, IfSome, Result, Ok, Err, refl, sym, ◌∙◌, ap, subst, inl, inr, codes, bytes_eq}
+use Rattle.std.proofs.Common.{◌≡◌, ℕ, ◌≤◌, ◌&&◌, Bool, true, false, nat_le, if◌then◌else◌, IsTrue, is_some, List, [], ◌∷◌, All, Option, Some, None, IfSome, Result, Ok, Err, refl, sym, ◌∙◌, ap, subst, arith, inl, inr, codes, bytes_eq}
 use Rattle.std.specs.List.{AllByRecursion}
 use Rattle.std.proofs.lemmas.List.Elements.{All-from_recursion}
 use Rattle.std.proofs.lemmas.Bool.Decides.{leb_tells}
@@ -11,16 +11,17 @@ use Rattle.roam_num.specs.DecText.{number_in}
 use Rattle.pgm_grid.specs.declared.fault.PgmFault.{PgmFault}
 use Rattle.pgm_grid.specs.Progress.{grid_of}
 use Rattle.pgm_grid.specs.Laws.{TextsAreRead}
+use Rattle.roam_gen.specs.Generated.{made_grid, made_lines}
 use Rattle.run_laws.specs.declared.status.Status.TheVariants.{Done, Usage, GridRefused}
-use Rattle.run_laws.specs.Walk.{Walk, start_walk}
-use Rattle.run_laws.specs.Words.{Show, AsMeshes, Scripted, Job, Frames, Facts, Command, OnGrid, within, budget_word, spacing_word, is_prefix, frames_command, meshes_command, command_of}
+use Rattle.run_laws.specs.Walk.{Walk, start_walk, walk_along}
+use Rattle.run_laws.specs.Words.{Show, AsMeshes, AsSums, Scripted, Job, Frames, Facts, Command, OnGrid, Generated, greatest_level, greatest_seed, number_word, try_command, within, budget_word, spacing_word, is_prefix, frames_command, meshes_command, command_of}
 use Rattle.run_laws.specs.Picture.{Picture, ArePictures, IsCertified}
 use Rattle.run_laws.specs.ReportText.{info_line, grid_refusal}
-use Rattle.run_laws.specs.Outcome.{Outcome, plain_outcome, text_outcome, stop_status, frames_outcome, script_walk, HasOneOutcome, IsFramesOutcome, IsScriptOutcome, IsJobOutcome, IsGridOutcome, IsCommandOutcome, IsWordsOutcome, IsOutcome}
+use Rattle.run_laws.specs.Outcome.{Outcome, plain_outcome, text_outcome, stop_status, frames_outcome, script_walk, made_budget, made_spacing, made_walk, HasOneOutcome, IsFramesOutcome, IsScriptOutcome, IsJobOutcome, IsGridOutcome, IsCommandOutcome, IsWordsOutcome, IsOutcome}
 use Rattle.run_laws.specs.Promise.{IsAcceptedJob, IsAcceptedInput, IsAccepted}
 use Rattle.run_laws.specs.Laws.{FramesExist, AreStates, BudgetsAreTwo}
 use Rattle.run_laws.proofs.PictureLemmas.{FramesAreUnique, SetsAreLists, ArePictures-unique, pictures_of}
-use Rattle.run_laws.proofs.WalkLemmas.{walk_of-states}
+use Rattle.run_laws.proofs.WalkLemmas.{walk_of-states, made-states, along-stop}
 
 -- what is accepted ends with Done
 
@@ -35,6 +36,8 @@ command-done : TextsAreRead → (command : Command) (files : List NamedFile) (en
 command-done read (OnGrid name job) files end good is =
     let P : Result HeightField PgmFault → Type 0 = λ r. IsGridOutcome job r files end in
     job-done job good.0 files end good.3 (subst P (read good.0 (bytes_of files name) good.1 good.2) is)
+command-done read (Generated n seed) files end good is =
+    status-of end _ is.2 ∙ ap stop_status (along-stop (start_walk made_budget (start_state (made_grid n seed) made_spacing made_budget)) (made_lines n seed))
 
 pub outcome-done : TextsAreRead → (words : List (List ℕ)) (files : List NamedFile) (end : Outcome) → IsAccepted words files → IsOutcome words files end → end.status ≡ Done
 unfolding IsOutcome
@@ -60,6 +63,7 @@ words-unique : FramesAreUnique → SetsAreLists → (command : Option Command) (
     → IsWordsOutcome command files end → IsWordsOutcome command files other → end ≡ other
 words-unique one lists None files end other f g = f ∙ sym g
 words-unique one lists (Some (OnGrid name job)) files end other f g = job-unique one lists job (grid_of (bytes_of files name)) files end other f g
+words-unique one lists (Some (Generated n seed)) files end other f g = frames_outcome-unique one lists (AsSums n seed) 0 (made_walk n seed) end other f g
 
 pub outcome-unique : FramesAreUnique → SetsAreLists → (words : List (List ℕ)) (files : List NamedFile) (end other : Outcome) → HasOneOutcome (command_of words)
     → IsOutcome words files end → IsOutcome words files other → end ≡ other
@@ -91,6 +95,7 @@ HasBudget Facts = Unit {0}
 
 abbrev CommandHasBudget : Command → Type 0
 CommandHasBudget (OnGrid name job) = HasBudget job
+CommandHasBudget (Generated n seed) = Unit {0}
 
 frames_command-budget : (i j : List ℕ) (show : Show) (budget spacing : Option ℕ) (command : Command) → ((number : ℕ) → budget ≡ Some number → 2 ≤ number)
     → frames_command i j show budget spacing ≡ Some command → CommandHasBudget command
@@ -100,13 +105,23 @@ frames_command-budget i j show (Some budget) (Some spacing) command low is =
     let P : Option Command → Type 0 = λ c. IfSome c CommandHasBudget in
     subst P is (low budget refl)
 
+try_command-budget : (n seed : Option ℕ) (command : Command) → try_command n seed ≡ Some command → CommandHasBudget command
+try_command-budget None seed command is = absurd (none-some command is)
+try_command-budget (Some n) None command is = absurd (none-some command is)
+try_command-budget (Some n) (Some seed) command is =
+    let P : Option Command → Type 0 = λ c. IfSome c CommandHasBudget in
+    subst P is tt
+
 words-budget : (words : List (List ℕ)) (command : Command) → command_of words ≡ Some command → CommandHasBudget command
 words-budget [] command is = absurd (none-some command is)
 words-budget (word ∷ []) command is = absurd (none-some command is)
 words-budget (word ∷ (i ∷ [])) command is =
     let P : Option Command → Type 0 = λ c. IfSome c CommandHasBudget in
     subst P (met (bytes_eq word (codes "info")) (Some (OnGrid i Facts)) command is) tt
-words-budget (word ∷ (i ∷ (j ∷ []))) command is = absurd (none-some command is)
+words-budget (word ∷ (i ∷ (j ∷ []))) command is =
+    let n : Option ℕ = number_word 1 greatest_level i in
+    let seed : Option ℕ = number_word 0 greatest_seed j in
+    try_command-budget n seed command (met (bytes_eq word (codes "try")) (try_command n seed) command is)
 words-budget (word ∷ (i ∷ (j ∷ (k ∷ [])))) command is = absurd (none-some command is)
 words-budget (word ∷ (i ∷ (j ∷ (k ∷ (l ∷ []))))) command is = absurd (none-some command is)
 words-budget (word ∷ (i ∷ (j ∷ (k ∷ (l ∷ (m ∷ [])))))) command is =
@@ -126,6 +141,13 @@ pub script-states : BudgetsAreTwo → (s : Scripted) (grid : HeightField) (scrip
 script-states two s grid script low =
     (walk_of-states two grid.n (start_walk s.budget (start_state grid s.spacing s.budget)) script (record { level = refl; low = low; frames = tt })).frames
 
+-- the walk of a generated run
+made_walk-states : (n seed : ℕ) → AreStates (made_grid n seed).n (made_walk n seed).frames
+made_walk-states n seed =
+    let grid : HeightField = made_grid n seed in
+    (made-states grid.n n seed (start_walk made_budget (start_state grid made_spacing made_budget))
+    (record { level = refl; low = omega arith; frames = tt })).frames
+
 -- an outcome exists
 
 pub script_outcome-exists : BudgetsAreTwo → FramesExist → (s : Scripted) (grid : HeightField) (script : List ℕ) → 2 ≤ s.budget
@@ -133,6 +155,11 @@ pub script_outcome-exists : BudgetsAreTwo → FramesExist → (s : Scripted) (gr
 script_outcome-exists two frames s grid script low =
     let ps = pictures_of frames s.show grid.n [] (script_walk s grid script).frames (script-states two s grid script low) in
     (frames_outcome s.show 2 (script_walk s grid script) ps.0, (ps.0, ps.1, refl))
+
+pub made_outcome-exists : FramesExist → (n seed : ℕ) → (end : Outcome) × IsFramesOutcome (AsSums n seed) 0 (made_walk n seed) end
+made_outcome-exists frames n seed =
+    let ps = pictures_of frames (AsSums n seed) (made_grid n seed).n [] (made_walk n seed).frames (made_walk-states n seed) in
+    (frames_outcome (AsSums n seed) 0 (made_walk n seed) ps.0, (ps.0, ps.1, refl))
 
 job-exists : BudgetsAreTwo → FramesExist → (job : Job) (r : Result HeightField PgmFault) (files : List NamedFile) → HasBudget job
     → (end : Outcome) × IsGridOutcome job r files end
@@ -145,6 +172,7 @@ words-exist : BudgetsAreTwo → FramesExist → (command : Option Command) (file
     → (end : Outcome) × IsWordsOutcome command files end
 words-exist two frames None files low = (plain_outcome [] Usage 0, refl)
 words-exist two frames (Some (OnGrid name job)) files low = job-exists two frames job (grid_of (bytes_of files name)) files (low (OnGrid name job) refl)
+words-exist two frames (Some (Generated n seed)) files low = made_outcome-exists frames n seed
 
 pub outcome-exists : BudgetsAreTwo → FramesExist → (words : List (List ℕ)) (files : List NamedFile) → (end : Outcome) × IsOutcome words files end
 unfolding IsOutcome
@@ -154,14 +182,14 @@ outcome-exists two frames words files = words-exist two frames (command_of words
 
 -- each picture of states with a budget of at least 2 is certified
 abbrev pub MeshesAreCertified : Type 0
-MeshesAreCertified = (prefix before : List ℕ) (n : ℕ) (states : List State) (ps : List Picture) → AreStates n states
-    → ArePictures (AsMeshes prefix) before states ps → AllByRecursion IsCertified ps
+MeshesAreCertified = (show : Show) (before : List ℕ) (n : ℕ) (states : List State) (ps : List Picture) → AreStates n states
+    → ArePictures show before states ps → AllByRecursion IsCertified ps
 
 shown-certified : MeshesAreCertified → (show : Show) (n files : ℕ) (walk : Walk) (end : Outcome) → AreStates n walk.frames
     → IsFramesOutcome show files walk end → AllByRecursion IsCertified end.pictures
-shown-certified one (AsMeshes prefix) n files walk end low is =
+shown-certified one show n files walk end low is =
     let P : Outcome → Type 0 = λ o. AllByRecursion IsCertified o.pictures in
-    subst P (sym is.2) (one prefix [] n walk.frames is.0 low is.1)
+    subst P (sym is.2) (one show [] n walk.frames is.0 low is.1)
 
 job-certified : BudgetsAreTwo → MeshesAreCertified → (job : Job) (r : Result HeightField PgmFault) (files : List NamedFile) (end : Outcome) → HasBudget job
     → IsTrue (is_some end.engine) → IsGridOutcome job r files end → AllByRecursion IsCertified end.pictures
@@ -180,6 +208,8 @@ words-certified two one None files end low some is =
     let P : Outcome → Type 0 = λ o. AllByRecursion IsCertified o.pictures in subst P (sym is) tt
 words-certified two one (Some (OnGrid name job)) files end low some is =
     job-certified two one job (grid_of (bytes_of files name)) files end (low (OnGrid name job) refl) some is
+words-certified two one (Some (Generated n seed)) files end low some is =
+    shown-certified one (AsSums n seed) (made_grid n seed).n 0 (made_walk n seed) end (made_walk-states n seed) is
 
 pub outcome-certified : BudgetsAreTwo → MeshesAreCertified → (words : List (List ℕ)) (files : List NamedFile) (end : Outcome)
     → IsTrue (is_some end.engine) → IsOutcome words files end → All IsCertified end.pictures

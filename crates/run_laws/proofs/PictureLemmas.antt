@@ -11,7 +11,7 @@ use Rattle.mesh_defs.specs.View.{View}
 use Rattle.bintree_addr.specs.declared.blocked.Blocked.{Blocked}
 use Rattle.mesh_defs.specs.Falling.{IsFalling}
 use Rattle.closure_laws.specs.Frame.{IsFrame}
-use Rattle.run_laws.specs.Words.{Show, AsMeshes}
+use Rattle.run_laws.specs.Words.{Show, AsMeshes, AsSums}
 use Rattle.run_laws.specs.Picture.{Picture, IsFrameFor, IsChangeFor, IsPicture, ArePictures, IsCertified}
 use Rattle.run_laws.specs.Laws.{FramesExist, AreStates}
 
@@ -22,6 +22,7 @@ made s l w b i j = record { state = s; members = l; worst = w; blocked = b; spli
 IsChangeFor-unique : (show : Show) (state : State) (before after : List ℕ) (i j k l : ℕ)
     → IsChangeFor show state before after i k → IsChangeFor show state before after j l → (i ≡ j) × (k ≡ l)
 IsChangeFor-unique (AsMeshes prefix) state before after i j k l f g = (f.all_split ∙ sym g.all_split, f.all_merged ∙ sym g.all_merged)
+IsChangeFor-unique (AsSums n seed) state before after i j k l f g = (f.all_split ∙ sym g.all_split, f.all_merged ∙ sym g.all_merged)
 
 -- The frame of a budget is one set, with one worst and one blocking triangle.
 abbrev pub FramesAreUnique : Type 0
@@ -38,6 +39,9 @@ IsFrameFor-unique : FramesAreUnique → SetsAreLists → (show : Show) (state : 
     → IsAscending xs → IsAscending ys → IsFrameFor show state xs worst blocked → IsFrameFor show state ys other instead
     → (xs ≡ ys) × (worst ≡ other) × (blocked ≡ instead)
 IsFrameFor-unique one lists (AsMeshes prefix) state xs ys worst other blocked instead up goes f g =
+    let same = one state.grid.n state.budget (priority_in state) (among xs) (among ys) worst other blocked instead f g in
+    (lists xs ys up goes same.0, same.1, same.2)
+IsFrameFor-unique one lists (AsSums n seed) state xs ys worst other blocked instead up goes f g =
     let same = one state.grid.n state.budget (priority_in state) (among xs) (among ys) worst other blocked instead f g in
     (lists xs ys up goes same.0, same.1, same.2)
 
@@ -75,6 +79,8 @@ made-picture : (show : Show) (before : List ℕ) (state : State) → (members : 
     → IsPicture show before state (made state members worst blocked (length members) (length before))
 made-picture (AsMeshes prefix) before state members worst blocked up f =
     record { of_state = refl; ascending = up; frame = f; change = record { all_split = refl; all_merged = refl } }
+made-picture (AsSums n seed) before state members worst blocked up f =
+    record { of_state = refl; ascending = up; frame = f; change = record { all_split = refl; all_merged = refl } }
 
 -- states have pictures, from any set on
 pub pictures_of : FramesExist → (show : Show) (n : ℕ) (before : List ℕ) (states : List State)
@@ -84,6 +90,12 @@ pictures_of frames show n before (state ∷ states) low =
     let f = frames state.grid.n state.budget (priority_in state) low.1 in
     let rest = pictures_of frames show n f.0 states low.2 in
     (made state f.0 f.1 f.2 (length f.0) (length before) ∷ rest.0, (made-picture show before state f.0 f.1 f.2 f.3 f.4, rest.1))
+
+-- the frame that is shown is that of the budget in force
+pub is-frame : (show : Show) (state : State) (members : List ℕ) (worst : ℕ) (blocked : Option Blocked) → IsFrameFor show state members worst blocked
+    → IsFrame state.grid.n state.budget (priority_in state) (among members) worst blocked
+is-frame (AsMeshes prefix) state members worst blocked f = f
+is-frame (AsSums n seed) state members worst blocked f = f
 
 -- the worst of a list is 0 exactly where each priority in it is
 worst-zero : (priority : ℕ → ℕ) (triangles : List ℕ) → AllByRecursion (λ a. priority a ≡ 0) triangles → worst_of priority triangles ≡ 0
@@ -136,13 +148,13 @@ module _ (falling : (n : ℕ) (heights : List ℕ) (view : View) → IsFalling n
         }
 
     -- so is what each picture of states with a budget of at least 2 tells
-    pub pictures-certified : (prefix before : List ℕ) (n : ℕ) (states : List State) (ps : List Picture) → AreStates n states
-        → ArePictures (AsMeshes prefix) before states ps → AllByRecursion IsCertified ps
-    pictures-certified prefix before n [] [] low f = tt
-    pictures-certified prefix before n [] (p ∷ ps) low f = absurd f
-    pictures-certified prefix before n (s ∷ states) [] low f = absurd f
-    pictures-certified prefix before n (s ∷ states) (p ∷ ps) low f =
+    pub pictures-certified : (show : Show) (before : List ℕ) (n : ℕ) (states : List State) (ps : List Picture) → AreStates n states
+        → ArePictures show before states ps → AllByRecursion IsCertified ps
+    pictures-certified show before n [] [] low f = tt
+    pictures-certified show before n [] (p ∷ ps) low f = absurd f
+    pictures-certified show before n (s ∷ states) [] low f = absurd f
+    pictures-certified show before n (s ∷ states) (p ∷ ps) low f =
         let P : State → Type 0 = λ t. IsCertified (made t p.members p.worst p.blocked p.splits p.merges) in (
-          subst P (sym f.0.of_state) (frame-certified s p.members p.worst p.blocked p.splits p.merges low.1 f.0.frame),
-          pictures-certified prefix p.members n states ps low.2 f.1,
+          subst P (sym f.0.of_state) (frame-certified s p.members p.worst p.blocked p.splits p.merges low.1 (is-frame show s p.members p.worst p.blocked f.0.frame)),
+          pictures-certified show p.members n states ps low.2 f.1,
         )

@@ -1,11 +1,12 @@
 -- A walk goes on: what whole lines led to is where the rest begins.
-use Rattle.std.proofs.Common.{◌≡◌, ℕ, ◌≤◌, List, [], ◌∷◌, ◌++◌, Option, Some, None, Result, Ok, Err, cond, refl, sym, ◌∙◌, ap, subst, inl, inr, Bool, true, false, ◌==◌, append_assoc, append-nil}
-use Rattle.std.specs.List.{onto_first}
+use Rattle.std.proofs.Common.{◌≡◌, ℕ, ◌≤◌, List, [], ◌∷◌, ◌++◌, Option, Some, None, Result, Ok, Err, cond, if◌then◌else◌, refl, sym, ◌∙◌, ap, subst, inl, inr, Bool, true, false, ◌==◌, ◌%◌, append_assoc, append-nil}
+use Rattle.std.specs.List.{onto_first, AllByRecursion, flat_map, range_with_len}
 use Rattle.roam_script.specs.declared.line.Line.{Line}
 use Rattle.roam_script.specs.declared.line.Line.TheVariants.{Blank, Camera, Set, Plane, NoPlanes, Budget, Raise, Frame}
 use Rattle.roam_script.specs.declared.script_fault.ScriptFault.{ScriptFault}
 use Rattle.roam_script.specs.LineText.{line_in}
-use Rattle.run_laws.specs.Walk.{Refusal, Walk, limits_of, shown_by, after_line, refused_walk, after_text, walk_lines, walk_of, lines_of, AreWhole}
+use Rattle.run_laws.specs.Walk.{Refusal, Walk, limits_of, shown_by, after_line, refused_walk, after_text, walk_along, walk_lines, walk_of, lines_of, AreWhole}
+use Rattle.roam_gen.specs.Generated.{camera_line, edit_line, frame_lines, made_lines}
 use Rattle.run_laws.specs.Laws.{AreStates, KeepsStates, BudgetsAreTwo}
 use Rattle.mesh_defs.specs.State.{State}
 use Rattle.run_laws.specs.Words.{Show}
@@ -88,6 +89,39 @@ line-states n walk (Plane i j k l) two keeps = record { level = keeps.level; low
 line-states n walk NoPlanes two keeps = record { level = keeps.level; low = keeps.low; frames = states-nothing n walk.frames keeps.frames }
 line-states n walk (Budget most) two keeps = record { level = keeps.level; low = two most refl; frames = states-nothing n walk.frames keeps.frames }
 line-states n walk (Raise i j k l dz) two keeps = record { level = keeps.level; low = keeps.low; frames = states-nothing n walk.frames keeps.frames }
+
+-- lines that set no budget
+
+-- the line sets no budget below 2
+abbrev BudgetIsTwo : Line → Type 0
+BudgetIsTwo line = (most : ℕ) → line ≡ Budget most → 2 ≤ most
+
+two-append : (xs ys : List Line) → AllByRecursion BudgetIsTwo xs → AllByRecursion BudgetIsTwo ys → AllByRecursion BudgetIsTwo (xs ++ ys)
+two-append [] ys f g = g
+two-append (x ∷ xs) ys f g = (f.0, two-append xs ys f.1 g)
+
+-- the lines of a generated frame, whether one sets a height or not
+two-frame : (n seed f : ℕ) (tenth : Bool) → AllByRecursion BudgetIsTwo ((camera_line n f ∷ []) ++ (if tenth then edit_line n seed f ∷ [] else []) ++ Frame ∷ [])
+two-frame n seed f true = ((λ most e. cc), ((λ most e. cc), ((λ most e. cc), tt)))
+two-frame n seed f false = ((λ most e. cc), ((λ most e. cc), tt))
+
+two-frames : (n seed : ℕ) (fs : List ℕ) → AllByRecursion BudgetIsTwo (flat_map (frame_lines n seed) fs)
+two-frames n seed [] = tt
+two-frames n seed (f ∷ fs) = two-append (frame_lines n seed f) (flat_map (frame_lines n seed) fs) (two-frame n seed f (f % 10 == 0)) (two-frames n seed fs)
+
+along-states : (n : ℕ) (walk : Walk) (lines : List Line) → AllByRecursion BudgetIsTwo lines → KeepsStates n walk → KeepsStates n (walk_along walk lines)
+along-states n walk [] two keeps = keeps
+along-states n walk (line ∷ lines) two keeps = along-states n (after_line line walk) lines two.1 (line-states n walk line two.0 keeps)
+
+-- a walk along generated lines keeps the level, and budgets of at least 2
+pub made-states : (n level seed : ℕ) (walk : Walk) → KeepsStates n walk → KeepsStates n (walk_along walk (made_lines level seed))
+unfolding made_lines
+made-states n level seed walk keeps = along-states n walk (made_lines level seed) (two-frames level seed (range_with_len 1 50)) keeps
+
+-- lines that are accepted stop no walk
+pub along-stop : (walk : Walk) (lines : List Line) → (walk_along walk lines).stop ≡ walk.stop
+along-stop walk [] = refl
+along-stop walk (line ∷ lines) = along-stop (after_line line walk) lines
 
 -- what a line is read as, where the walk goes on
 abbrev pub read_text : Walk → Result Line ScriptFault → Walk

@@ -8,7 +8,7 @@ use Rattle.roam_edge.specs.MeshSink.{Mesh}
 use Rattle.roam_edge.specs.Shelf.{NamedFile, bytes_of}
 use Rattle.pgm_grid.specs.PgmText.{IsFileText}
 use Rattle.run_laws.specs.declared.status.Status.{Status}
-use Rattle.run_laws.specs.Words.{Show, AsMeshes, Scripted, Frames, OnGrid, prefix_of, command_of}
+use Rattle.run_laws.specs.Words.{Show, AsMeshes, AsSums, Scripted, Frames, OnGrid, prefix_of, command_of}
 use Rattle.run_laws.specs.Outcome.{script_walk}
 use Rattle.run_laws.specs.Promise.{ends_script}
 
@@ -19,6 +19,7 @@ IsBestIn state triangles = IsBestMesh state.grid.n state.budget (priority_in sta
 -- The bytes are the text of what is shown of a state: its best mesh.
 abbrev pub IsGoodText : Show → State → List ℕ → Type 0
 IsGoodText (AsMeshes prefix) state bytes = (triangles : List ℕ) × IsBestIn state triangles × (bytes ≡ text_in state triangles)
+IsGoodText (AsSums n seed) state bytes = ⊥
 
 -- The mesh has this number and the prefix of the words, and its bytes are right for this state.
 pub record IsGoodFrame (show : Show) (number : ℕ) (state : State) (mesh : Mesh) : Type 0 where

@@ -1,6 +1,6 @@
 -- The outcome of a run: what its words and the files that they name determine. This project's own.
 -- Words: EngineEnd, Outcome, plain_outcome, text_outcome, picture_acts, shown_acts, sum_acts, stop_acts, stop_status,
--- engine_end, frames_outcome, IsFramesOutcome, script_walk, IsScriptOutcome, IsJobOutcome, IsGridOutcome,
+-- engine_end, frames_outcome, IsFramesOutcome, script_walk, made_budget, made_spacing, made_walk, IsScriptOutcome, IsJobOutcome, IsGridOutcome,
 -- IsCommandOutcome, IsWordsOutcome, IsOutcome, HasOneOutcome.
 use Rattle.std.specs.Prelude.{◌≡◌, ⊤, ℕ, ◌+◌, List, [], ◌∷◌, ◌++◌, length, sum_by, Option, Some, None, Result, Ok, Err}
 use Rattle.mesh_defs.specs.HeightField.{HeightField}
@@ -8,13 +8,14 @@ use Rattle.mesh_defs.specs.State.{State, start_state, text_in}
 use Rattle.roam_edge.specs.Shelf.{NamedFile, bytes_of}
 use Rattle.pgm_grid.specs.declared.fault.PgmFault.{PgmFault}
 use Rattle.pgm_grid.specs.Progress.{grid_of}
+use Rattle.roam_gen.specs.Generated.{made_grid, made_lines}
 use Rattle.run_laws.specs.declared.status.Status.{Status}
 use Rattle.run_laws.specs.declared.status.Status.TheVariants.{Done, Usage, GridRefused, ScriptRefused}
-use Rattle.run_laws.specs.Walk.{Refusal, Walk, start_walk, walk_of}
-use Rattle.run_laws.specs.Words.{Show, AsMeshes, Scripted, Job, Frames, Facts, Command, OnGrid, command_of}
+use Rattle.run_laws.specs.Walk.{Refusal, Walk, start_walk, walk_along, walk_of}
+use Rattle.run_laws.specs.Words.{Show, AsMeshes, AsSums, Scripted, Job, Frames, Facts, Command, OnGrid, Generated, command_of}
 use Rattle.run_laws.specs.Act.{Act, WholeMesh, ReportText}
 use Rattle.run_laws.specs.Picture.{Picture, triangles_of, ArePictures, last_members}
-use Rattle.run_laws.specs.ReportText.{frame_line, info_line, grid_refusal, line_refusal}
+use Rattle.run_laws.specs.ReportText.{frame_line, try_line, info_line, grid_refusal, line_refusal}
 
 -- what an engine holds at the end: the state, how far the camera went, the frames made, the set of the
 -- last one, and the sums of their splits and merges
@@ -46,6 +47,7 @@ text_outcome bytes last files = plain_outcome (ReportText bytes ∷ []) last fil
 abbrev pub picture_acts : Show → ℕ → Picture → List Act
 picture_acts (AsMeshes prefix) number picture =
     WholeMesh prefix number (text_in picture.state (triangles_of picture)) ∷ (ReportText (frame_line number picture) ∷ [])
+picture_acts (AsSums n seed) number picture = []
 
 -- the acts of frames, of which the first has this number
 abbrev pub shown_acts : Show → ℕ → List Picture → List Act
@@ -55,6 +57,7 @@ shown_acts show number (picture ∷ pictures) = picture_acts show number picture
 -- the acts behind all frames
 abbrev pub sum_acts : Show → List Picture → List Act
 sum_acts (AsMeshes prefix) pictures = []
+sum_acts (AsSums n seed) pictures = ReportText (try_line n seed pictures) ∷ []
 
 -- the refusal of a line, where one stopped the walk
 abbrev pub stop_acts : Option Refusal → List Act
@@ -79,6 +82,7 @@ engine_end walk pictures = record {
 -- the engine that is left where frames are shown so
 abbrev pub engine_for : Show → Walk → List Picture → Option EngineEnd
 engine_for (AsMeshes prefix) walk pictures = Some (engine_end walk pictures)
+engine_for (AsSums n seed) walk pictures = Some (engine_end walk pictures)
 
 -- The outcome of a walk and its pictures: the frames in order, and then the refusal, if a line is refused.
 abbrev pub frames_outcome : Show → ℕ → Walk → List Picture → Outcome
@@ -103,6 +107,17 @@ script_walk s grid script = walk_of (start_walk s.budget (start_state grid s.spa
 abbrev pub IsScriptOutcome : Scripted → HeightField → List ℕ → Outcome → Type 0
 IsScriptOutcome s grid script end = IsFramesOutcome s.show 2 (script_walk s grid script) end
 
+-- the budget of a generated run, and the world units of its grid step
+abbrev pub made_budget : ℕ
+made_budget = 20000
+
+abbrev pub made_spacing : ℕ
+made_spacing = 30
+
+-- the walk of the generated script over the generated grid
+abbrev pub made_walk : ℕ → ℕ → Walk
+made_walk n seed = walk_along (start_walk made_budget (start_state (made_grid n seed) made_spacing made_budget)) (made_lines n seed)
+
 -- what a job does with an accepted grid
 abbrev pub IsJobOutcome : Job → HeightField → List NamedFile → Outcome → Type 0
 IsJobOutcome (Frames s) grid files end = IsScriptOutcome s grid (bytes_of files s.script) end
@@ -116,6 +131,7 @@ IsGridOutcome job (Err fault) files end = end ≡ text_outcome (grid_refusal fau
 -- what a command does over named files
 abbrev pub IsCommandOutcome : Command → List NamedFile → Outcome → Type 0
 IsCommandOutcome (OnGrid grid job) files end = IsGridOutcome job (grid_of (bytes_of files grid)) files end
+IsCommandOutcome (Generated n seed) files end = IsFramesOutcome (AsSums n seed) 0 (made_walk n seed) end
 
 -- what words do, whether they are a command or none
 abbrev pub IsWordsOutcome : Option Command → List NamedFile → Outcome → Type 0

@@ -11,7 +11,7 @@ use Rattle.mesh_defs.specs.State.{State, priority_in}
 use Rattle.bintree_addr.specs.declared.blocked.Blocked.{Blocked}
 use Rattle.mesh_defs.specs.GridSet.{IsAscending}
 use Rattle.closure_laws.specs.Frame.{IsFrame}
-use Rattle.run_laws.specs.Words.{Show, AsMeshes}
+use Rattle.run_laws.specs.Words.{Show, AsMeshes, AsSums}
 
 -- what it shows; the triangles that are split, in ascending order; the greatest priority among the leaves; the
 -- triangle that blocks, with its need, if there is one; and how many splits and merges led there
@@ -36,6 +36,8 @@ mark_count state mark triangles =
 abbrev pub IsFrameFor : Show → State → List ℕ → ℕ → Option Blocked → Type 0
 IsFrameFor (AsMeshes prefix) state members worst blocked =
     IsFrame state.grid.n state.budget (priority_in state) (among members) worst blocked
+IsFrameFor (AsSums n seed) state members worst blocked =
+    IsFrame state.grid.n state.budget (priority_in state) (among members) worst blocked
 
 -- each frame merges all that was split before and splits all that it shows
 pub record IsRebuilt (state : State) (before after : List ℕ) (splits merges : ℕ) : Type 0 where
@@ -50,6 +52,7 @@ IsChange = IsRebuilt
 -- the change that is counted where frames are shown so
 abbrev pub IsChangeFor : Show → State → List ℕ → List ℕ → ℕ → ℕ → Type 0
 IsChangeFor (AsMeshes prefix) state before after splits merges = IsChange state before after splits merges
+IsChangeFor (AsSums n seed) state before after splits merges = IsChange state before after splits merges
 
 -- The picture of a state, where the frame before has split these triangles. There is one alone.
 pub record IsPicture (show : Show) (before : List ℕ) (state : State) (picture : Picture) : Type 0 where

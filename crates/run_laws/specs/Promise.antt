@@ -12,7 +12,7 @@ use Rattle.pgm_grid.specs.Progress.{grid_of}
 use Rattle.run_laws.specs.declared.status.Status.{Status}
 use Rattle.run_laws.specs.declared.status.Status.TheVariants.{Done, NoMemory, Usage, GridRefused, ScriptRefused, ReadFault, WriteFault}
 use Rattle.run_laws.specs.Walk.{AreWhole, HasBegun}
-use Rattle.run_laws.specs.Words.{Scripted, Job, Frames, Facts, Command, OnGrid, names_of, file_count, has_script, command_of}
+use Rattle.run_laws.specs.Words.{Scripted, Job, Frames, Facts, Command, OnGrid, Generated, names_of, file_count, has_script, command_of}
 use Rattle.run_laws.specs.Picture.{Picture, ArePictures}
 use Rattle.run_laws.specs.Act.{Act, Told, Stands, IsCutShort}
 use Rattle.run_laws.specs.Outcome.{Outcome, shown_acts, script_walk, IsOutcome}
@@ -114,6 +114,7 @@ abbrev pub HasRead : Command → List NamedFile → ℕ → List ℕ → List Ac
 HasRead (OnGrid name job) files zero read acts = IsUndecided read × (acts ≡ [])
 HasRead (OnGrid name job) files (suc k) read acts =
     (grid : HeightField) × (grid_of (bytes_of files name) ≡ Ok grid) × JobHasRead job grid files k read acts
+HasRead (Generated n seed) files k read acts = ⊥
 
 -- A read of the command's file at this place failed, or its opening, and then none of it was read: what the
 -- run has done by then stands, and nothing else.
@@ -180,10 +181,11 @@ abbrev pub IsAcceptedJob : Job → HeightField → List NamedFile → Type 0
 IsAcceptedJob (Frames s) grid files = (script_walk s grid (bytes_of files s.script)).stop ≡ None
 IsAcceptedJob Facts grid files = ⊤
 
--- its grid is a file text, and what its job reads is accepted
+-- its grid is a file text, and what its job reads is accepted; a generated run reads nothing
 abbrev pub IsAcceptedInput : Command → List NamedFile → Type 0
 IsAcceptedInput (OnGrid name job) files =
     (grid : HeightField) × IsHeightField grid × IsFileText grid (bytes_of files name) × IsAcceptedJob job grid files
+IsAcceptedInput (Generated n seed) files = ⊤
 
 -- the words are a command, and what it reads is accepted
 abbrev pub IsAccepted : List (List ℕ) → List NamedFile → Type 0

@@ -1,7 +1,7 @@
 -- The lines of the report. This project's own; each ends with one LF (10).
--- Words: blocked_text, marks_text, frame_line, info_line, grid_fault_text, grid_refusal, script_fault_text,
+-- Words: blocked_text, marks_text, frame_line, all_triangles, worst_in, count_blocked, try_line, info_line, grid_fault_text, grid_refusal, script_fault_text,
 -- line_refusal.
-use Rattle.std.specs.Prelude.{ℕ, max, List, [], ◌∷◌, ◌++◌, length, Option, Some, None, codes, decimal}
+use Rattle.std.specs.Prelude.{ℕ, max, is_some, List, [], ◌∷◌, ◌++◌, length, map, sum_by, count_by, Option, Some, None, codes, decimal}
 use Rattle.mesh_defs.specs.declared.mark.Mark.TheVariants.{Inside, Cut, Outside}
 use Rattle.mesh_defs.specs.HeightField.{HeightField, side_of}
 use Rattle.mesh_defs.specs.View.{ViewPlane}
@@ -37,6 +37,25 @@ frame_line number picture =
     ++ codes " vertices " ++ decimal (length (vertices_of picture.state.grid.n triangles)) ++ codes " worst " ++ decimal picture.worst
     ++ codes " splits " ++ decimal picture.splits ++ codes " merges " ++ decimal picture.merges
     ++ codes " blocked " ++ blocked_text picture.blocked ++ marks_text picture.state picture.state.view.planes triangles ++ codes "\n"
+
+-- how many triangles the meshes of pictures have, all together
+abbrev pub all_triangles : List Picture → ℕ
+all_triangles pictures = sum_by (λ p. length (triangles_of p)) pictures
+
+-- the greatest worst of pictures, or 0 where there is none
+abbrev pub worst_in : List Picture → ℕ
+worst_in pictures = greatest (map (λ (p : Picture). p.worst) pictures)
+
+-- how many pictures tell of a triangle that blocks
+abbrev pub count_blocked : List Picture → ℕ
+count_blocked pictures = count_by (λ (p : Picture). is_some p.blocked) pictures
+
+-- `try N SEED frames F triangles T worst W blocked B`: how many frames there are, and what they sum up to
+abbrev pub try_line : ℕ → ℕ → List Picture → List ℕ
+try_line n seed pictures =
+    codes "try " ++ decimal n ++ codes " " ++ decimal seed ++ codes " frames " ++ decimal (length pictures)
+    ++ codes " triangles " ++ decimal (all_triangles pictures) ++ codes " worst " ++ decimal (worst_in pictures)
+    ++ codes " blocked " ++ decimal (count_blocked pictures) ++ codes "\n"
 
 -- `side W maxval M low L high H thickness E`: the points of a side, the bound of the heights, the least and
 -- the greatest height, and the greater thickness of the two base triangles, in half units of height

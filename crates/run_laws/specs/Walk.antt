@@ -1,7 +1,7 @@
 -- How far a script leads: a fold over its lines, up to its end or to the first line that is refused.
 -- This project's own.
 -- Words: Refusal, Walk, start_walk, limits_of, state_after, shown_by, way_of, after_line, refused_walk, after_text,
--- walk_lines, lines_of, walk_of, AreWhole, HasBegun.
+-- walk_along, walk_lines, lines_of, walk_of, AreWhole, HasBegun.
 use Rattle.std.specs.Prelude.{◌≡◌, ◌≢◌, ℕ, ◌+◌, ◌==◌, ◌≤◌, ◌⊎◌, cond, List, [], ◌∷◌, ◌++◌, length, All, Option, Some, None, Ok, Err}
 use Rattle.std.specs.List.{onto_first}
 use Rattle.mesh_defs.specs.State.{State, with_camera, with_height, with_plane, without_planes, with_budget, with_raised, move_length}
@@ -72,6 +72,11 @@ after_line line walk = record walk {
   frames = walk.frames ++ shown_by line walk.state;
   odometer = walk.odometer + way_of line walk.state;
 }
+
+-- after accepted lines
+abbrev pub walk_along : Walk → List Line → Walk
+walk_along walk [] = walk
+walk_along walk (line ∷ lines) = walk_along (after_line line walk) lines
 
 -- the next line is refused
 abbrev pub refused_walk : ScriptFault → Walk → Walk

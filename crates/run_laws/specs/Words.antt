@@ -1,12 +1,15 @@
 -- The words of a command line that are a command. This project's own.
 -- Words: Show, Scripted, Job, Command, job_files, names_of, file_count, is_scripted, has_script, is_of_engine,
--- prefix_of, is_prefix, within, number_word, least_budget, greatest_budget, greatest_spacing, frames_command, command_of.
+-- prefix_of, is_prefix, within, number_word, least_budget, greatest_budget, greatest_spacing, greatest_level, greatest_seed,
+-- frames_command, try_command, command_of.
 use Rattle.std.specs.Prelude.{ℕ, Bool, true, false, ◌&&◌, nat_le, if◌then◌else◌, List, [], ◌∷◌, length, Option, Some, None, codes, bytes_eq}
 use Rattle.roam_num.specs.DecText.{number_in}
 
--- how frames are shown: as meshes whose names begin with this prefix
+-- how frames are shown: as meshes whose names begin with this prefix; or by their sums alone, of a run that is
+-- generated from this level and seed
 pub data Show : Type 0 where
   AsMeshes : (prefix : List ℕ) → Show
+  AsSums : (n seed : ℕ) → Show
 
 -- the frames of a script: its name, the greatest budget, how many world units a grid step has, and how
 -- they are shown
@@ -21,9 +24,10 @@ pub data Job : Type 0 where
   Frames : (scripted : Scripted) → Job
   Facts : Job
 
--- a command: a job on the grid of this name
+-- a command: a job on the grid of this name; or a generated run
 pub data Command : Type 0 where
   OnGrid : (grid : List ℕ) (job : Job) → Command
+  Generated : (n seed : ℕ) → Command
 
 -- the names of the files that a job reads after the grid, in the order in which they are opened
 abbrev pub job_files : Job → List (List ℕ)
@@ -33,6 +37,7 @@ job_files Facts = []
 -- the names of a command's files; the grid comes first
 abbrev pub names_of : Command → List (List ℕ)
 names_of (OnGrid grid job) = grid ∷ job_files job
+names_of (Generated n seed) = []
 
 -- how many files the words name, where they are a command
 abbrev pub file_count : Option Command → ℕ
@@ -46,10 +51,12 @@ is_scripted _ = false
 
 abbrev pub has_script : Command → Bool
 has_script (OnGrid grid job) = is_scripted job
+has_script (Generated n seed) = false
 
 -- what the names of meshes begin with, where meshes are shown
 abbrev pub prefix_of : Show → Option (List ℕ)
 prefix_of (AsMeshes prefix) = Some prefix
+prefix_of (AsSums n seed) = None
 
 -- a prefix has 1 to 200 bytes
 abbrev pub is_prefix : List ℕ → Bool
@@ -75,6 +82,13 @@ greatest_budget = 1048576
 abbrev pub greatest_spacing : ℕ
 greatest_spacing = 1024
 
+-- the greatest level of a grid, and the greatest seed
+abbrev pub greatest_level : ℕ
+greatest_level = 11
+
+abbrev pub greatest_seed : ℕ
+greatest_seed = 4294967295
+
 abbrev pub budget_word : List ℕ → Option ℕ
 budget_word = number_word least_budget greatest_budget
 
@@ -93,8 +107,16 @@ meshes_command word i j prefix number step =
     if bytes_eq word (codes "mesh") then frames_command i j (AsMeshes prefix) (budget_word number) (spacing_word step)
     else None
 
--- The command that the words are, None of other words: `info GRID`, or `mesh GRID SCRIPT PREFIX BUDGET SPACING`.
+-- the generated run, if level and seed are there
+abbrev pub try_command : Option ℕ → Option ℕ → Option Command
+try_command (Some n) (Some seed) = Some (Generated n seed)
+try_command _ _ = None
+
+-- The command that the words are, None of other words: `info GRID`, `try N SEED`, or
+-- `mesh GRID SCRIPT PREFIX BUDGET SPACING`.
 abbrev pub command_of : List (List ℕ) → Option Command
 command_of (word ∷ (i ∷ [])) = if bytes_eq word (codes "info") then Some (OnGrid i Facts) else None
+command_of (word ∷ (i ∷ (j ∷ []))) =
+    if bytes_eq word (codes "try") then try_command (number_word 1 greatest_level i) (number_word 0 greatest_seed j) else None
 command_of (word ∷ (i ∷ (j ∷ (k ∷ (l ∷ (m ∷ [])))))) = if is_prefix k then meshes_command word i j k l m else None
 command_of _ = None
