@@ -6,3 +6,4 @@ pub mod ReadingLemmas
 pub mod EndLemmas
 pub mod GridLemmas
 pub mod TopLemmas
+pub mod SumLemmas

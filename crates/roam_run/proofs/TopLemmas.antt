@@ -1,5 +1,5 @@
 -- What words do whose command is known: the promises of a run from those of its command.
-use Rattle.std.proofs.Common.{◌≡◌, ◌≢◌, ℕ, zero, suc, ◌+◌, ◌-◌, ◌^◌, ◌<◌, ◌≤◌, ◌⊎◌, IsTrue, List, [], ◌∷◌, length, Option, Some, None, refl, sym, ◌∙◌, ap, subst, inl, inr, arith}
+use Rattle.std.proofs.Common.{◌≡◌, ◌≢◌, ℕ, zero, suc, ◌+◌, ◌-◌, ◌^◌, ◌<◌, ◌≤◌, ◌⊎◌, ◌↔◌, IsTrue, List, [], ◌∷◌, length, Option, Some, None, refl, sym, ◌∙◌, ap, subst, inl, inr, arith}
 use Rattle.mesh_defs.specs.HeightField.{HeightField}
 use Rattle.roam_edge.specs.Shelf.{NamedFile}
 use Rattle.roam_edge.specs.Fault.{Rose}
@@ -90,6 +90,32 @@ pub not-write : (shelf shelf' meshes meshes' report report' : ℕ) (status : Sta
     → StatusHasCause shelf shelf' meshes meshes' report report' status → status ≢ WriteFault
 not-write shelf shelf' meshes meshes' report report' status low_meshes low_report same_meshes same_report cause e =
     not-either meshes meshes' report report' low_meshes low_report same_meshes same_report (cause.writes.write e).cause
+
+-- the count of the report rose, where that of the meshes is as before
+rose-report : (meshes report report' : ℕ) → meshes < 2 ^ 64 - 1 → report < 2 ^ 64 - 1 → Rose meshes meshes ⊎ Rose report report' → (meshes < meshes) ⊎ (report < report')
+rose-report meshes report report' low_meshes low_report (inl rose) = absurd (same-not-rose meshes meshes low_meshes refl rose)
+rose-report meshes report report' low_meshes low_report (inr rose) = inr (omega (arith, rose, low_report))
+
+not-rose : (meshes report report' : ℕ) → report' ≡ report → (meshes < meshes) ⊎ (report < report') → ⊥
+not-rose meshes report report' same (inl less) = omega (arith, less)
+not-rose meshes report report' same (inr less) = omega (arith, less, same)
+
+-- a write failed exactly where a count rose, of a command that writes no mesh
+pub write-cause : (meshes report report' : ℕ) (status : Status) → meshes < 2 ^ 64 - 1 → report < 2 ^ 64 - 1
+    → StatusWritesHaveCause meshes meshes report report' status → (status ≡ WriteFault) ↔ ((meshes < meshes) ⊎ (report < report'))
+write-cause meshes report report' status low_meshes low_report cause = (
+  (λ e. rose-report meshes report report' low_meshes low_report (cause.write e).cause),
+  (λ rose. only-write status (λ other. not-rose meshes report report' (cause.not_write other).report_same rose)),
+)
+  where
+    only-write : (end : Status) → (end ≢ WriteFault → ⊥) → end ≡ WriteFault
+    only-write Done none = absurd (none (λ e. cc))
+    only-write NoMemory none = absurd (none (λ e. cc))
+    only-write Usage none = absurd (none (λ e. cc))
+    only-write GridRefused none = absurd (none (λ e. cc))
+    only-write ScriptRefused none = absurd (none (λ e. cc))
+    only-write ReadFault none = absurd (none (λ e. cc))
+    only-write WriteFault none = refl
 
 -- what is accepted is done, unless memory ran out or something outside failed
 module _ (done : AcceptedIsDone) (before now : Told) (old new : Seen) (words : List (List ℕ)) (files : List NamedFile) (accepted : IsAccepted words files) where

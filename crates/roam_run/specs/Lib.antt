@@ -5,3 +5,4 @@ pub mod StageView
 pub mod Taking
 pub mod GridStop
 pub mod Leaving
+pub mod SumView

@@ -3,7 +3,7 @@
 use Rattle.std.specs.Prelude.{ℕ, ◌<◌, ◌≤◌, List, length}
 use Rattle.roam_run.specs.declared.words.MeshWords.{MeshWords}
 use Rattle.roam_run.specs.declared.words.Command.{Command}
-use Rattle.roam_run.specs.declared.words.Command.TheVariants.{Mesh, Info}
+use Rattle.roam_run.specs.declared.words.Command.TheVariants.{Mesh, Info, Try}
 use Rattle.run_laws.specs.Words as words
 
 -- the frames of `mesh`
@@ -18,6 +18,7 @@ scripted_seen c = record {
 abbrev pub command_seen : Command → words.Command
 command_seen (Mesh command) = words.OnGrid command.grid.now (words.Frames (scripted_seen command))
 command_seen (Info grid) = words.OnGrid grid.now words.Facts
+command_seen (Try n seed) = words.Generated n seed
 
 -- a prefix has 1 to 200 bytes
 abbrev pub IsPrefixLength : List ℕ → Type 0
@@ -31,7 +32,8 @@ pub record IsMeshCommand (command : MeshWords) : Type 0 where
   pub spacing_low : 1 ≤ command.spacing
   pub spacing_high : command.spacing ≤ 1024
 
--- so it is of `mesh`
+-- a command lies within its bounds: of `mesh` its words, of `try` its level
 abbrev pub IsAccepted : Command → Type 0
 IsAccepted (Mesh command) = IsMeshCommand command
 IsAccepted (Info grid) = Unit {0}
+IsAccepted (Try n seed) = (1 ≤ n) × (n ≤ 11)

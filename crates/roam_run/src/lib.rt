@@ -11,6 +11,7 @@
 #[cfg(test)]
 mod frail_shelf;
 mod frame;
+mod generated;
 mod grid_file;
 mod info;
 mod mesh;

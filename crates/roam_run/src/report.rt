@@ -5,10 +5,11 @@ ghost use Rattle.arrayvec.specs.ArrayVec.{array_vec_len};
 ghost use Rattle.mesh_defs.specs.Triangle.{level_of};
 ghost use Rattle.mesh_defs.specs.MeshText.{triangle_mark, is_same_mark};
 ghost use Rattle.run_laws.specs.Picture.{mark_count};
-ghost use Rattle.run_laws.specs.ReportText.{frame_line, blocked_text, marks_text, grid_fault_text, grid_refusal, script_fault_text, line_refusal};
+ghost use Rattle.run_laws.specs.ReportText.{frame_line, sums_line, blocked_text, marks_text, grid_fault_text, grid_refusal, script_fault_text, line_refusal};
 ghost use Rattle.roam_run.specs.MeshSeen.{picture_seen, IsMeshOf};
 ghost use Rattle.roam_run.specs.StageView.{refusal};
 
+use crate::generated::Sums;
 use crate::mesh::FrameMesh;
 use crate::scene::Scene;
 use crate::text::Text;
@@ -113,6 +114,21 @@ fn push_blocked(text: &mut Text, blocked: &Option<Blocked>)
             push_placed(text, b" needs ", u64::from(blocked.need));
         }
     }
+}
+
+/// The line of a generated run.
+pub(crate) fn try_report(n: u32, seed: u32, sums: &Sums) -> Text
+    ensures { result.items ≡ sums_line n seed sums.now.frames sums.now.triangles sums.now.worst sums.now.blocked }
+{
+    let mut text = ArrayVec::new();
+    push_placed(&mut text, b"try ", u64::from(n));
+    push_placed(&mut text, b" ", u64::from(seed));
+    push_placed(&mut text, b" frames ", u64::from(sums.frames));
+    push_placed(&mut text, b" triangles ", sums.triangles);
+    push_placed(&mut text, b" worst ", sums.worst);
+    push_placed(&mut text, b" blocked ", u64::from(sums.blocked));
+    push_bytes(&mut text, b"\n");
+    text
 }
 
 /// The line of a grid that is refused.

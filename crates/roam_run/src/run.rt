@@ -6,18 +6,19 @@ ghost use Rattle.roam_edge.specs.MeshSink.{Mesh};
 ghost use Rattle.roam_edge.specs.Shelf.{NamedFile, bytes_of};
 ghost use Rattle.run_laws.specs.Act.{told};
 ghost use Rattle.run_laws.specs.Cause.{StatusHasCause, StatusWritesHaveCause};
-ghost use Rattle.run_laws.specs.Words.{Scripted, OnGrid, Frames, Facts, command_of, file_count};
+ghost use Rattle.run_laws.specs.Words.{Scripted, OnGrid, Generated, Frames, Facts, command_of, file_count};
 ghost use Rattle.run_laws.specs.Picture.{IsCertified};
 ghost use Rattle.run_laws.specs.Outcome.{Outcome, IsOutcome, IsCommandOutcome, HasOneOutcome, text_outcome};
-ghost use Rattle.run_laws.specs.Promise.{seen, AreFiles, EndsAs, EndsRight, HasEnded, OpensForStatus, LeavesAtReadFault, LeavesAtNoMemory, IsAccepted, is_complete, may_end};
+ghost use Rattle.run_laws.specs.Promise.{Seen, seen, AreFiles, EndsAs, EndsRight, HasEnded, OpensForStatus, LeavesAtReadFault, LeavesAtNoMemory, IsAccepted, is_complete, may_end};
 ghost use Rattle.run_laws.specs.Headline.{IsRunOf, KeepsGoodMeshes};
 ghost use Rattle.roam_run.specs.Taking.{DoesAs};
 ghost use Rattle.roam_run.specs.Leaving.{CommandEnds, CommandReadFault, CommandNoMemory};
 ghost use Rattle.roam_run.specs.WordView.{scripted_seen, IsMeshCommand};
 
 use crate::grid_file::{GridStop, read_grid};
+use crate::generated::sums_of;
 use crate::info::info_report;
-use crate::report::grid_report;
+use crate::report::{grid_report, try_report};
 use crate::scene::Scene;
 use crate::script::run_script;
 use crate::stage::Stage;
@@ -118,6 +119,7 @@ pub fn roam<F: Shelf, M: MeshSink, R: Sink>(
         None => Status::Usage,
         Some(Command::Mesh(command)) => run_mesh(alloc, &command, shelf, meshes, report),
         Some(Command::Info(grid)) => run_info(alloc, grid, shelf, report),
+        Some(Command::Try { n, seed }) => run_try(alloc, n, seed, report),
     };
     Run { status }
 }
@@ -223,6 +225,27 @@ fn run_info<F: Shelf, R: Sink>(alloc: Global, name: &str, shelf: &mut F, report:
             Status::GridRefused,
             report,
         ),
+    }
+}
+
+/// Carries out the command `try`, which opens no file and writes no mesh.
+fn run_try<R: Sink>(alloc: Global, n: u32, seed: u32, report: &mut R) -> Status
+    requires n_low { 1 ≤ n }
+    requires n_high { n ≤ 11 }
+    ensures outcome { (meshes : Option (List Mesh)) (shelf : Seen) (files : List NamedFile) →
+        CommandEnds (told meshes (R.contents report.old)) (told meshes (R.contents report.new))
+        shelf shelf (Generated n seed) files result }
+    ensures no_memory { result ≡ Status.NoMemory → (meshes : Option (List Mesh)) (shelf : Seen) →
+        CommandNoMemory (told meshes (R.contents report.old)) (told meshes (R.contents report.new))
+        shelf shelf (Generated n seed) }
+    ensures status { (result ≢ Status.Usage) × (result ≢ Status.GridRefused) × (result ≢ Status.ScriptRefused)
+        × (result ≢ Status.ReadFault) }
+    ensures faults { (shelf meshes : ℕ) → StatusHasCause shelf shelf meshes meshes
+        (R.faults report.old) (R.faults report.new) result }
+{
+    match sums_of(alloc, n, seed) {
+        Ok(sums) => end_with_text(try_report(n, seed, &sums).as_slice(), Status::Done, report),
+        Err(_) => Status::NoMemory,
     }
 }
 

@@ -14,6 +14,8 @@ pub(crate) enum Command<'a> {
     Mesh(MeshWords<'a>),
     /// `info GRID`: a line on the grid.
     Info(&'a str),
+    /// `try N SEED`: the sums of a generated run.
+    Try { n: u32, seed: u32 },
 }
 
 /// The words of the command `mesh`.
@@ -43,6 +45,12 @@ const GREATEST_BUDGET: u32 = 1 << 20;
 /// The greatest spacing. With it no coordinate of a vertex is above 2^21.
 const GREATEST_SPACING: u32 = 1 << 10;
 
+/// The greatest level of a grid.
+const GREATEST_LEVEL: u32 = 11;
+
+/// The greatest seed.
+const GREATEST_SEED: u32 = u32::MAX;
+
 /// The command that the words are, or None of other words.
 pub(crate) fn command_in(words: &[String]) -> Option<Command<'_>>
     ensures value { option_map command_seen result ≡ command_of (map string_bytes words.now) }
@@ -50,6 +58,10 @@ pub(crate) fn command_in(words: &[String]) -> Option<Command<'_>>
 {
     match words {
         [word, grid] if word.as_str() == "info" => Some(Command::Info(grid.as_str())),
+        [word, n, seed] if word.as_str() == "try" => Some(Command::Try {
+            n: number_in_word(n.as_str(), 1, GREATEST_LEVEL)?,
+            seed: number_in_word(seed.as_str(), 0, GREATEST_SEED)?,
+        }),
         [word, grid, script, prefix, budget, spacing] => {
             let is_prefix = 1 <= prefix.len() && prefix.len() <= LONGEST_PREFIX;
             if !(word.as_str() == "mesh" && is_prefix) {

@@ -1,6 +1,6 @@
 -- The lines of the report. This project's own; each ends with one LF (10).
--- Words: blocked_text, marks_text, frame_line, all_triangles, worst_in, count_blocked, try_line, info_line, grid_fault_text, grid_refusal, script_fault_text,
--- line_refusal.
+-- Words: blocked_text, marks_text, frame_line, all_triangles, worst_in, count_blocked, sums_line, try_line,
+-- info_line, grid_fault_text, grid_refusal, script_fault_text, line_refusal.
 use Rattle.std.specs.Prelude.{ℕ, max, is_some, List, [], ◌∷◌, ◌++◌, length, map, sum_by, count_by, Option, Some, None, codes, decimal}
 use Rattle.mesh_defs.specs.declared.mark.Mark.TheVariants.{Inside, Cut, Outside}
 use Rattle.mesh_defs.specs.HeightField.{HeightField, side_of}
@@ -50,12 +50,16 @@ worst_in pictures = greatest (map (λ (p : Picture). p.worst) pictures)
 abbrev pub count_blocked : List Picture → ℕ
 count_blocked pictures = count_by (λ (p : Picture). is_some p.blocked) pictures
 
--- `try N SEED frames F triangles T worst W blocked B`: how many frames there are, and what they sum up to
+-- `try N SEED frames F triangles T worst W blocked B`, from these numbers
+abbrev pub sums_line : (n seed frames triangles worst blocked : ℕ) → List ℕ
+sums_line n seed frames triangles worst blocked =
+    codes "try " ++ decimal n ++ codes " " ++ decimal seed ++ codes " frames " ++ decimal frames
+    ++ codes " triangles " ++ decimal triangles ++ codes " worst " ++ decimal worst ++ codes " blocked " ++ decimal blocked ++ codes "\n"
+
+-- the same of pictures: how many there are, and what they sum up to
 abbrev pub try_line : ℕ → ℕ → List Picture → List ℕ
 try_line n seed pictures =
-    codes "try " ++ decimal n ++ codes " " ++ decimal seed ++ codes " frames " ++ decimal (length pictures)
-    ++ codes " triangles " ++ decimal (all_triangles pictures) ++ codes " worst " ++ decimal (worst_in pictures)
-    ++ codes " blocked " ++ decimal (count_blocked pictures) ++ codes "\n"
+    sums_line n seed (length pictures) (all_triangles pictures) (worst_in pictures) (count_blocked pictures)
 
 -- `side W maxval M low L high H thickness E`: the points of a side, the bound of the heights, the least and
 -- the greatest height, and the greater thickness of the two base triangles, in half units of height

@@ -1,7 +1,7 @@
 use Rattle.std.proofs.Common.{◌≡◌, ℕ, List, map, string_bytes, Some, None, refl, sym, ◌∙◌, ap, arith}
-use Rattle.run_laws.specs.Words.{Command, OnGrid, Frames, Facts, command_of}
+use Rattle.run_laws.specs.Words.{Command, OnGrid, Generated, Frames, Facts, command_of}
 use Rattle.roam_run.specs.WordView.{scripted_seen, command_seen}
-use Rattle.roam_run.proofs.TopLemmas.{told-files, usage-ends, words-end, words-read_fault, words-no_memory, not-read, not-write, accepted-done}
+use Rattle.roam_run.proofs.TopLemmas.{told-files, usage-ends, words-end, words-read_fault, words-no_memory, not-read, not-write, write-cause, accepted-done}
 use Rattle.roam_run.proofs.run.roam.Goals as goal
 
 pub returns-in-None-clause-outcome : goal.returns-in-None-clause-outcome
@@ -78,3 +78,39 @@ returns-in-Some-Info-clause-complete g c files are accepted shelf_same meshes_sa
 
 pub returns-in-Some-Info-clause-certificate : goal.returns-in-Some-Info-clause-certificate
 returns-in-Some-Info-clause-certificate g c files end = c.run_laws.ensures.certificate (map string_bytes c.args.words.now) files end
+
+pub returns-in-Some-Try-clause-outcome : goal.returns-in-Some-Try-clause-outcome
+returns-in-Some-Try-clause-outcome g c files are =
+    let words : List (List ℕ) = map string_bytes c.args.words.now in
+    let command : Command = Generated c.in-Some-Try.n c.in-Some-Try.seed in
+    let is_command : command_of words ≡ Some command =
+    sym c.in-Some-Try.ensures.value ∙ ap (λ command. Some (command_seen command)) c.in-Some-Try.field-0-is in
+    words-end _ _ _ _ words command is_command files _
+    (c.run_try-status.ensures.outcome (g.M.MeshSink.meshes c.args.meshes.now) _ files)
+
+pub returns-in-Some-Try-clause-no_memory : goal.returns-in-Some-Try-clause-no_memory
+returns-in-Some-Try-clause-no_memory g c e =
+    let words : List (List ℕ) = map string_bytes c.args.words.now in
+    let command : Command = Generated c.in-Some-Try.n c.in-Some-Try.seed in
+    let is_command : command_of words ≡ Some command =
+    sym c.in-Some-Try.ensures.value ∙ ap (λ command. Some (command_seen command)) c.in-Some-Try.field-0-is in
+    words-no_memory _ _ _ _ words command is_command (c.run_try-status.ensures.no_memory e (g.M.MeshSink.meshes c.args.meshes.now) _)
+
+pub returns-in-Some-Try-clause-complete : goal.returns-in-Some-Try-clause-complete
+returns-in-Some-Try-clause-complete g c files are accepted shelf_same meshes_same report_same =
+    let words : List (List ℕ) = map string_bytes c.args.words.now in
+    let cause = c.run_try-status.ensures.faults (g.F.Shelf.faults c.args.shelf.now) (g.M.MeshSink.faults c.args.meshes.now) in
+    accepted-done c.run_laws.ensures.done _ _ _ _ words files accepted _ (returns-in-Some-Try-clause-outcome g c files are)
+    (not-read _ _ _ _ _ _ _ c.requires.shelf_faults shelf_same cause)
+    (not-write _ _ _ _ _ _ _ c.requires.mesh_faults c.requires.report_faults meshes_same report_same cause)
+
+pub returns-in-Some-Try-clause-certificate : goal.returns-in-Some-Try-clause-certificate
+returns-in-Some-Try-clause-certificate g c files end = c.run_laws.ensures.certificate (map string_bytes c.args.words.now) files end
+
+pub returns-in-Some-Try-clause-faults : goal.returns-in-Some-Try-clause-faults
+returns-in-Some-Try-clause-faults g c = c.run_try-status.ensures.faults (g.F.Shelf.faults c.args.shelf.now) (g.M.MeshSink.faults c.args.meshes.now)
+
+pub returns-in-Some-Try-clause-write_cause : goal.returns-in-Some-Try-clause-write_cause
+returns-in-Some-Try-clause-write_cause g c =
+    write-cause _ _ _ _ c.requires.mesh_faults c.requires.report_faults
+    (c.run_try-status.ensures.faults (g.F.Shelf.faults c.args.shelf.now) (g.M.MeshSink.faults c.args.meshes.now)).writes

@@ -1,0 +1,106 @@
+//! The frames of a generated run, and what they sum up to.
+
+ghost use Rattle.std.specs.Prelude.{◌≡◌, ◌+◌, ◌*◌, ◌^◌, ◌<◌, ◌≤◌, max, is_some, [], length, if◌then◌else◌, IfOk, OnOk};
+ghost use Rattle.roam_run.specs.SumView.{IsSumOf, HasGone, SumsUp};
+
+use crate::mesh::FrameMesh;
+use crate::scene::Scene;
+use roam_edge::NoMemory;
+use roam_gen::{gen_grid, gen_line, generator_laws};
+use roam_script::Line;
+use std::alloc::Global;
+
+/// The budget of a generated run.
+const BUDGET: u32 = 20_000;
+
+/// The world units of its grid step.
+const SPACING: u32 = 30;
+
+/// The lines of its script.
+const LINES: u32 = 105;
+
+/// What frames sum up to.
+#[derive(Clone, Copy)]
+pub(crate) struct Sums {
+    /// How many frames there are.
+    pub(crate) frames: u32,
+    /// How many triangles their meshes have, all together.
+    pub(crate) triangles: u64,
+    /// The greatest priority of a triangle of their meshes.
+    pub(crate) worst: u64,
+    /// How many of them have a triangle at which the budget ended.
+    pub(crate) blocked: u32,
+}
+
+impl Sums {
+    /// Before the first frame.
+    fn none() -> Sums
+        ensures { IsSumOf [] result }
+    {
+        Sums {
+            frames: 0,
+            triangles: 0,
+            worst: 0,
+            blocked: 0,
+        }
+    }
+
+    /// Adds a frame.
+    fn add(&mut self, mesh: &FrameMesh)
+        requires frames { self.old.frames < 105 }
+        requires triangles { self.old.triangles ≤ 105 * 2 ^ 33 }
+        requires blocked { self.old.blocked < 105 }
+        requires counted { mesh.now.size ≡ length mesh.now.split.members }
+        ensures frames { self.new.frames ≡ self.old.frames + 1 }
+        ensures triangles { self.new.triangles ≡ self.old.triangles + (length mesh.now.split.members + 2) }
+        ensures few { self.new.triangles ≤ self.old.triangles + 2 ^ 33 }
+        ensures worst { self.new.worst ≡ max self.old.worst mesh.now.worst }
+        ensures blocked { self.new.blocked ≡ self.old.blocked + (if is_some mesh.now.blocked then 1 else 0) }
+    {
+        self.frames += 1;
+        // A mesh has two triangles more than are split.
+        self.triangles += u64::from(mesh.size) + 2;
+        self.worst = self.worst.max(mesh.worst);
+        if mesh.blocked.is_some() {
+            self.blocked += 1;
+        }
+    }
+}
+
+/// The sums of all frames of the generated script, on the generated grid.
+pub(crate) fn sums_of(alloc: Global, n: u32, seed: u32) -> Result<Sums, NoMemory>
+    requires n_low { 1 ≤ n }
+    requires n_high { n ≤ 11 }
+    ensures { IfOk result (SumsUp n seed) }
+{
+    let grid = gen_grid(alloc, n, seed)?;
+    let mut scene = Scene::new(alloc, grid, SPACING, BUDGET)?;
+    let mut sums = Sums::none();
+    for k in 0..LINES {
+        take_line(alloc, n, seed, k, &mut scene, &mut sums)?;
+    }
+    Ok(sums)
+}
+
+/// Carries out the line behind the first k of the generated script. A frame line adds the mesh of the scene.
+fn take_line(
+    alloc: Global,
+    n: u32,
+    seed: u32,
+    k: u32,
+    scene: &mut Scene,
+    sums: &mut Sums,
+) -> Result<(), NoMemory>
+    requires n_low { 1 ≤ n }
+    requires n_high { n ≤ 11 }
+    requires k { k < 105 }
+    requires here { HasGone n seed k scene.old sums.old }
+    ensures { OnOk result (HasGone n seed (k + 1) scene.new sums.new) }
+{
+    generator_laws();
+    match gen_line(n, seed, k + 1) {
+        Line::Frame => sums.add(&FrameMesh::make(alloc, scene)?),
+        line => scene.apply(line),
+    }
+    Ok(())
+}
