@@ -61,7 +61,7 @@ fn explanation(status: Status) -> Option<&'static str>
         Status::NoMemory => Some("roam: out of memory"),
         Status::Usage => {
             Some(
-                "usage: roam info GRID, or roam mesh GRID SCRIPT PREFIX BUDGET SPACING   (PREFIX has 1 to 200 bytes, BUDGET is 2 to 1048576, SPACING 1 to 1024)",
+                "usage: roam info GRID, or roam try N SEED, or roam mesh GRID SCRIPT PREFIX BUDGET SPACING   (PREFIX has 1 to 200 bytes, BUDGET is 2 to 1048576, SPACING 1 to 1024, N 1 to 11, SEED 0 to 4294967295)",
             )
         }
         Status::ReadFault => Some("roam: the grid or the script could not be opened or read"),
