@@ -359,6 +359,12 @@ start info_on_a_grid_that_is_not_there
 run info none
 expect 5 0 ''
 
+# --- A generated run. ---
+
+start try_of_the_least_level
+run try 01 1
+expect 0 0 'try 1 1 frames 50 triangles 400 worst 0 blocked 0\n'
+
 # --- Words. ---
 
 long=$(printf '%0200d' 0)
@@ -376,6 +382,8 @@ usage six_words_after_the_command mesh g s out 2 1 1
 usage an_unknown_command fly g s out 2 1
 usage info_without_a_grid info
 usage info_with_a_script info g s
+usage a_level_of_12 try 12 1
+usage a_seed_beyond_the_greatest try 9 4294967296
 usage info_with_the_words_of_mesh info g s out 2 1
 usage a_command_in_capitals MESH g s out 2 1
 usage a_budget_of_1 mesh g s out 1 1

@@ -216,7 +216,7 @@ module _ (n seed k : ℕ) (state : State) (sums : Sums) (here : HasGone n seed k
         blocked = (let a = here.summed.blocked in blocked ∙ (ap (λ (c : ℕ). c + one_if mesh.blocked) a ∙ sym (blocked-more here.pictures p)));
       })
       (let f = here.few.frames in let t = here.few.triangles in let b = here.few.blocked in
-          record { frames = omega (arith, f, frames); triangles = omega (arith, t, few); blocked = (let one = one-low mesh.blocked in omega (arith, b, blocked, one)) })
+      record { frames = omega (arith, f, frames); triangles = omega (arith, t, few); blocked = (let one = one-low mesh.blocked in omega (arith, b, blocked, one)) })
       here.level here.heights
 
 -- the end of a generated run

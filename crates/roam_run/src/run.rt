@@ -15,8 +15,8 @@ ghost use Rattle.roam_run.specs.Taking.{DoesAs};
 ghost use Rattle.roam_run.specs.Leaving.{CommandEnds, CommandReadFault, CommandNoMemory};
 ghost use Rattle.roam_run.specs.WordView.{scripted_seen, IsMeshCommand};
 
-use crate::grid_file::{GridStop, read_grid};
 use crate::generated::sums_of;
+use crate::grid_file::{GridStop, read_grid};
 use crate::info::info_report;
 use crate::report::{grid_report, try_report};
 use crate::scene::Scene;

@@ -630,10 +630,26 @@ fn info_tells_side_heights_and_thickness(rt: HostRuntime) -> Result<(), Fail> {
 fn try_tells_the_sums_of_fifty_generated_frames(rt: HostRuntime) -> Result<(), Fail> {
     // The 8, 32 and 128 triangles of the finest meshes, each fifty times.
     let cases = [
-        ("1", "1", "try 1 1 frames 50 triangles 400 worst 0 blocked 0\n"),
-        ("02", "007", "try 2 7 frames 50 triangles 1600 worst 0 blocked 0\n"),
-        ("1", "4294967295", "try 1 4294967295 frames 50 triangles 400 worst 0 blocked 0\n"),
-        ("3", "0", "try 3 0 frames 50 triangles 6400 worst 0 blocked 0\n"),
+        (
+            "1",
+            "1",
+            "try 1 1 frames 50 triangles 400 worst 0 blocked 0\n",
+        ),
+        (
+            "02",
+            "007",
+            "try 2 7 frames 50 triangles 1600 worst 0 blocked 0\n",
+        ),
+        (
+            "1",
+            "4294967295",
+            "try 1 4294967295 frames 50 triangles 400 worst 0 blocked 0\n",
+        ),
+        (
+            "3",
+            "0",
+            "try 3 0 frames 50 triangles 6400 worst 0 blocked 0\n",
+        ),
     ];
     for (level, seed, line) in cases {
         let (ran, calls) = run_frail(rt.alloc(), &["try", level, seed], b"", 64, 0)?;
@@ -642,7 +658,26 @@ fn try_tells_the_sums_of_fifty_generated_frames(rt: HostRuntime) -> Result<(), F
         assert_eq!(rt; ran.meshes.count(), 0);
         assert_eq!(rt; calls, 0);
     }
-    let ran = run_with(rt.alloc(), &["try", "1", "1"], b"", b"", MeshCall::Begin(0), 1)?;
+    for (level, seed) in [
+        ("0", "1"),
+        ("12", "1"),
+        ("9", "4294967296"),
+        ("9", "-1"),
+        ("", "1"),
+    ] {
+        let (ran, calls) = run_frail(rt.alloc(), &["try", level, seed], b"", 64, 0)?;
+        assert_eq!(rt; ran.status, Status::Usage);
+        assert_eq!(rt; ran.report.bytes(), b"".as_slice());
+        assert_eq!(rt; calls, 0);
+    }
+    let ran = run_with(
+        rt.alloc(),
+        &["try", "1", "1"],
+        b"",
+        b"",
+        MeshCall::Begin(0),
+        1,
+    )?;
     assert_eq!(rt; ran.status, Status::WriteFault);
     assert_eq!(rt; ran.report.bytes(), b"".as_slice());
     Ok(())
@@ -661,12 +696,6 @@ fn words_that_are_no_command_open_nothing(rt: HostRuntime) -> Result<(), Fail> {
         ["mesh", "g", "s", "", "2", "1"].as_slice(),
         ["info"].as_slice(),
         ["info", "g", "s"].as_slice(),
-        ["try", "1"].as_slice(),
-        ["try", "0", "1"].as_slice(),
-        ["try", "12", "1"].as_slice(),
-        ["try", "9", "4294967296"].as_slice(),
-        ["try", "9", "-1"].as_slice(),
-        ["try", "9", "1", "1"].as_slice(),
     ]?;
     for words in cases {
         let (ran, calls) = run_frail(rt.alloc(), words, b"frame\n", 64, 0)?;
