@@ -685,19 +685,18 @@ fn try_tells_the_sums_of_fifty_generated_frames(rt: HostRuntime) -> Result<(), F
 
 #[test]
 fn words_that_are_no_command_open_nothing(rt: HostRuntime) -> Result<(), Fail> {
-    let cases: Vec<&[&str]> = vec![in rt.alloc();
+    for words in [
         [].as_slice(),
-        ["mesh", "g", "s", "out", "2"].as_slice(),
-        ["mesh", "g", "s", "out", "1", "1"].as_slice(),
-        ["mesh", "g", "s", "out", "1048577", "1"].as_slice(),
-        ["mesh", "g", "s", "out", "4x", "1"].as_slice(),
-        ["mesh", "g", "s", "out", "2", "0"].as_slice(),
-        ["mesh", "g", "s", "out", "2", "1025"].as_slice(),
-        ["mesh", "g", "s", "", "2", "1"].as_slice(),
-        ["info"].as_slice(),
-        ["info", "g", "s"].as_slice(),
-    ]?;
-    for words in cases {
+        &["mesh", "g", "s", "out", "2"],
+        &["mesh", "g", "s", "out", "1", "1"],
+        &["mesh", "g", "s", "out", "1048577", "1"],
+        &["mesh", "g", "s", "out", "4x", "1"],
+        &["mesh", "g", "s", "out", "2", "0"],
+        &["mesh", "g", "s", "out", "2", "1025"],
+        &["mesh", "g", "s", "", "2", "1"],
+        &["info"],
+        &["info", "g", "s"],
+    ] {
         let (ran, calls) = run_frail(rt.alloc(), words, b"frame\n", 64, 0)?;
         assert_eq!(rt; ran.status, Status::Usage, "{words:?}");
         assert_eq!(rt; calls, 0, "{words:?}");
