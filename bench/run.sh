@@ -98,6 +98,14 @@ small_budget=$(least "$program" mesh "$jacksboro" "$room/one" out 2000 90)
 small_budget_memory=$(peak "$program" mesh "$jacksboro" "$room/one" out 2000 90)
 large_budget=$(least "$program" mesh "$jacksboro" "$room/one" out 20000 90)
 large_budget_memory=$(peak "$program" mesh "$jacksboro" "$room/one" out 20000 90)
+for ((k = 0; k < 50; k++)); do
+  echo "camera $((1000 + 400 * k)) $((1000 + 400 * k)) 1200"
+  echo frame
+done >"$room/flight"
+flight=$(least "$program" mesh "$jacksboro" "$room/flight" out 20000 90)
+flight_memory=$(peak "$program" mesh "$jacksboro" "$room/flight" out 20000 90)
+made_terrain=$(least "$program" try 9 1)
+made_terrain_memory=$(peak "$program" try 9 1)
 rough_grid 1025 >"$room/rough.pgm"
 rough=$(least "$program" mesh "$room/rough.pgm" "$room/one" out 20000 30)
 rough_memory=$(peak "$program" mesh "$room/rough.pgm" "$room/one" out 20000 30)
@@ -115,6 +123,8 @@ cat <<TABLE
 | info on a grid of side 2049: peak memory | 8,396,802 bytes of heights | $info_memory MB | | under 150 MB beyond the grid |
 | the Jacksboro grid, side 257, budget 2,000, one frame | 131,070 splittable triangles | $small_budget s, $small_budget_memory MB | | |
 | the Jacksboro grid, side 257, budget 20,000, one frame | 131,070 splittable triangles | $large_budget s, $large_budget_memory MB | | under 1 s |
+| a flight of 50 frames over the Jacksboro grid, budget 20,000 | a camera move before each frame | $flight s, $flight_memory MB | | |
+| try 9 1 | 50 frames over made terrain of side 513 | $made_terrain s, $made_terrain_memory MB | | |
 | a rough grid of side 1025, budget 20,000, one frame | 2,097,150 splittable triangles | $rough s, $rough_memory MB | | |
 | $frames frames on a 3x3 grid: time | $frames files of 48 bytes | $many s, $(a_frame "$many") us a frame | | |
 | the same files by a loop of the shell | $frames files of 48 bytes | $loop s, $(a_frame "$loop") us a file | program / loop $(ratio "$many" "$loop") | at most 1 |
@@ -154,19 +164,27 @@ if [ -x "$single" ]; then
   echo "| the wedges of a rough grid, n = 11, the filling of the grid with it | $calls call | $building s | | under 0.5 s |"
   read -r _ _ calls _ found _ seconds <<<"$(fastest ranks)"
   echo "| the rank of every triangle of that grid without planes, n = 11 | $calls calls, $found positive | $(awk -v s="$seconds" -v b="$building" -v n="$calls" 'BEGIN { printf "%.1f", 1000000000 * (s - b) / n }') ns a call | | under 60 ns |"
-  # The pool of linked triangles: made, and filled level by level; then emptied, planned over, or refined by force.
-  new=$(seconds_of pool_new)
-  echo "| the greatest pool made, n = 11 | 1,048,576 leaves | $(awk -v s="$new" 'BEGIN { printf "%.1f", 100 * s }') ms | | under 15 ms |"
-  read -r _ _ splits _ _ _ filling <<<"$(fastest pool_split)"
-  # nanoseconds CALLS SECONDS LESS
-  nanoseconds() { awk -v n="$1" -v s="$2" -v less="$3" 'BEGIN { printf "%.0f ns", 1e9 * (s - less) / n }'; }
-  echo "| a diamond split, the pool filled level by level | $splits diamonds | $(nanoseconds "$splits" "$filling" "$(awk -v s="$new" 'BEGIN { print s / 10 }')") | | |"
-  read -r _ _ calls _ _ _ seconds <<<"$(fastest pool_merge)"
-  echo "| a diamond merged, the full pool emptied | $((calls - splits)) diamonds | $(nanoseconds "$((calls - splits))" "$seconds" "$filling") | | |"
-  read -r _ _ calls _ _ _ seconds <<<"$(fastest pool_plan)"
-  echo "| the forced chain of each leaf of the full pool | $((calls - splits)) leaves | $(nanoseconds "$((calls - splits))" "$seconds" "$filling") | | |"
-  read -r _ _ calls _ diamonds _ seconds <<<"$(fastest pool_carry_out)"
-  echo "| a random leaf of a pool that fills split by force, the walk to it with it | $calls leaves, $((diamonds - 1048575)) diamonds | $(nanoseconds "$((diamonds - 1048575))" "$seconds" 0) a diamond | | |"
+  # The pool of linked triangles: made; filled level by level, then emptied or planned over; refined by force.
+  plain_pool=
+  if command -v rustc >"$room/said" && rustc -O --edition 2021 "$here/pool.rs" -o "$room/pool" 2>"$room/said"; then
+    plain_pool=$room/pool
+  fi
+  # pool_row CASE CALLS WHAT TARGET: the least seconds of ours and of the plain pool, which has to find the same.
+  pool_row() {
+    local ours found plain plain_found beside='no rustc'
+    read -r _ _ _ _ found _ ours <<<"$(fastest "$1")"
+    if [ -n "$plain_pool" ]; then
+      read -r _ _ _ _ plain_found _ plain <<<"$(for ((k = 0; k < runs; k++)); do "$plain_pool" "$1"; done | sort -t ' ' -k 7 -n | head -n 1)"
+      [ "$plain_found" = "$found" ] || { echo "bench/run.sh: the two pools differ in $1: $found and $plain_found" >&2; exit 1; }
+      beside="plain Rust $plain s, ours / plain $(ratio "$ours" "$plain")"
+    fi
+    echo "| $3 | $2 | $ours s | $beside | $4 |"
+  }
+  pool_row pool_new '10 calls' 'the greatest pool made, n = 11, 1,048,576 leaves' 'under 0.15 s; at most 1.2'
+  pool_row pool_split '525,309 diamonds split' 'that pool made and filled level by level' 'at most 1.2'
+  pool_row pool_merge 'as many split and merged' 'that pool filled and emptied' 'at most 1.2'
+  pool_row pool_plan '1,048,576 chains' 'that pool filled, and the forced chain of each leaf planned' 'at most 1.2'
+  pool_row pool_carry_out '400,000 leaves' 'that pool refined by force at random leaves, the walk to each with it' 'at most 1.2'
 else
   echo "bench/run.sh: $single is not built, so single calls are not timed; rt ci builds it" >&2
 fi
