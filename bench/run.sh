@@ -144,7 +144,7 @@ if [ -x "$single" ]; then
   read -r _ _ calls _ found _ seconds <<<"$(fastest forced)"
   echo "| the deepest corner triangle split by force on the empty set, n = 11 | $calls calls, $found triangles split | $(awk -v s="$seconds" -v n="$calls" 'BEGIN { printf "%.1f", 1000000 * s / n }') us a call | | under 1 ms |"
   read -r _ _ calls _ found _ seconds <<<"$(fastest heap)"
-  if command -v rustc >"$room/said" && rustc -O --edition 2021 "$here/heap.rs" -o "$room/heap" 2>"$room/said"; then
+  if command -v rustc >"$room/said" && rustc -O --edition 2021 "$top/bench/heap.rs" -o "$room/heap" 2>"$room/said"; then
     read -r _ _ _ _ plain_found _ plain <<<"$(for ((k = 0; k < runs; k++)); do "$room/heap"; done | sort -t ' ' -k 7 -n | head -n 1)"
     [ "$plain_found" = "$found" ] || { echo "bench/run.sh: the two heaps differ: $found and $plain_found" >&2; exit 1; }
     echo "| random calls of a heap of 262,144 slots with keys of 16 bytes | $calls calls, sum $found | $seconds s | plain Rust $plain s, ours / plain $(ratio "$seconds" "$plain") | at most 1.2 |"
@@ -166,7 +166,7 @@ if [ -x "$single" ]; then
   echo "| the rank of every triangle of that grid without planes, n = 11 | $calls calls, $found positive | $(awk -v s="$seconds" -v b="$building" -v n="$calls" 'BEGIN { printf "%.1f", 1000000000 * (s - b) / n }') ns a call | | under 60 ns |"
   # The pool of linked triangles: made; filled level by level, then emptied or planned over; refined by force.
   plain_pool=
-  if command -v rustc >"$room/said" && rustc -O --edition 2021 "$here/pool.rs" -o "$room/pool" 2>"$room/said"; then
+  if command -v rustc >"$room/said" && rustc -O --edition 2021 "$top/bench/pool.rs" -o "$room/pool" 2>"$room/said"; then
     plain_pool=$room/pool
   fi
   # pool_row CASE CALLS WHAT TARGET: the least seconds of ours and of the plain pool, which has to find the same.
