@@ -158,6 +158,7 @@ fn a_script_is_written_and_its_lines_are_read_back(rt: HostRuntime) -> Result<()
     assert_eq!(rt; checksum(file.bytes()), 8_340_262_778_364_984_719);
     let mut number = 0;
     for text in file.bytes().split(|byte| *byte == b'\n') {
+        assert!(rt; number < 106);
         number += 1;
         let limits = Limits {
             n: 9,
