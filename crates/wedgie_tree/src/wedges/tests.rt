@@ -1,6 +1,6 @@
 //! Thickness, heights and boxes in grids of side 2 and 4, against numbers worked by hand.
 
-ghost use Rattle.std.specs.Prelude.{◌*◌, ◌≤◌, IfSome};
+ghost use Rattle.std.specs.Prelude.{◌≡◌, ◌*◌, ◌≤◌, IfOk, IfSome};
 ghost use Rattle.mesh_defs.specs.Triangle.{level_of};
 
 use super::*;
@@ -24,6 +24,19 @@ fn wedges_of(alloc: Global, bytes: &[u8]) -> Result<Wedges, Fail> {
     let mut reader = PgmReader::new(alloc);
     reader.feed(bytes)?;
     Ok(Wedges::build(alloc, reader.finish()?)?)
+}
+
+/// The same for a grid of nine points with this bound.
+fn nine(alloc: Global, bytes: &[u8], maxval: u16) -> Result<Wedges, Fail>
+    ensures n { IfOk result (λ wedges. wedges.n ≡ 1) }
+    ensures maxval { IfOk result (λ wedges. wedges.maxval ≡ maxval) }
+{
+    let wedges = wedges_of(alloc, bytes)?;
+    if wedges.grid().n() == 1 && wedges.grid().maxval() == maxval {
+        Ok(wedges)
+    } else {
+        Err("a grid of nine points".into())
+    }
 }
 
 /// The address, if the grid has it.
@@ -95,7 +108,7 @@ const SMALL_BOUND: [u8; 20] = *b"P5\n3 3\n255\n\0\0\0\0\x0a\0\0\0\0";
 
 #[test]
 fn a_height_that_is_set_moves_the_thickness(rt: HostRuntime) -> Result<(), Fail> {
-    let mut wedges = wedges_of(rt.alloc(), &SMALL_BOUND)?;
+    let mut wedges = nine(rt.alloc(), &SMALL_BOUND, 255)?;
     wedges.set(1, 1, 0);
     wedges.set(1, 0, 10);
     for (number, thickness, high) in [(2, 20, 10), (3, 0, 0), (4, 20, 10), (5, 0, 0), (8, 0, 10)] {
@@ -108,7 +121,7 @@ fn a_height_that_is_set_moves_the_thickness(rt: HostRuntime) -> Result<(), Fail>
 
 #[test]
 fn a_row_goes_from_its_point_to_the_right(rt: HostRuntime) -> Result<(), Fail> {
-    let mut wedges = wedges_of(rt.alloc(), &SLOPE)?;
+    let mut wedges = nine(rt.alloc(), &SLOPE, 65535)?;
     let heights = [7, 8];
     wedges.set_row(1, 2, &heights);
     assert_eq!(rt;
@@ -125,7 +138,7 @@ fn a_row_goes_from_its_point_to_the_right(rt: HostRuntime) -> Result<(), Fail> {
 
 #[test]
 fn an_area_is_raised_within_the_bounds(rt: HostRuntime) -> Result<(), Fail> {
-    let mut wedges = wedges_of(rt.alloc(), &SLOPE)?;
+    let mut wedges = nine(rt.alloc(), &SLOPE, 65535)?;
     wedges.raise(Area::new(0, 0, 1, 1), -6);
     assert_eq!(rt;
         wedges.grid().heights(),
@@ -145,7 +158,7 @@ fn an_area_is_raised_within_the_bounds(rt: HostRuntime) -> Result<(), Fail> {
             "heights of {number}"
         );
     }
-    let mut wedges = wedges_of(rt.alloc(), &SMALL_BOUND)?;
+    let mut wedges = nine(rt.alloc(), &SMALL_BOUND, 255)?;
     wedges.raise(Area::new(0, 0, 2, 2), 250);
     assert_eq!(rt;
         wedges.grid().heights(),
