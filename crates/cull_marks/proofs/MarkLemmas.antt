@@ -1,5 +1,5 @@
 -- Boxes that lie in one another have marks that follow from each other.
-use Rattle.std.proofs.lemmas.Bool.{true≢false}
+use Rattle.std.proofs.lemmas.Bool.{or_parts}
 use Rattle.std.proofs.Common.{◌≡◌, Bool, true, false, ◌||◌, List, [], ◌∷◌, refl, sym, ◌∙◌, arith, if◌then◌else◌, ℤ, pos, ◌≤ℤ◌, int_lt}
 use Rattle.std.specs.List.{list_any}
 use Rattle.std.proofs.lemmas.Int.{ints}
@@ -83,13 +83,9 @@ some_outside-inner p inner outer i e =
 
 -- ---- all planes
 
-or-false : (a b : Bool) → (a || b) ≡ false → (a ≡ false) × (b ≡ false)
-or-false true b e = absurd (true≢false e)
-or-false false b e = (refl, e)
-
 -- what has no corner outside is not all outside
 all_outside-none : (box : BoundingBox) (p : ViewPlane) → is_some_outside box p ≡ false → is_all_outside box p ≡ false
-all_outside-none box p e = all-false (outside_corners box p) 0 (or-false _ _ e).0
+all_outside-none box p e = all-false (outside_corners box p) 0 (or_parts _ _ e).0
 
 kept_step : (a b c d : Bool) → (a ≡ true → b ≡ true) → (c ≡ true → d ≡ true) → (a || c) ≡ true → (b || d) ≡ true
 kept_step true b c d here there e = rw (here refl) refl
@@ -108,7 +104,7 @@ list_any-none : (f g : ViewPlane → Bool) → ((p : ViewPlane) → f p ≡ fals
     (planes : List ViewPlane) → list_any f planes ≡ false → list_any g planes ≡ false
 list_any-none f g keeps [] e = e
 list_any-none f g keeps (p ∷ planes) e =
-    let parts : (f p ≡ false) × (list_any f planes ≡ false) = or-false (f p) (list_any f planes) e in
+    let parts : (f p ≡ false) × (list_any f planes ≡ false) = or_parts (f p) (list_any f planes) e in
     rw (keeps p parts.0, list_any-none f g keeps planes parts.1) refl
 
 -- ---- marks

@@ -1,7 +1,7 @@
 -- Ascending lists: what a binary search finds in them, and an insert at its place.
-use Rattle.std.proofs.Common.{◌≡◌, ℕ, zero, suc, ◌<◌, ◌≤◌, ◌⊎◌, inl, inr, Bool, true, false, eqb, ◌||◌, List, [], ◌∷◌, length, take, drop, get_or, All, Result, Ok, Err, is_ok, refl, sym, ◌∙◌, ap, ap₂, subst, arith, ⊎_elim, take-append-drop}
-use Rattle.std.proofs.lemmas.Bool.{cases_lt, cases_Bool, false≢true, false_from_ne_true, eqb-true}
-use Rattle.std.proofs.lemmas.List.Elements.{All-nil, All-cons, All-head, All-tail, All-contains}
+use Rattle.std.proofs.Common.{◌≡◌, ℕ, zero, suc, ◌<◌, ◌≤◌, inl, inr, Bool, true, false, eqb, ◌||◌, List, [], ◌∷◌, length, take, drop, get_or, All, Result, Ok, Err, is_ok, refl, sym, ◌∙◌, ap, subst, arith, ⊎_elim, take-append-drop}
+use Rattle.std.proofs.lemmas.Bool.{cases_lt, false≢true, false_from_ne_true, eqb-true}
+use Rattle.std.proofs.lemmas.List.Elements.{All-nil, All-cons, All-head, All-tail}
 use Rattle.std.proofs.lemmas.List.Folds.{list_any-append}
 use Rattle.std.proofs.lemmas.List.Sorted.{searched}
 use Rattle.std.specs.List.{insert}
@@ -9,10 +9,8 @@ use Rattle.std.specs.List.Sorted.{IsBinarySearchResult}
 use Rattle.std.specs.Ordering.{nat_cmp}
 use Rattle.mesh_defs.specs.ClosedSet.{among}
 use Rattle.mesh_defs.specs.Greedy.{with_triangle}
-use Rattle.mesh_defs.specs.GridSet.{IsAscending, IsGridSet, IsGain}
-use Rattle.mesh_defs.proofs.ListLemmas.{IsIn, IsIn-among, among-in, Contains-in}
-use Rattle.closure_laws.proofs.ForcingLemmas.{IsLeastClosed-member}
-use Rattle.closure_laws.proofs.ClosureLemmas.{IsLeastClosed-unique}
+use Rattle.mesh_defs.specs.GridSet.{IsAscending}
+use Rattle.mesh_defs.proofs.ListLemmas.{IsIn, IsIn-among, among-in}
 
 -- places
 

@@ -12,6 +12,8 @@ use Rattle.height_edit.specs.Weights.{weight_in, weights, offspring}
 use Rattle.height_edit.proofs.WeightLemmas.{weight-children, weight-held, weight-not-held, weight-halves}
 use Rattle.std.proofs.Math.Nat.{pow-succ'}
 use Rattle.std.proofs.lemmas.Nat.{pow_pos}
+use Rattle.std.proofs.lemmas.Bool.{or_parts}
+use Rattle.bintree_laws.proofs.LevelLemmas.{pow_next}
 
 -- ---- the halves of the square
 
@@ -65,10 +67,6 @@ turn-laws below children left right even = record {
       counterclockwise n a (record { low = split.low; high = omega arith });
 }
 
-neither : (b c : Bool) → (b || c) ≡ false → (b ≡ false) × (c ≡ false)
-neither false c h = (refl, h)
-neither true c h = absurd (cc)
-
 -- two addresses, of which neither holds the point
 pair-none : (n : ℕ) (p : Point) (a : ℕ) → holds_point n a p ≡ false → holds_point n (a + 1) p ≡ false → held_from n p a 2 ≡ []
 pair-none n p a first second = rw (first, second) refl
@@ -93,7 +91,7 @@ offspring-held laws n p (suc count) from split =
     let parts : Whole (2 * suc count) = subst Whole twice (subst Later place (held-append n p 2 (2 * from) (2 * count))) in
     offspring-cond n p (holds_point n from p) from (held_from n p (from + 1) count)
     (λ out. let both : (holds_point n (2 * from) p ≡ false) × (holds_point n (2 * from + 1) p ≡ false) =
-    neither _ _ (sym (laws.children n from p here) ∙ out) in pair-none n p (2 * from) both.0 both.1)
+    or_parts _ _ (sym (laws.children n from p here) ∙ out) in pair-none n p (2 * from) both.0 both.1)
     ∙ ap (λ t. held_from n p (2 * from) 2 ++ t)
     (offspring-held laws n p count (from + 1) (λ a low high. split a (omega arith) (omega arith)))
     ∙ sym parts
@@ -207,15 +205,12 @@ pub record IsFound (n : ℕ) (p : Point) (d : ℕ) (level all : List ℕ) : Type
   pub all_is : all ≡ held_from n p 2 (2 ^ (d + 2) - 2)
   pub few : length all ≤ 8 * (d + 1)
 
-pow-next : (k : ℕ) → 2 ^ (k + 1) ≡ 2 * 2 ^ k
-pow-next k = ap (λ i. 2 ^ i) (let next : k + 1 ≡ suc k = omega arith in next) ∙ pow-succ' 2 k
-
 -- the addresses of a level that is not the finest
 pub level-splittable : ((a k : ℕ) → 2 ≤ a → ((level_of a < k) ↔ (a < 2 ^ (k + 1)))) → (n d : ℕ) → d < 2 * n → (a : ℕ) →
     2 ^ (d + 1) ≤ a → a < 2 ^ (d + 1) + 2 ^ (d + 1) → IsSplittable n a
 level-splittable below n d coarse a low high =
-    let twice : 2 ^ (d + 1 + 1) ≡ 2 * 2 ^ (d + 1) = pow-next (d + 1) in
-    let some : 2 ≤ a = omega (arith, pow-next d, pow_pos d) in
+    let twice : 2 ^ (d + 1 + 1) ≡ 2 * 2 ^ (d + 1) = pow_next (d + 1) in
+    let some : 2 ≤ a = omega (arith, pow_next d, pow_pos d) in
     let lt : level_of a < d + 1 = (below a (d + 1) some).1 (omega arith) in
     record { low = some; coarse = omega arith }
 
@@ -235,7 +230,7 @@ IsFound-bases n p level all is same =
 pub next-level : TurnLaws → ((a k : ℕ) → 2 ≤ a → ((level_of a < k) ↔ (a < 2 ^ (k + 1)))) → (n : ℕ) (p : Point) (d : ℕ) (level all : List ℕ) →
     d < 2 * n → IsFound n p d level all → offspring n p level ≡ held_from n p (2 ^ (d + 1 + 1)) (2 ^ (d + 1 + 1))
 next-level laws below n p d level all coarse found =
-    let twice : 2 * 2 ^ (d + 1) ≡ 2 ^ (d + 1 + 1) = sym (pow-next (d + 1)) in
+    let twice : 2 * 2 ^ (d + 1) ≡ 2 ^ (d + 1 + 1) = sym (pow_next (d + 1)) in
     let P : ℕ → Type 0 = λ k. offspring n p (held_from n p (2 ^ (d + 1)) (2 ^ (d + 1))) ≡ held_from n p k k in
     let Q : List ℕ → Type 0 = λ xs. offspring n p xs ≡ held_from n p (2 ^ (d + 1 + 1)) (2 ^ (d + 1 + 1)) in
     subst Q (sym found.level_is) (subst P twice (offspring-held laws n p (2 ^ (d + 1)) (2 ^ (d + 1)) (level-splittable below n d coarse)))
@@ -275,8 +270,8 @@ pub IsFound-next : TurnLaws → ((a k : ℕ) → 2 ≤ a → ((level_of a < k) �
 IsFound-next laws below n p d level all next more coarse found is joined =
     let level_is : next ≡ held_from n p (2 ^ (d + 1 + 1)) (2 ^ (d + 1 + 1)) = is ∙ next-level laws below n p d level all coarse found in
     let same : 2 ^ (d + 2) ≡ 2 ^ (d + 1 + 1) = ap (λ k. 2 ^ k) (let two : d + 2 ≡ d + 1 + 1 = omega arith in two) in
-    let third : 2 ^ (d + 1 + 2) ≡ 2 * 2 ^ (d + 2) = ap (λ k. 2 ^ k) (let three : d + 1 + 2 ≡ d + 2 + 1 = omega arith in three) ∙ pow-next (d + 2) in
-    let some : 2 ≤ 2 ^ (d + 2) = omega (arith, pow-next (d + 1), pow_pos (d + 1), same) in
+    let third : 2 ^ (d + 1 + 2) ≡ 2 * 2 ^ (d + 2) = ap (λ k. 2 ^ k) (let three : d + 1 + 2 ≡ d + 2 + 1 = omega arith in three) ∙ pow_next (d + 2) in
+    let some : 2 ≤ 2 ^ (d + 2) = omega (arith, pow_next (d + 1), pow_pos (d + 1), same) in
     let start : 2 + (2 ^ (d + 2) - 2) ≡ 2 ^ (d + 1 + 1) = omega (arith, same) in
     let whole : (2 ^ (d + 2) - 2) + 2 ^ (d + 1 + 1) ≡ 2 ^ (d + 1 + 2) - 2 = omega (arith, same, third) in
     let At : ℕ → Type 0 = λ k. held_from n p 2 ((2 ^ (d + 2) - 2) + 2 ^ (d + 1 + 1)) ≡ held_from n p 2 (2 ^ (d + 2) - 2) ++ held_from n p k (2 ^ (d + 1 + 1)) in
@@ -306,7 +301,7 @@ child-high below n level i a low is lt all =
     let P : ℕ → Type 0 = λ b. level_of b < 2 * n in
     let coarse : level_of a < 2 * n = subst P (sym is) (all i 0 lt) in
     let high : a < 2 ^ (2 * n + 1) = (below a (2 * n) low).0 coarse in
-    let twice : 2 ^ (2 * n + 1 + 1) ≡ 2 * 2 ^ (2 * n + 1) = pow-next (2 * n + 1) in
+    let twice : 2 ^ (2 * n + 1 + 1) ≡ 2 * 2 ^ (2 * n + 1) = pow_next (2 * n + 1) in
     let same : 2 ^ (2 * n + 2) ≡ 2 ^ (2 * n + 1 + 1) = ap (λ k. 2 ^ k) (let two : 2 * n + 2 ≡ 2 * n + 1 + 1 = omega arith in two) in
     omega (arith, same, twice)
 

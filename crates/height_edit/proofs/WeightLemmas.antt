@@ -1,7 +1,7 @@
 -- The eighths of the full turn around a point: a triangle has as many as its two children, one at least where it
 -- holds the point and none elsewhere; the two halves of the square have at most eight.
-use Rattle.std.proofs.Common.{◌≡◌, ℕ, zero, suc, ◌+◌, ◌*◌, ◌/◌, ◌<◌, ◌≤◌, Bool, true, false, ◌&&◌, refl, ap, ◌∙◌, arith, ⊎_elim}
-use Rattle.std.proofs.lemmas.Bool.{cases_lt, leb-true, le-leb}
+use Rattle.std.proofs.Common.{◌≡◌, ℕ, zero, suc, ◌+◌, ◌*◌, ◌/◌, ◌<◌, ◌≤◌, true, false, refl, ap, ◌∙◌, arith, ⊎_elim}
+use Rattle.std.proofs.lemmas.Bool.{cases_lt, leb-true, le-leb, and_parts}
 use Rattle.std.specs.Cmp.Derive.{both_true}
 use Rattle.mesh_defs.specs.declared.point.Point.{Point}
 use Rattle.mesh_defs.specs.declared.point.Corners.{Corners}
@@ -192,18 +192,14 @@ some-eighths (suc (suc left)) (suc zero) (suc (suc right)) l b r = omega arith
 some-eighths (suc (suc left)) (suc (suc base)) (suc zero) l b r = omega arith
 some-eighths (suc (suc left)) (suc (suc base)) (suc (suc right)) l b r = omega arith
 
-and-parts : (b d : Bool) → (b && d) ≡ true → (b ≡ true) × (d ≡ true)
-and-parts true d h = (refl, h)
-and-parts false d h = absurd (cc)
-
 on-or-left : (i j : ℕ) → i ≤ j → 1 ≤ side_by i j
 on-or-left i j le = omega arith
 
 -- one eighth at least where it holds the point
 pub weight-held : (c : Corners) (r : Point) → is_in_closed c r ≡ true → 1 ≤ weight_in c r
 weight-held c r held =
-    let one : _ = and-parts _ _ held in
-    let two : _ = and-parts _ _ one.1 in
+    let one : _ = and_parts _ _ held in
+    let two : _ = and_parts _ _ one.1 in
     some-eighths (side_at r c.apex c.v0) (side_at r c.v0 c.v1) (side_at r c.v1 c.apex)
     (on-or-left _ _ (leb-true _ _ one.0)) (on-or-left _ _ (leb-true _ _ two.0)) (on-or-left _ _ (leb-true _ _ two.1))
 

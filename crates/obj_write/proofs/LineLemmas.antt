@@ -3,10 +3,11 @@ use Rattle.std.proofs.Common.{◌≡◌, ℕ, suc, ◌+◌, ◌-◌, ◌*◌, �
 use Rattle.std.specs.List.{range_with_len}
 use Rattle.std.proofs.lemmas.Grind.{flat_map-append}
 use Rattle.std.proofs.Math.Seq.{drop-cons}
-use Rattle.std.proofs.lemmas.List.{take_more}
+use Rattle.std.proofs.lemmas.List.{take_more, map-append}
 use Rattle.std.proofs.lemmas.List.Folds.{list_any_at}
 use Rattle.std.proofs.lemmas.List.Elements.{filter-append}
 use Rattle.std.proofs.lemmas.List.FromFn.{filter_of_map_range_with_len_more}
+use Rattle.text_laws.proofs.ListLemmas.{range-append}
 use Rattle.mesh_defs.specs.declared.point.Point.{Point}
 use Rattle.mesh_defs.specs.declared.point.Corners.{Corners}
 use Rattle.mesh_defs.specs.declared.mark.Mark.{Mark}
@@ -16,7 +17,6 @@ use Rattle.mesh_defs.specs.View.{ViewPlane}
 use Rattle.mesh_defs.specs.MeshText.{mesh_text, has_corner, vertices_of, vertex_number, vertex_line, numbers_line, face_line, face_lines, group_line, triangle_mark}
 use Rattle.obj_write.specs.VertexMarks.{place_point, is_vertex}
 use Rattle.obj_write.specs.MeshView.{vertices_to, vertex_lines, last_mark, IsShown}
-use Rattle.obj_write.proofs.PlaceLemmas.{range-append, map-append}
 use Rattle.obj_write.proofs.NumberLemmas.{vertices-placed}
 
 module _ (n : ℕ) (heights : List ℕ) (spacing : ℕ) (triangles : List ℕ) where

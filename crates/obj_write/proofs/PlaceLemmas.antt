@@ -5,11 +5,12 @@ use Rattle.std.proofs.Math.ListN.{set, length-set}
 use Rattle.std.proofs.Math.Bool.{or-true, or-false}
 use Rattle.std.proofs.lemmas.Bool.{false≢true, and_parts, and_from, eqb-true}
 use Rattle.std.proofs.lemmas.Grind.{same_number_lists}
-use Rattle.std.proofs.lemmas.List.{get_or-set_same, get_or-set_other, get_or-map, length-map, length-replicate, get_or-replicate}
+use Rattle.std.proofs.lemmas.List.{get_or-set_same, get_or-set_other, get_or-map, length-map, length-replicate, get_or-replicate, map-append}
 use Rattle.std.proofs.lemmas.List.Folds.{list_any-append}
 use Rattle.std.proofs.lemmas.List.FromFn.{get_or-map-range_with_len, length-map-range_with_len}
 use Rattle.std.proofs.lemmas.Nat.{mul-add-lt, div-mul-add, mod-mul-add, div-add-mod'}
 use Rattle.text_laws.proofs.TestLemmas.{by_bool}
+use Rattle.text_laws.proofs.ListLemmas.{range-append}
 use Rattle.mesh_defs.specs.declared.point.Point.{Point}
 use Rattle.mesh_defs.specs.declared.point.Corners.{Corners}
 use Rattle.mesh_defs.specs.HeightField.{side_of}
@@ -18,19 +19,6 @@ use Rattle.mesh_defs.specs.BoundingBox.{point, points_of}
 use Rattle.mesh_defs.specs.MeshText.{is_same_point, has_corner}
 use Rattle.bintree_laws.specs.Corners.{IsInSquare, IsWithin}
 use Rattle.obj_write.specs.VertexMarks.{grid_place, place_point, is_vertex, vertex_marks}
-
--- two parts of a range
-pub range-append : (a b c : ℕ) → range_with_len a (b + c) ≡ range_with_len a b ++ range_with_len (a + b) c
-range-append a zero c = ap₂ (λ i j. range_with_len i j) (omega arith) (omega arith)
-range-append a (suc b) c =
-    let more : suc b + c ≡ suc (b + c) = omega arith in
-    let shift : a + 1 + b ≡ a + suc b = omega arith in
-    ap (range_with_len a) more
-    ∙ ap (λ xs. a ∷ xs) (range-append (a + 1) b c ∙ ap (λ i. range_with_len (a + 1) b ++ range_with_len i c) shift)
-
-pub map-append : {X : Type 0} (f : ℕ → X) (xs ys : List ℕ) → map f (xs ++ ys) ≡ map f xs ++ map f ys
-map-append f [] ys = refl
-map-append f (x ∷ xs) ys = ap (λ zs. f x ∷ zs) (map-append f xs ys)
 
 -- where a row has w points
 abbrev pub at_width : ℕ → ℕ → Point

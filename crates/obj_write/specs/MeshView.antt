@@ -2,7 +2,7 @@
 -- Words: view_text, IsView, IsShown, vertices_to, vertex_lines, last_mark, group_text.
 use Rattle.std.specs.Prelude.{◌≡◌, ℕ, ◌*◌, ◌≤◌, true, List, [], ◌∷◌, ◌++◌, Option, Some, map, filter, flat_map, All, codes}
 use Rattle.std.specs.List.{range_with_len}
-use Rattle.obj_write.specs.declared.mesh.TheConstants.{GREATEST_SPACING}
+use Rattle.wedgie_tree.specs.declared.wedges.TheConstants.{GREATEST_SPACING}
 use Rattle.mesh_defs.specs.declared.point.Point.{Point}
 use Rattle.mesh_defs.specs.declared.mark.Mark.{Mark}
 use Rattle.mesh_defs.specs.Triangle.{level_of, corners_of}
@@ -16,7 +16,7 @@ use Rattle.obj_write.specs.VertexMarks.{place_point, is_vertex}
 abbrev pub view_text : MeshView → List ℕ
 view_text v = mesh_text v.wedges.now.n v.wedges.now.heights v.spacing v.planes.now v.leaves.now
 
--- The triangles are of the grid, the numbers those of their vertices, and the spacing is from 1 to 1024.
+-- The triangles are of the grid, the numbers those of their vertices, and the spacing lies in its bounds.
 pub record IsView (v : MeshView) : Type 0 where
   pub levels : All (λ a. level_of a ≤ 2 * v.wedges.now.n) v.leaves.now
   pub vertex_numbers : v.numbers.now ≡ numbers_of v.wedges.now.n v.leaves.now

@@ -14,5 +14,5 @@ mod page;
 mod tests;
 mod vertices;
 
-pub use mesh::{GREATEST_SPACING, MeshView, write_mesh};
+pub use mesh::{MeshView, write_mesh};
 pub use vertices::number_vertices;

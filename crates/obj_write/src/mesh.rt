@@ -7,8 +7,9 @@ ghost use Rattle.mesh_defs.specs.MeshText.{vertex_line, vertex_number, face_line
 ghost use Rattle.bintree_laws.specs.Corners.{IsInSquare};
 ghost use Rattle.roam_edge.specs.Fault.{HasCause};
 ghost use Rattle.roam_edge.specs.MeshSink.{Mesh};
+ghost use Rattle.roam_edge.specs.declared.mesh_sink.TheConstants.{LONGEST_PREFIX, GREATEST_NUMBER};
 ghost use Rattle.pgm_header.specs.declared.accepted.TheConstants.{GREATEST_LEVEL};
-ghost use Rattle.obj_write.specs.declared.mesh.TheConstants.{GREATEST_SPACING};
+ghost use Rattle.wedgie_tree.specs.declared.wedges.TheConstants.{GREATEST_SPACING};
 ghost use Rattle.obj_write.specs.Numbers.{numbers_of};
 ghost use Rattle.obj_write.specs.Page.{Passed, Broken};
 ghost use Rattle.obj_write.specs.Written.{mesh_with, Grows, GrowsByPart, IsPartOfMesh};
@@ -25,9 +26,6 @@ use mesh_defs::Mark;
 use pgm_grid::side_for;
 use roam_edge::{Failed, MeshSink};
 use wedgie_tree::Wedges;
-
-/// The most world units that a grid step has.
-pub const GREATEST_SPACING: u32 = 1024;
 
 /// A mesh as it is to be written.
 #[derive(Clone, Copy)]
@@ -62,9 +60,9 @@ pub fn write_mesh<M: MeshSink>(
     requires spacing_high { view.now.spacing ≤ GREATEST_SPACING }
     requires idle { M.under_way out.old ≡ false }
     requires prefix_some { 0 < length prefix.now }
-    requires prefix_short { length prefix.now ≤ 200 }
+    requires prefix_short { length prefix.now ≤ LONGEST_PREFIX }
     requires number_low { 1 ≤ number }
-    requires number_high { number ≤ 999999 }
+    requires number_high { number ≤ GREATEST_NUMBER }
     ensures ok { OnOk result (Grows (M.meshes out.old) (M.meshes out.new)
         (mesh_with prefix.now number (view_text view.now) true ∷ [])) }
     ensures idle { OnOk result (M.under_way out.new ≡ false) }

@@ -12,7 +12,7 @@ use roam_edge::{MemMeshes, MeshCall, MeshSink};
 use std::alloc::Global;
 use std::process::Abort;
 use std::test::Fail;
-use wedgie_tree::Wedges;
+use wedgie_tree::{GREATEST_SPACING, Wedges};
 
 mod pieces;
 
@@ -78,7 +78,7 @@ fn write_to<M: MeshSink>(
 ) -> Result<bool, Fail>
     requires { M.under_way out.old ≡ false }
 {
-    assert!(rt; 1 <= spacing && spacing <= 1024);
+    assert!(rt; 1 <= spacing && spacing <= GREATEST_SPACING);
     let n = wedges.grid().n();
     let leaves = leaves_of(rt, alloc, n, numbers)?;
     let mut vertex_numbers = vec![in alloc; 0; wedges.grid().points()]?;

@@ -1,9 +1,8 @@
 -- What an answer for a whole file tells of its header and its raster.
-use Rattle.std.proofs.Common.{◌≡◌, ◌≢◌, ℕ, ◌+◌, ◌-◌, ◌*◌, ◌<◌, ◌≤◌, ◌⊎◌, ◌↔◌, Bool, true, false, nat_lt, if◌then◌else◌, List, [], ◌∷◌, ◌++◌, length, take, Result, Ok, Err, IfErr, refl, sym, ap, ◌∙◌, inl, inr, subst, arith, length-append}
-use Rattle.std.specs.List.{flat_map}
-use Rattle.std.specs.List.{AllByRecursion}
-use Rattle.std.proofs.lemmas.List.Elements.{recursion_from_All, All-from_recursion}
+use Rattle.std.proofs.Common.{◌≡◌, ◌≢◌, ℕ, ◌+◌, ◌-◌, ◌<◌, ◌≤◌, ◌⊎◌, ◌↔◌, Bool, true, false, nat_lt, if◌then◌else◌, List, length, take, Result, Ok, Err, IfErr, refl, sym, ap, ◌∙◌, inl, inr, subst, arith, length-append}
 use Rattle.text_laws.proofs.WordLemmas.{length-flat}
+use Rattle.text_laws.proofs.AnswerLemmas.{err-same, ok-err}
+use Rattle.text_laws.proofs.ListLemmas.{All-back}
 use Rattle.mesh_defs.specs.HeightField.{HeightField, IsHeightField}
 use Rattle.pgm_header.specs.declared.accepted.Header.{Header}
 use Rattle.pgm_header.specs.declared.fault.HeaderFault.{HeaderFault}
@@ -24,7 +23,7 @@ use Rattle.pgm_grid.specs.PgmText.{points_of, form_of, most_bytes, IsFileText, H
 use Rattle.pgm_grid.specs.Progress.{header_fault, raster_fault, grid_with, grid_answer, samples_at, file_answer, grid_of}
 use Rattle.pgm_grid.specs.Laws.{AreBytes, TextsAreRead, GridsHaveTexts, GridsHaveHeaders, CutTextsAreRefused, TrailingBytesAreRefused, GreatSamplesAreRefused, BadSamplesAreRefused, LongFilesAreRefused, OthersAreAbsent}
 use Rattle.pgm_grid.proofs.GridLemmas.{points_small}
-use Rattle.pgm_grid.proofs.ReaderLemmas.{no_header-memory, no_raster-memory, header-truncated, same_raster, err-same, ok-err, raster-refused}
+use Rattle.pgm_grid.proofs.ReaderLemmas.{no_header-memory, no_raster-memory, header-truncated, same_raster, raster-refused}
 
 -- no refusal of a header is one of a raster
 pub apart : (one : HeaderFault) (other : RasterFault) → header_fault one ≡ raster_fault other → ⊥
@@ -149,16 +148,11 @@ file-memory total (Bad fault) e = no_header-memory fault (err-same _ _ e)
 
 -- Headers of files.
 
-tail-by : (text rest : List ℕ) → AllByRecursion (λ b. b < 256) (text ++ rest) → AllByRecursion (λ b. b < 256) rest
-tail-by [] rest all = all
-tail-by (byte ∷ text) rest all = tail-by text rest all.1
-
 module _ (bytes : List ℕ) (h : Header) where
   -- behind the header of a file there are bytes
   pub has-bytes : (at : ℕ) (rest : List ℕ) → HasHeader bytes h at rest → AreBytes bytes → AreBytes rest
   has-bytes at rest has all =
-      let P : List ℕ → Type 0 = λ b. AreBytes b in
-      All-from_recursion (λ b. b < 256) rest (tail-by has.text rest (recursion_from_All (λ b. b < 256) (has.text ++ rest) (subst P has.cut all)))
+      let P : List ℕ → Type 0 = λ b. AreBytes b in All-back (λ b. b < 256) has.text rest (subst P has.cut all)
 
   -- the header and what follows are the file
   pub has-length : (at : ℕ) (rest : List ℕ) → HasHeader bytes h at rest → at + length rest ≡ length bytes

@@ -2,6 +2,7 @@
 use Rattle.std.proofs.Common.{◌≡◌, ◌≢◌, ℕ, ◌+◌, ◌-◌, ◌<◌, ◌≤◌, inl, inr, List, [], ◌∷◌, ◌++◌, length, take, Err, refl, sym, ap, ◌∙◌, arith, append-nil, append_assoc}
 use Rattle.std.proofs.lemmas.Bool.{cases_lt}
 use Rattle.std.proofs.Math.Seq.{take-append_seam, take-append-add}
+use Rattle.text_laws.proofs.AnswerLemmas.{err-same}
 use Rattle.pgm_header.specs.declared.accepted.Header.{Header}
 use Rattle.pgm_header.specs.declared.fault.HeaderFault.{HeaderFault}
 use Rattle.pgm_header.specs.Accepted.{HeaderAnswer, Part, Whole, Bad}
@@ -13,7 +14,7 @@ use Rattle.pgm_grid.specs.declared.fault.PgmFault.TheVariants.{Truncated, NoMemo
 use Rattle.pgm_grid.specs.PgmText.{HasHeader}
 use Rattle.pgm_grid.specs.Progress.{InHeader, header_fault, grid_answer, samples_at, file_answer, resume, grid_of, taken, StandsFor, EndsHeaderOf}
 use Rattle.pgm_grid.specs.Stage.{IsOpenHeader, Stops}
-use Rattle.pgm_grid.proofs.ReaderLemmas.{HasTaken, header-truncated, err-same, raster-refused, unsettled-header, whole-answer}
+use Rattle.pgm_grid.proofs.ReaderLemmas.{HasTaken, header-truncated, raster-refused, unsettled-header, whole-answer}
 use Rattle.pgm_grid.proofs.FileLemmas.{apart, whole-has}
 
 -- a whole header is no part of one

@@ -1,7 +1,8 @@
 -- What a reader answers: the header's answer, and behind it the raster's.
-use Rattle.std.proofs.Common.{◌≡◌, ℕ, ◌+◌, ◌-◌, ◌^◌, ◌<◌, ◌≤◌, List, [], ◌∷◌, ◌++◌, length, take, drop, get_or, All, Result, Ok, Err, IfOk, IfErr, refl, sym, ap, ◌∙◌, inl, subst, arith, length-append, append_assoc}
+use Rattle.std.proofs.Common.{◌≡◌, ℕ, ◌+◌, ◌-◌, ◌^◌, ◌<◌, ◌≤◌, List, [], ◌∷◌, ◌++◌, length, take, get_or, All, Ok, Err, IfOk, refl, sym, ap, ◌∙◌, inl, subst, arith, length-append, append_assoc}
 use Rattle.std.proofs.lemmas.Result.{IfOk-at_ok}
-use Rattle.std.proofs.lemmas.List.{take_more, take-append-drop}
+use Rattle.std.proofs.lemmas.List.{take_more}
+use Rattle.text_laws.proofs.AnswerLemmas.{err-same, ok-err}
 use Rattle.mesh_defs.specs.HeightField.{IsHeightField}
 use Rattle.pgm_header.specs.declared.accepted.Header.{Header}
 use Rattle.pgm_header.specs.declared.fault.HeaderFault.{HeaderFault}
@@ -64,12 +65,6 @@ same_raster raster.TooLong (raster.AboveMaxval place) e = absurd cc
 same_raster raster.TooLong (raster.Trailing place) e = absurd cc
 same_raster raster.TooLong raster.Truncated e = absurd cc
 same_raster raster.TooLong raster.TooLong e = cc
-
-pub err-same : {A E : Type 0} (one other : E) → ◌≡◌ {A = Result A E} (Err one) (Err other) → one ≡ other
-err-same one other e = cc
-
-pub ok-err : {A E : Type 0} (value : A) (fault : E) → ◌≡◌ {A = Result A E} (Ok value) (Err fault) → ⊥
-ok-err value fault e = cc
 
 -- Settled readers.
 
@@ -227,12 +222,6 @@ module _ (start reader : reading.Progress) (piece : List ℕ) (begun : IsOpenHea
         limit = begins.limit;
       }
 
--- a piece around the byte at a place
-pub cut-at : (piece : List ℕ) (i : ℕ) → i < length piece → piece ≡ take i piece ++ (get_or piece i 0 ∷ drop (i + 1) piece)
-cut-at piece i below =
-    sym (take-append-drop (i + 1) piece) ∙ ap (λ m. m ++ drop (i + 1) piece) (take_more piece i 0 below)
-    ∙ append_assoc (take i piece) (get_or piece i 0 ∷ []) (drop (i + 1) piece)
-
 -- nothing was taken
 pub taken-nothing : (start : reading.Progress) (piece : List ℕ) → IsOpenHeader start → HasTaken start start piece 0
 taken-nothing start piece begun = record { means = λ more. refl; counted = omega arith; goes_on = begun }
@@ -332,14 +321,6 @@ whole-field header reader heights before e =
     }
 
 -- Answers of calls.
-
-pub both-err : {A E : Type 0} (answer : Result A E) (P Q R : E → Type 0) → ((fault : E) → P fault → Q fault → R fault) → IfErr answer P → IfErr answer Q → IfErr answer R
-both-err (Ok value) P Q R proof p q = tt
-both-err (Err fault) P Q R proof p q = proof fault p q
-
-pub weaker-err : {A E : Type 0} (answer : Result A E) (P Q : E → Type 0) → ((fault : E) → P fault → Q fault) → IfErr answer P → IfErr answer Q
-weaker-err (Ok value) P Q proof p = tt
-weaker-err (Err fault) P Q proof p = proof fault p
 
 -- a reader of the raster that the header wants
 pub begun-means : (header : Header) (form : RasterForm) (count at : ℕ) (reader : samples.Progress)

@@ -1,6 +1,6 @@
 -- The fields of a reader: what they have come to, and what holds of them.
 -- Words: progress_of, IsOpenHeader, IsBehind, HasRead, IsStage, BeginsRaster, Takes, Stops.
-use Rattle.std.specs.Prelude.{◌≡◌, ◌≢◌, ℕ, ◌+◌, ◌≤◌, ◌^◌, List, [], ◌++◌, length, All, Err, IfOk, ⊤, ◌⊎◌}
+use Rattle.std.specs.Prelude.{◌≡◌, ◌≢◌, ℕ, ◌+◌, ◌≤◌, List, [], ◌++◌, length, All, Err, IfOk, ⊤, ◌⊎◌}
 use Rattle.pgm_header.specs.declared.reader.TheConstants.{LAST_PLACE}
 use Rattle.pgm_raster.specs.declared.plain.TheConstants.{MOST_BYTES}
 use Rattle.pgm_header.specs.declared.accepted.Header.{Header}

@@ -1,7 +1,8 @@
 -- What bytes mean: the laws of `Laws`.
 use Rattle.std.proofs.Common.{◌≡◌, ◌≢◌, ℕ, ◌+◌, ◌<◌, ◌≤◌, ◌⊎◌, Bool, true, false, cond, ◌==◌, nat_lt, List, [], ◌∷◌, ◌++◌, length, take, drop, get_or, Some, None, Result, Ok, Err, refl, sym, ap, ap₂, ◌∙◌, inl, inr, subst, arith, length-append, append_assoc, append-nil, take-append-drop}
 use Rattle.std.proofs.lemmas.Bool.{cond_both, cases_lt, cases_eq, lt-ltb, le-ltb, ltb-true, ltb-false}
-use Rattle.std.proofs.lemmas.List.{length_push, take_at, drop_at, take-append-le, drop_more, take_more, length-take-le}
+use Rattle.std.proofs.lemmas.List.{length_push, take_at, take-append-le, drop_more, take_more, length-take-le}
+use Rattle.text_laws.proofs.ListLemmas.{last-same}
 use Rattle.mesh_defs.specs.HeightField.{side_of}
 use Rattle.pgm_header.specs.declared.accepted.Header.{Header}
 use Rattle.pgm_header.specs.declared.fault.HeaderFault.{HeaderFault}
@@ -156,19 +157,11 @@ stuck_ends s b more v e = rw e refl
 stuck_fails : (s : State) (b : ℕ) (more : List ℕ) → step_of s b ≡ Fails → walk (b ∷ more) s ≡ None
 stuck_fails s b more e = rw e refl
 
--- lists with one more element each
-last_same : (a c : List ℕ) (x y : ℕ) → a ++ x ∷ [] ≡ c ++ y ∷ [] → (a ≡ c) × (x ≡ y)
-last_same a c x y e =
-    let size : length c ≡ length a = omega (arith, ap length e, length_push a x, length_push c y) in
-    let before : a ≡ c = sym (take_at a (x ∷ []) (length a) refl) ∙ ap (take (length a)) e ∙ take_at c (y ∷ []) (length a) size in
-    let last : x ∷ [] ≡ y ∷ [] = sym (drop_at a (x ∷ []) (length a) refl) ∙ ap (drop (length a)) e ∙ drop_at c (y ∷ []) (length a) size in
-    (before, cc)
-
 -- a text is walked over in one way
 one_walk : (front : List ℕ) (b : ℕ) (t : State) (v : HeaderValues) → walk front Start ≡ Some t → IsHeaderText (front ++ b ∷ []) v → step_of t b ≡ Ends v
 one_walk front b t v w is =
     let c = complete (front ++ b ∷ []) v is in
-    let same = last_same front c.front b c.last c.text in
+    let same = last-same front c.front b c.last c.text in
     let states : Some t ≡ Some c.state = sym w ∙ ap (λ (x : List ℕ). walk x Start) same.0 ∙ c.walked in
     let state : t ≡ c.state = cc in
     ap₂ (λ (s : State) (x : ℕ). step_of s x) state same.1 ∙ c.ends

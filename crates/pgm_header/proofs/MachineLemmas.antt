@@ -1,5 +1,5 @@
 -- Facts about the machine: what the bytes that lead to a state are, and how it walks over a header's text.
-use Rattle.std.proofs.Common.{◌≡◌, ℕ, suc, ◌+◌, ◌-◌, ◌*◌, ◌^◌, ◌<◌, ◌≤◌, Bool, true, false, not, ◌&&◌, cond, ◌==◌, nat_lt, leb, List, [], ◌∷◌, ◌++◌, length, take, drop, Option, Some, None, refl, sym, ap, ap₂, ◌∙◌, subst, arith, length-append, append_assoc, append-nil, take-append-drop, eqb-true, leb-true, ne_eqb}
+use Rattle.std.proofs.Common.{◌≡◌, ℕ, ◌+◌, ◌-◌, ◌*◌, ◌^◌, ◌<◌, ◌≤◌, Bool, true, false, not, ◌&&◌, cond, ◌==◌, nat_lt, List, [], ◌∷◌, ◌++◌, length, take, drop, Option, Some, None, refl, sym, ap, ap₂, ◌∙◌, subst, arith, length-append, append_assoc, append-nil, take-append-drop, eqb-true}
 use Rattle.std.specs.Char.{is_ascii_digit}
 use Rattle.std.specs.List.{flat_map, list_all}
 use Rattle.std.proofs.Math.Nat.{pow-succ'}
@@ -9,7 +9,8 @@ use Rattle.std.proofs.lemmas.List.Concat.{flat_map-append}
 use Rattle.std.proofs.lemmas.List.Folds.{list_all-append}
 use Rattle.text_laws.specs.Digits.{value_of}
 use Rattle.text_laws.specs.Blanks.{is_white, is_line_end}
-use Rattle.text_laws.proofs.DigitLemmas.{value-push}
+use Rattle.text_laws.proofs.DigitLemmas.{value-push, digit-no_hash}
+use Rattle.text_laws.proofs.BlankLemmas.{digit-not_white}
 use Rattle.pgm_header.specs.declared.machine.HeaderValues.{HeaderValues}
 use Rattle.pgm_header.specs.declared.machine.Fields.{Fields}
 use Rattle.pgm_header.specs.declared.machine.Fields.TheVariants as fields
@@ -247,18 +248,6 @@ walked_front bytes t e =
 
 -- Over a header's text.
 
--- a digit is neither whitespace nor a `#`
-not_white : (d : ℕ) → is_ascii_digit d ≡ true → is_white d ≡ false
-not_white d digit =
-    let both = and_parts (leb 48 d) (leb d 57) digit in
-    let low : 48 ≤ d = leb-true 48 d both.0 in
-    rw (ne_eqb d 32 (λ e. omega arith), ne_eqb d 9 (λ e. omega arith), ne_eqb d 13 (λ e. omega arith), ne_eqb d 10 (λ e. omega arith)) refl
-
-not_hash : (d : ℕ) → is_ascii_digit d ≡ true → (d == 35) ≡ false
-not_hash d digit =
-    let both = and_parts (leb 48 d) (leb d 57) digit in
-    let low : 48 ≤ d = leb-true 48 d both.0 in ne_eqb d 35 (λ e. omega arith)
-
 walk_comment : (inside : List ℕ) (f : Fields) → is_comment_text inside ≡ true → walk inside (Comment f) ≡ Some (Comment f)
 walk_comment [] f clean = refl
 walk_comment (x ∷ inside) f clean =
@@ -293,7 +282,7 @@ walk_digits [] f k v good room =
 walk_digits (d ∷ digits) f k v good room =
     let both : (is_ascii_digit d ≡ true) × (list_all is_ascii_digit digits ≡ true) = and_parts (is_ascii_digit d) (list_all is_ascii_digit digits) good in
     let few : nat_lt k 9 ≡ true = lt-ltb k 9 (omega arith) in
-    let step : step_of (Number f k v) d ≡ Goes (Number f (k + 1) (10 * v + (d - 48))) = rw (not_white d both.0, both.0, few) refl in
+    let step : step_of (Number f k v) d ≡ Goes (Number f (k + 1) (10 * v + (d - 48))) = rw (digit-not_white d both.0, both.0, few) refl in
     let again : walk digits (Number f (k + 1) (10 * v + (d - 48))) ≡ Some (Number f (k + 1 + length digits) ((10 * v + (d - 48)) * 10 ^ length digits + value_of digits)) =
     walk_digits digits f (k + 1) (10 * v + (d - 48)) both.1 (omega arith) in
     let at : k + 1 + length digits ≡ k + length (d ∷ digits) = omega arith in
@@ -306,7 +295,7 @@ walk_number : (digits : List ℕ) (f : Fields) (v : ℕ) → IsNumberText digits
 walk_number [] f v n = absurd (omega (arith, n.some))
 walk_number (d ∷ digits) f v n =
     let both : (is_ascii_digit d ≡ true) × (list_all is_ascii_digit digits ≡ true) = and_parts (is_ascii_digit d) (list_all is_ascii_digit digits) n.digits in
-    let step : step_of (Gap f) d ≡ Goes (Number f 1 (d - 48)) = rw (not_white d both.0, not_hash d both.0, both.0) refl in
+    let step : step_of (Gap f) d ≡ Goes (Number f 1 (d - 48)) = rw (digit-not_white d both.0, digit-no_hash d both.0, both.0) refl in
     let short : 1 + length digits ≤ 9 = omega (arith, n.short) in
     let at : 1 + length digits ≡ length (d ∷ digits) = omega arith in
     walk_step (Gap f) (Number f 1 (d - 48)) d digits step ∙ walk_digits digits f 1 (d - 48) both.1 short ∙ ap₂ (λ (i j : ℕ). Some (Number f i j)) at (sym n.value)

@@ -1,41 +1,21 @@
 -- Headers as programs write them.
-use Rattle.std.proofs.Common.{◌≡◌, ℕ, ◌+◌, ◌/◌, ◌%◌, ◌^◌, ◌<◌, ◌≤◌, true, leb, List, [], ◌∷◌, ◌++◌, refl, ap, ◌∙◌, arith, le-leb}
-use Rattle.std.specs.Char.{is_ascii_digit}
+use Rattle.std.proofs.Common.{◌≡◌, ℕ, ◌^◌, ◌<◌, true, List, [], ◌∷◌, ◌++◌, refl, ap, arith}
 use Rattle.std.specs.Fmt.{decimal}
 use Rattle.std.specs.List.{flat_map, list_all}
 use Rattle.std.proofs.lemmas.Bool.{and_parts, and_from}
-use Rattle.std.proofs.lemmas.Fmt.{decimal_by_steps, decimal_nonempty, length-decimal-le}
-use Rattle.std.proofs.lemmas.List.Folds.{list_all-append}
-use Rattle.text_laws.specs.Digits.{value_of}
-use Rattle.text_laws.proofs.DigitLemmas.{value-push}
+use Rattle.std.proofs.lemmas.Fmt.{decimal_nonempty, length-decimal-le}
+use Rattle.text_laws.proofs.DigitLemmas.{decimal-is}
 use Rattle.pgm_header.specs.HeaderText.{GapItem, Comment, item_bytes, is_comment_text, is_item, IsGap, IsNumberText, comment_line}
 use Rattle.pgm_header.specs.Laws.{WrittenHeadersAreTexts}
 use Rattle.pgm_header.proofs.MachineLemmas.{gap_first}
 
 -- Numbers.
 
-digit_byte : (d : ℕ) → d < 10 → is_ascii_digit (48 + d) ≡ true
-digit_byte d small = and_from (leb 48 (48 + d)) (leb (48 + d) 57) (le-leb 48 (48 + d) (omega arith)) (le-leb (48 + d) 57 (omega arith))
-
--- these are digits, and this is their number
-abbrev IsDecimal : ℕ → List ℕ → Type 0
-IsDecimal n digits = (list_all is_ascii_digit digits ≡ true) × (n ≡ value_of digits)
-
-one_digit : (n : ℕ) → n < 10 → IsDecimal n ((48 + n) ∷ [])
-one_digit n small = (and_from (is_ascii_digit (48 + n)) true (digit_byte n small) refl, omega arith)
-
-more_digits : (n : ℕ) (digits : List ℕ) → 10 ≤ n → IsDecimal (n / 10) digits → IsDecimal n (digits ++ (48 + n % 10) ∷ [])
-more_digits n digits large d = (
-  list_all-append is_ascii_digit digits ((48 + n % 10) ∷ [])
-      ∙ and_from (list_all is_ascii_digit digits) (list_all is_ascii_digit ((48 + n % 10) ∷ [])) d.0 (and_from (is_ascii_digit (48 + n % 10)) true (digit_byte (n % 10) (omega arith)) refl),
-  omega (arith, d.1, value-push digits (48 + n % 10)),
-)
-
 -- the decimal text of a number is a number's text
 number-decimal : (n : ℕ) → n < 10 ^ 9 → IsNumberText (decimal n) n
 number-decimal n small =
     let fits : n < 2 ^ 64 = omega arith in
-    let parts : IsDecimal n (decimal n) = decimal_by_steps IsDecimal one_digit more_digits n fits in
+    let parts = decimal-is n fits in
     record { some = omega (arith, decimal_nonempty n fits); short = length-decimal-le 9 n (omega arith) small fits; digits = parts.0; value = parts.1 }
 
 -- Comment lines.

@@ -1,19 +1,19 @@
 -- What the bytes of a raster mean: the laws of `Laws`.
-use Rattle.std.proofs.Common.{◌≡◌, ℕ, suc, ◌+◌, ◌-◌, ◌*◌, ◌/◌, ◌%◌, ◌^◌, ◌<◌, ◌≤◌, ◌⊎◌, inl, inr, false, ◌&&◌, nat_lt, List, [], ◌∷◌, ◌++◌, length, None, Ok, Err, refl, sym, ap, ap₂, ◌∙◌, subst, arith, All, append_assoc, append-nil, add-one, length-append}
+use Rattle.std.proofs.Common.{◌≡◌, ℕ, suc, ◌+◌, ◌-◌, ◌*◌, ◌/◌, ◌%◌, ◌<◌, ◌≤◌, ◌⊎◌, inl, inr, false, ◌&&◌, nat_lt, List, [], ◌∷◌, ◌++◌, length, None, Ok, Err, refl, sym, ap, ap₂, ◌∙◌, subst, arith, All, append_assoc, append-nil, length-append}
 use Rattle.std.specs.List.{flat_map}
 use Rattle.std.specs.Char.{is_ascii_digit}
-use Rattle.std.proofs.lemmas.List.{length_push, take_at, drop_at}
+use Rattle.std.proofs.lemmas.List.{length_push}
 use Rattle.std.proofs.lemmas.List.Concat.{flat_map-append}
-use Rattle.std.proofs.lemmas.List.Elements.{All-nil, All-cons, All-head, All-tail, All-append, All-push, All-take, All-drop}
+use Rattle.std.proofs.lemmas.List.Elements.{All-nil, All-cons, All-head, All-tail, All-append, All-push}
 use Rattle.std.proofs.lemmas.Bool.{cases_lt, lt-ltb, le-ltb, cond-true, cond-false, ne_eqb, and_left, and_right}
-use Rattle.std.proofs.Math.Nat.{pow-succ'}
 use Rattle.text_laws.specs.Digits.{IsDigit, value_of}
 use Rattle.text_laws.specs.Blanks.{IsWhite, is_white}
 use Rattle.text_laws.specs.Words.{two_bytes, words_of}
 use Rattle.text_laws.proofs.TestLemmas.{by_bool}
 use Rattle.text_laws.proofs.DigitLemmas.{value-push, digit-yes, digit-no, digit-is, digit-isnt}
 use Rattle.text_laws.proofs.BlankLemmas.{white-yes, white-no, white-is, white-isnt, digit-no_white}
-use Rattle.text_laws.proofs.WordLemmas.{length-flat, words-flat}
+use Rattle.text_laws.proofs.WordLemmas.{length-flat, words-flat, two_bytes-back}
+use Rattle.text_laws.proofs.ListLemmas.{All-front, All-back}
 use Rattle.pgm_raster.specs.declared.fault.RasterFault.TheVariants.{BadSample, AboveMaxval, Trailing, Truncated, TooLong}
 use Rattle.pgm_raster.specs.declared.form.RasterForm.{RasterForm}
 use Rattle.pgm_raster.specs.declared.form.RasterForm.TheVariants.{Bytes, Words, Plain}
@@ -218,12 +218,6 @@ bytes-told l (byte ∷ more) index at room =
           (told-sample Bytes l index at byte (byte ∷ []) (byte ∷ []) more (bytes_from l (index + 1) (at + 1) more) less refl refl more refl tt (bytes-told l more (index + 1) (at + 1) (omega arith)))
       | inr full ↦ subst (Told Bytes l index at (byte ∷ more)) (sym (cond-false _ _ _ (le-ltb index l.count full))) (told-trailing Bytes l index at byte more (omega arith) tt)
     ]
-
-two_bytes-back : (high low : ℕ) → high < 256 → low < 256 → high ∷ low ∷ [] ≡ two_bytes (256 * high + low)
-two_bytes-back high low h l =
-    let first : high ≡ (256 * high + low) / 256 = omega arith in
-    let second : low ≡ (256 * high + low) % 256 = omega arith in
-    ap₂ (λ (x : ℕ) (y : ℕ). x ∷ y ∷ []) first second
 
 pub words-told : (l : Limits) (bytes : List ℕ) (index at : ℕ) → index ≤ l.count → All (λ b. b < 256) bytes → Told Words l index at bytes (words_from l index None at bytes)
 words-told l [] index at room all = told-end Words l index at room
@@ -455,13 +449,6 @@ front-read Words l samples front index at more e room all =
     ∙ ap₂ (λ (s : List ℕ) (t : List ℕ). after s (words_from l (index + length samples) None (at + length t) more)) (words-flat samples) (sym e)
 front-read Plain l samples front index at more e room all = plain-read l samples front index at more e room all
 
--- the elements of two lists
-pub All-front : (P : ℕ → Type 0) (xs ys : List ℕ) → All P (xs ++ ys) → All P xs
-All-front P xs ys all = subst (All P) (take_at xs ys (length xs) refl) (All-take P (length xs) (xs ++ ys) all)
-
-pub All-back : (P : ℕ → Type 0) (xs ys : List ℕ) → All P (xs ++ ys) → All P ys
-All-back P xs ys all = subst (All P) (drop_at xs ys (length xs) refl) (All-drop P (length xs) (xs ++ ys) all)
-
 -- the end of the file
 end-read : (f : RasterForm) (l : Limits) (index at : ℕ) → rest_unlimited l index (nothing_of f) at [] ≡ end_at l index
 end-read Bytes l index at = refl
@@ -598,5 +585,6 @@ samples_back f count maxval at samples bytes all e =
     let told : Told f l 0 at bytes (Ok samples) = told-by f l at bytes (Ok samples) all e (λ long. absurd (cc)) in
     (told.0, omega (arith, told.1), told.2)
 
+-- nothing was read of what is wanted
 pub no_fewer : (count : ℕ) → count - 0 ≡ count
 no_fewer count = omega arith

@@ -1,14 +1,13 @@
 -- Refusals of rasters of any length: in plain ones each has its place before the most bytes of a file.
-use Rattle.std.proofs.Common.{◌≡◌, ℕ, suc, ◌+◌, ◌<◌, ◌≤◌, ◌⊎◌, inl, inr, true, false, ◌&&◌, nat_lt, List, [], ◌∷◌, ◌++◌, length, Ok, Err, refl, sym, ap, ◌∙◌, subst, arith, All, append_assoc, append-nil, length-append}
+use Rattle.std.proofs.Common.{◌≡◌, ℕ, suc, ◌+◌, ◌<◌, ◌≤◌, ◌⊎◌, inl, inr, ◌&&◌, nat_lt, List, [], ◌∷◌, ◌++◌, length, Ok, Err, refl, sym, ap, ◌∙◌, subst, arith, All, append_assoc, append-nil, length-append}
 use Rattle.std.specs.Char.{is_ascii_digit}
 use Rattle.std.specs.Prelude.{⊤}
 use Rattle.std.proofs.lemmas.List.{length_push}
-use Rattle.std.proofs.lemmas.List.Elements.{All-head}
 use Rattle.std.proofs.lemmas.Bool.{cases_lt, cases_eq, lt-ltb, le-ltb, eq-eqb, ne_eqb, cond-true, cond-false}
-use Rattle.text_laws.specs.Digits.{IsDigit}
 use Rattle.text_laws.specs.Blanks.{IsWhite, is_white}
 use Rattle.text_laws.proofs.TestLemmas.{by_bool}
-use Rattle.text_laws.proofs.BlankLemmas.{white-yes, white-is, digit-no_white}
+use Rattle.text_laws.proofs.BlankLemmas.{white-yes, white-is, digits-no_white}
+use Rattle.text_laws.proofs.ListLemmas.{All-front}
 use Rattle.pgm_raster.specs.declared.fault.RasterFault.{RasterFault}
 use Rattle.pgm_raster.specs.declared.fault.RasterFault.TheVariants.{BadSample, AboveMaxval, Trailing, Truncated, TooLong}
 use Rattle.pgm_raster.specs.declared.form.RasterForm.{RasterForm}
@@ -18,11 +17,11 @@ use Rattle.pgm_raster.specs.declared.part.Digits.{Digits}
 use Rattle.pgm_raster.specs.RasterText.{IsCutShort, IsTrailingAt, EndsThere, IsAboveAt, IsBadSampleAt}
 use Rattle.pgm_raster.specs.Progress.{most_bytes, Answer, after, sample_then, end_at, no_digits, with_digit, ended_then, plain_from, rest_of, nothing_of, raster_of}
 use Rattle.pgm_raster.specs.Laws.{IsWithin, ending, IsAboveWithin, CutRastersAreRefused, TrailingBytesAreRefused, GreatSamplesAreRefused, BadSamplesAreRefused}
-use Rattle.pgm_raster.proofs.RasterLemmas.{sample-passed, sample-refused, after-nil}
+use Rattle.pgm_raster.proofs.RasterLemmas.{sample-passed, sample-refused, after-nil, after-err}
 use Rattle.pgm_raster.proofs.PlainLemmas.{plain-space, plain-full, plain-digit, plain-bad}
 use Rattle.pgm_raster.proofs.UnlimitedLemmas.{plain_unlimited, plain-within, plain-agrees}
 use Rattle.pgm_raster.proofs.LongLemmas.{front-cases}
-use Rattle.pgm_raster.proofs.LawLemmas.{Told, told-by, cut-read, trailing-read, above-read, bad-read, no_fewer, All-front, All-back}
+use Rattle.pgm_raster.proofs.LawLemmas.{Told, told-by, cut-read, trailing-read, above-read, bad-read, no_fewer}
 
 -- ---- where a refusal of a plain raster is told
 
@@ -83,14 +82,6 @@ placed-by l at bytes r room e = subst (Placed (at + length bytes)) e (plain-plac
 
 -- ---- what decides a sample that is above maxval
 
--- a refusal behind samples is that of the rest
-after-refused : (samples : List ℕ) (r : Answer) (fault : RasterFault) → after samples r ≡ Err fault → r ≡ Err fault
-after-refused samples (Ok rest) fault e = absurd (ok_no-err (samples ++ rest) fault e)
-  where
-    ok_no-err : (value : List ℕ) (f : RasterFault) → ◌≡◌ {A = Answer} (Ok value) (Err f) → ⊥
-    ok_no-err value f same = cc
-after-refused samples (Err other) fault e = e
-
 -- the file ends before the limit, or whitespace before it ends the text, whatever follows
 abbrev Settles : Limits → ℕ → Digits → ℕ → List ℕ → ℕ → Type 0
 Settles l index digits at bytes k =
@@ -150,7 +141,7 @@ plain-settles l (byte ∷ more) index digits at k room e =
                   | inr fits ↦
                       let passed : (m : List ℕ) → plain_from l index digits at (byte ∷ m) ≡ after (digits.value ∷ []) (plain_from l (index + 1) no_digits (at + 1) m) = λ m. step m ∙ sample-passed l index digits.value _ fits in
                       settles-step l index (index + 1) digits no_digits at byte (digits.value ∷ []) more k passed
-                      (plain-settles l more (index + 1) no_digits (at + 1) k next (after-refused (digits.value ∷ []) (plain_from l (index + 1) no_digits (at + 1) more) (AboveMaxval k) (sym (passed more) ∙ e)))
+                      (plain-settles l more (index + 1) no_digits (at + 1) k next (after-err (digits.value ∷ []) (plain_from l (index + 1) no_digits (at + 1) more) (AboveMaxval k) (sym (passed more) ∙ e)))
                 ]
           ])
           (λ no. elim (cases_lt index l.count) as (λ _. Settles l index digits at (byte ∷ more) k) [
@@ -164,26 +155,13 @@ plain-settles l (byte ∷ more) index digits at k room e =
           ])
     ]
 
--- digits that end with whitespace are none
-digits-end : (front text before : List ℕ) (space : ℕ) → All IsDigit text → 1 ≤ length text → IsWhite space → before ++ space ∷ [] ≡ front ++ text → ⊥
-digits-end [] text before space are some is whole =
-    let digit : IsDigit space = All-head IsDigit space [] (All-back IsDigit before (space ∷ []) (subst (All IsDigit) (sym whole) are)) in
-    let e : true ≡ false = sym (white-is space is) ∙ digit-no_white space digit in cc
-digits-end (byte ∷ front) text [] space are some is whole =
-    let size : 1 ≡ suc (length (front ++ text)) = ap length whole in omega (arith, size, length-append front text)
-digits-end (byte ∷ front) text (other ∷ before) space are some is whole =
-    digits-end front text before space are some is (same-rest (before ++ space ∷ []) (front ++ text) other byte whole)
-  where
-    same-rest : (xs ys : List ℕ) (x y : ℕ) → x ∷ xs ≡ y ∷ ys → xs ≡ ys
-    same-rest xs ys x y e = cc
-
 -- the bytes that follow change nothing
 above-longer : (count maxval at index : ℕ) (front : List ℕ) (space : ℕ) (rest bytes : List ℕ) → bytes ≡ front ++ space ∷ rest → IsWhite space → at + length front < most_bytes
     → IsAboveAt Plain count maxval (front ++ space ∷ []) index → IsAboveWithin Plain count maxval at bytes index
 above-longer count maxval at index front space rest bytes whole is within a = by-more a.more refl
   where
     by-more : (m : List ℕ) → a.more ≡ m → IsAboveWithin Plain count maxval at bytes index
-    by-more [] none = absurd (digits-end a.front a.text front space a.next.digits a.next.some is
+    by-more [] none = absurd (digits-no_white a.front a.text front space a.next.digits a.next.some is
         (a.whole ∙ ap (λ (m : List ℕ). a.front ++ (a.text ++ m)) none ∙ ap (λ (t : List ℕ). a.front ++ t) (append-nil a.text)))
     by-more (byte ∷ m) more =
         let size : length front + 1 ≡ length a.front + (length a.text + suc (length m)) =
@@ -280,7 +258,7 @@ ended-above l index digits k rest e =
           cond-false _ _ _ (ne_eqb digits.count 0 some)
           ∙ elim (cases_lt l.maxval digits.value) as (λ _. sample_then l index digits.value (rest (index + 1)) ≡ Err (AboveMaxval k)) [
             | inl above ↦ sample-refused l index digits.value (rest (index + 1)) above ∙ sym (sample-refused l index digits.value (end_at l (index + 1)) above) ∙ told
-            | inr fits ↦ absurd (end_no-above l (index + 1) k (after-refused (digits.value ∷ []) (end_at l (index + 1)) (AboveMaxval k) (sym (sample-passed l index digits.value (end_at l (index + 1)) fits) ∙ told)))
+            | inr fits ↦ absurd (end_no-above l (index + 1) k (after-err (digits.value ∷ []) (end_at l (index + 1)) (AboveMaxval k) (sym (sample-passed l index digits.value (end_at l (index + 1)) fits) ∙ told)))
           ]
     ]
 
@@ -331,7 +309,7 @@ above-within l at index bytes w = by-more w.above.more refl
               let first : plain_from l 0 no_digits at (text ++ byte ∷ []) ≡ Err (AboveMaxval index) =
               plain-within l (text ++ byte ∷ []) 0 no_digits at (omega (arith, within, length_push text byte)) ∙ above-read Plain l (text ++ byte ∷ []) at index short in
               let ended : ended_then l f.1 f.2 (λ i. end_at l i) ≡ Err (AboveMaxval index) =
-              after-refused f.0 (ended_then l f.1 f.2 (λ i. end_at l i)) (AboveMaxval index) (sym (step []) ∙ first) in
+              after-err f.0 (ended_then l f.1 f.2 (λ i. end_at l i)) (AboveMaxval index) (sym (step []) ∙ first) in
               ap (plain_from l 0 no_digits at) cut ∙ step m ∙ ap (after f.0) (ended-above l f.1 f.2 index (λ i. plain_from l i no_digits (at + length text + 1) m) ended)
         ]
 

@@ -15,14 +15,9 @@ use Rattle.pgm_raster.specs.declared.part.Part.TheVariants as part
 use Rattle.pgm_raster.specs.RasterText.{IsCutShort}
 use Rattle.pgm_raster.specs.Progress.{most_bytes, Answer, after, sample_then, end_at, bytes_from, words_from, ended_then, plain_from, reads}
 use Rattle.pgm_raster.specs.Stage.{IsPart, IsPlace}
-use Rattle.pgm_raster.proofs.RasterLemmas.{sample-passed, sample-refused}
+use Rattle.pgm_raster.proofs.RasterLemmas.{sample-passed, sample-refused, after-err}
 use Rattle.pgm_raster.proofs.PlainLemmas.{plain-full, plain-bad, plain-long}
 use Rattle.pgm_raster.proofs.LawLemmas.{Told, bytes-told, words-told}
-
--- a refusal behind samples is one of the rest
-pub after-err : (samples : List ℕ) (r : Answer) (f : RasterFault) → after samples r ≡ Err f → r ≡ Err f
-after-err samples (Ok rest) f e = absurd (cc)
-after-err samples (Err g) f e = e
 
 pub same_fault : (r : Answer) (f g : RasterFault) → r ≡ Err f → r ≡ Err g → f ≡ g
 same_fault r f g a b = let e : ◌≡◌ {A = Answer} (Err f) (Err g) = sym a ∙ b in cc

@@ -17,11 +17,11 @@ use Rattle.pgm_raster.specs.declared.part.Digits.{Digits}
 use Rattle.pgm_raster.specs.RasterText.{AreEndedTexts, IsOpen}
 use Rattle.pgm_raster.specs.Progress.{most_bytes, after, sample_then, no_digits, plain_from, raster_of}
 use Rattle.pgm_raster.specs.Laws.{OpenRastersAreUnrefused}
-use Rattle.pgm_raster.proofs.RasterLemmas.{sample-passed, sample-refused}
+use Rattle.pgm_raster.proofs.RasterLemmas.{sample-passed, sample-refused, after-err}
 use Rattle.pgm_raster.proofs.PlainLemmas.{plain-space, plain-full, plain-digit, plain-bad}
 use Rattle.pgm_raster.proofs.UnlimitedLemmas.{plain_unlimited, plain-within, agreed}
-use Rattle.pgm_raster.proofs.LawLemmas.{ended_texts-append, digits_of, digits-push, plain-read, digits-read}
-use Rattle.pgm_raster.proofs.OpenLemmas.{IsEndFault, after-err, same_fault, digits-end}
+use Rattle.pgm_raster.proofs.LawLemmas.{ended_texts-append, digits_of, digits-push, plain-read, digits-read, no_fewer}
+use Rattle.pgm_raster.proofs.OpenLemmas.{IsEndFault, same_fault, digits-end}
 
 -- behind some more samples
 open-more : (big small maxval : ℕ) (vs p rest : List ℕ) → AreEndedTexts vs p → All (λ h. h ≤ maxval) vs → small + length vs ≡ big → IsOpen small maxval rest → IsOpen big maxval (p ++ rest)
@@ -156,9 +156,6 @@ open-unrefused l bytes at place w fault all =
     (all (120 ∷ []))
 
 -- ---- the law
-
-no_fewer : (count : ℕ) → count - 0 ≡ count
-no_fewer count = omega arith
 
 pub unrefused : OpenRastersAreUnrefused
 unfolding raster_of

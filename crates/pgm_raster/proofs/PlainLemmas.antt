@@ -1,9 +1,6 @@
 -- Facts about the digits of samples.
-use Rattle.std.proofs.Common.{◌≡◌, ℕ, ◌+◌, ◌-◌, ◌^◌, ◌<◌, ◌≤◌, Bool, true, false, ◌&&◌, nat_lt, List, [], ◌∷◌, ◌++◌, length, take, drop, get_or, inl, inr, Err, refl, sym, ap, ◌∙◌, arith, lit<, append_assoc, take-append-drop, length-take-le, length-drop, length-append}
+use Rattle.std.proofs.Common.{◌≡◌, ℕ, ◌+◌, ◌-◌, ◌<◌, ◌≤◌, true, false, ◌&&◌, nat_lt, List, [], ◌∷◌, ◌++◌, length, take, drop, Err, sym, ap, ◌∙◌, arith, append_assoc, take-append-drop, length-take-le, length-drop, length-append}
 use Rattle.std.specs.Char.{is_ascii_digit}
-use Rattle.std.proofs.Math.Nat.{pow-le-pow_right}
-use Rattle.std.proofs.lemmas.Bool.Decides.{nat_tests}
-use Rattle.std.proofs.lemmas.List.{drop_more}
 use Rattle.std.proofs.lemmas.Bool.{lt-ltb, le-ltb, eq-eqb, ne_eqb, cond-true, cond-false}
 use Rattle.text_laws.specs.Blanks.{is_white}
 use Rattle.pgm_raster.specs.declared.fault.RasterFault.{RasterFault}
@@ -32,17 +29,6 @@ plain-bad l index digits at byte more within space wanted bad =
 pub plain-long : (l : Limits) (index : ℕ) (digits : Digits) (at : ℕ) (bytes : List ℕ) → at ≡ most_bytes → 0 < length bytes → plain_from l index digits at bytes ≡ Err TooLong
 plain-long l index digits at [] here some = absurd (omega arith)
 plain-long l index digits at (byte ∷ bytes) here some = cond-true _ _ _ (eq-eqb at most_bytes here)
-
--- at most eight digits leave room for one more
-pub eight_digits : (count value : ℕ) → count < 9 → value < 10 ^ count → value < 10 ^ 8
-eight_digits count value short small =
-    let size : count ≤ 8 = omega arith in
-    let top : 10 ^ count ≤ 10 ^ 8 = pow-le-pow_right (lit< tt) size in
-    omega (arith, small, top)
-
--- one more byte of a list
-pub drop-step : (bytes : List ℕ) (i : ℕ) (more : List ℕ) → i < length bytes → drop i bytes ++ more ≡ get_or bytes i 0 ∷ (drop (i + 1) bytes ++ more)
-drop-step bytes i more below = ap (λ (s : List ℕ). s ++ more) (drop_more bytes i 0 below)
 
 -- ---- a piece that goes beyond the most bytes that a file has
 

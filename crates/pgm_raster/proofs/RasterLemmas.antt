@@ -4,7 +4,7 @@ use Rattle.std.proofs.lemmas.List.{drop_all}
 use Rattle.std.proofs.lemmas.Bool.{lt-ltb, le-ltb, cond-true, cond-false}
 use Rattle.std.proofs.lemmas.List.Elements.{All-head, All-tail}
 use Rattle.text_laws.specs.Words.{words_of}
-use Rattle.text_laws.proofs.WordLemmas.{words-append}
+use Rattle.text_laws.proofs.ListLemmas.{one-entry}
 use Rattle.pgm_raster.specs.declared.fault.RasterFault.{RasterFault}
 use Rattle.pgm_raster.specs.declared.fault.RasterFault.TheVariants.{AboveMaxval, Trailing}
 use Rattle.pgm_raster.specs.declared.part.Limits.{Limits}
@@ -19,6 +19,11 @@ after-append xs ys (Err fault) = refl
 pub after-nil : (r : Answer) → after [] r ≡ r
 after-nil (Ok rest) = refl
 after-nil (Err fault) = refl
+
+-- a refusal behind samples is one of the rest
+pub after-err : (samples : List ℕ) (r : Answer) (f : RasterFault) → after samples r ≡ Err f → r ≡ Err f
+after-err samples (Ok rest) f e = absurd (cc)
+after-err samples (Err g) f e = e
 
 -- a sample that may stand, and one that may not
 pub sample-passed : (l : Limits) (index sample : ℕ) (rest : Answer) → sample ≤ l.maxval → sample_then l index sample rest ≡ after (sample ∷ []) rest
@@ -81,19 +86,6 @@ chunk-refused l old xs ys all fault e step rest =
     ap (λ (s : List ℕ). after old (samples_then l (length old) s rest)) e
     ∙ ap (after old) (samples-append l (length old) xs ys rest)
     ∙ step (samples_then l (length old + length xs) ys rest)
-
--- a list and its two parts
-pub parts : (left front back : List ℕ) (n : ℕ) → front ≡ take n left → back ≡ drop n left → left ≡ front ++ back
-parts left front back n f b = sym (take-append-drop n left) ∙ ap₂ (λ (xs : List ℕ) (ys : List ℕ). xs ++ ys) (sym f) (sym b)
-
--- a chunk of pairs
-pub words-cut : (left : List ℕ) (n k : ℕ) → n ≡ 2 * k → n ≤ length left → words_of left ≡ words_of (take n left) ++ words_of (drop n left)
-words-cut left n k e short =
-    ap words_of (sym (take-append-drop n left)) ∙ words-append (take n left) (drop n left) k (length-take-le n left short ∙ e)
-
-pub words-parts : (left front back : List ℕ) (n k : ℕ) → front ≡ take n left → back ≡ drop n left → n ≡ 2 * k → n ≤ length left → words_of left ≡ words_of front ++ words_of back
-words-parts left front back n k f b e short =
-    words-cut left n k e short ∙ ap₂ (λ (xs : List ℕ) (ys : List ℕ). words_of xs ++ words_of ys) (sym f) (sym b)
 
 -- ---- bytes that are a sample each
 
@@ -196,16 +188,11 @@ words-taken l old new piece front at k f e room step long more =
     words-front l old new piece at k (omega arith) room (subst (λ (s : List ℕ). Pushes l old (words_of s) new) f step) long more
     ∙ ap₂ (λ (p : ℕ) (s : List ℕ). after new (words_from l (length new) None (at + p) (s ++ more))) e none
 
-one-byte : (bytes : List ℕ) → length bytes ≡ 1 → bytes ≡ get_or bytes 0 0 ∷ []
-one-byte [] e = absurd (omega arith)
-one-byte (byte ∷ []) e = refl
-one-byte (byte ∷ other ∷ bytes) e = absurd (omega arith)
-
 pub words-cut_half : (l : Limits) (old new piece front back : List ℕ) (at k : ℕ) → front ≡ take (2 * k) piece → back ≡ drop (2 * k) piece → 2 * k + 1 ≡ length piece → length old + k < l.count → Pushes l old (words_of front) new → length new ≡ length old + k → (more : List ℕ)
     → after old (words_from l (length old) None at (piece ++ more)) ≡ after new (words_from l (length new) (Some (get_or back 0 0)) (at + length piece) more)
 words-cut_half l old new piece front back at k f b e room step long more =
     let one : length back ≡ 1 = ap length b ∙ length-drop (2 * k) piece ∙ omega arith in
-    let rest : drop (2 * k) piece ≡ get_or back 0 0 ∷ [] = sym b ∙ one-byte back one in
+    let rest : drop (2 * k) piece ≡ get_or back 0 0 ∷ [] = sym b ∙ one-entry back one in
     let place : at + 2 * k + 1 ≡ at + length piece = omega arith in
     words-front l old new piece at k (omega arith) (omega arith) (subst (λ (s : List ℕ). Pushes l old (words_of s) new) f step) long more
     ∙ ap (λ (s : List ℕ). after new (words_from l (length new) None (at + 2 * k) (s ++ more))) rest

@@ -1,5 +1,5 @@
 -- What readers come to.
-use Rattle.std.proofs.Common.{◌≡◌, ℕ, ◌^◌, ◌<◌, ◌≤◌, append-nil, Option, Some, None, IfSome, IfOk, IfErr, OnOk, Vec, Global, subst, List, [], length, Result, Ok, Err, refl, sym, ap, ◌∙◌, arith}
+use Rattle.std.proofs.Common.{◌≡◌, ℕ, ◌^◌, ◌<◌, ◌≤◌, append-nil, Option, Some, None, IfOk, IfErr, OnOk, Vec, Global, subst, List, [], length, Result, Ok, Err, refl, sym, ap, ◌∙◌, arith}
 use Rattle.std.proofs.lemmas.Bool.{lt-ltb, le-ltb, cond-true, cond-false}
 use Rattle.pgm_raster.specs.declared.fault.RasterFault.{RasterFault}
 use Rattle.pgm_raster.specs.declared.fault.RasterFault.TheVariants.{Truncated}
@@ -77,13 +77,6 @@ closed-resume r self fault v e bytes = ap (λ (p : Progress). resume p bytes) (c
 
 pub opened-place : (r : Inside) (self : Progress) → progress_of r.refused (Reading r.limits r.heights.items r.part r.at) ≡ self → r.refused ≡ None → next_place self ≡ r.at
 opened-place r self v e = ap next_place (opened r self v e) ∙ place-reading r.limits r.heights.items r.part r.at
-
-pub at-none : {A : Type 0} → (o : Option A) (P : A → Type 0) → o ≡ None → IfSome o P
-at-none None P e = tt
-at-none (Some x) P e = absurd (cc)
-
-pub at-some : {A : Type 0} → (o : Option A) (x : A) (P : A → Type 0) → o ≡ Some x → P x → IfSome o P
-at-some o x P e h = subst (λ (p : Option _). IfSome p P) (sym e) h
 
 -- ---- digits that the end of the file ends
 

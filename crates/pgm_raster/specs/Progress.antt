@@ -4,7 +4,7 @@
 -- Words: most_bytes, Answer, after, sample_then, samples_then, end_at, bytes_from, words_from,
 -- no_digits, with_digit, ended_then, plain_from, rest_of, reads, nothing_of, raster_of, Progress, resume,
 -- next_place, refusal_of, IsSettled.
-use Rattle.std.specs.Prelude.{◌≡◌, ℕ, ◌+◌, ◌-◌, ◌*◌, Bool, ◌&&◌, ◌||◌, cond, List, [], ◌∷◌, ◌++◌, length, Option, Some, None, Result, Ok, Err, nat_eq, nat_lt}
+use Rattle.std.specs.Prelude.{◌≡◌, ℕ, ◌+◌, ◌-◌, ◌*◌, ◌&&◌, cond, List, [], ◌∷◌, ◌++◌, length, Option, Some, None, Result, Ok, Err, nat_eq, nat_lt}
 use Rattle.std.specs.Char.{is_ascii_digit}
 use Rattle.pgm_raster.specs.declared.plain.TheConstants.{MOST_BYTES}
 use Rattle.text_laws.specs.Blanks.{is_white}

@@ -4,7 +4,7 @@
 -- Words: IsSampleText, IsSample, AreEndedTexts, AreEnded, HasOpenEnd,
 -- IsRaster; IsCut, IsCutShort, IsStray, IsTrailingAt, EndsThere, IsAboveAt, IsBadSampleAt,
 -- IsOpen.
-use Rattle.std.specs.Prelude.{◌≡◌, ℕ, ◌+◌, ◌-◌, ◌*◌, ◌/◌, ◌%◌, ◌^◌, ◌<◌, ◌≤◌, ⊤, ◌⊎◌, List, [], ◌∷◌, ◌++◌, length, All}
+use Rattle.std.specs.Prelude.{◌≡◌, ℕ, ◌+◌, ◌<◌, ◌≤◌, ⊤, ◌⊎◌, List, [], ◌∷◌, ◌++◌, length, All}
 use Rattle.std.specs.List.{flat_map}
 use Rattle.text_laws.specs.Digits.{IsDigit, value_of}
 use Rattle.text_laws.specs.Blanks.{IsWhite}

@@ -4,6 +4,7 @@ ghost use Rattle.std.specs.Prelude.{◌≡◌, ◌<◌, ◌≤◌, ◌↔◌, If
 ghost use Rattle.mesh_defs.specs.ClosedSet.{leaves_of, among};
 ghost use Rattle.mesh_defs.specs.Priority.{priority_of};
 ghost use Rattle.mesh_defs.specs.BestMesh.{IsBestMesh};
+ghost use Rattle.wedgie_tree.specs.declared.wedges.TheConstants.{GREATEST_SPACING};
 ghost use Rattle.view_priority.specs.Camera.{view_from};
 ghost use Rattle.closure_laws.specs.Frame.{IsFrame};
 
@@ -47,7 +48,7 @@ pub fn plain_frame(
     budget: u32,
 ) -> Result<PlainFrame, NoMemory>
     requires spacing_low { 1 ≤ spacing }
-    requires spacing_high { spacing ≤ 1024 }
+    requires spacing_high { spacing ≤ GREATEST_SPACING }
     requires budget { 2 ≤ budget }
     ensures grid { IfOk result (λ f. f.split.n ≡ w.now.n) }
     ensures frame { IfOk result (λ f.

@@ -2,6 +2,7 @@
 
 ghost use Rattle.std.specs.Prelude.{◌≡◌, ◌<◌, ◌≤◌, ◌+◌, ◌*◌, ◌^◌, ◌↔◌, IsTrue, IfOk};
 ghost use Rattle.mesh_defs.specs.Priority.{priority_of};
+ghost use Rattle.wedgie_tree.specs.declared.wedges.TheConstants.{GREATEST_SPACING};
 ghost use Rattle.view_priority.specs.Camera.{view_from};
 ghost use Rattle.plain_mesh.specs.Ranks.{IsPicked, IsRanked, positives_below};
 
@@ -23,7 +24,7 @@ pub fn ranking_of(
     planes: &Planes,
 ) -> Result<Vec<Rank>, NoMemory>
     requires spacing_low { 1 ≤ spacing }
-    requires spacing_high { spacing ≤ 1024 }
+    requires spacing_high { spacing ≤ GREATEST_SPACING }
     ensures { IfOk result (λ v.
         IsRanked w.now.n (priority_of w.now.n w.now.heights (view_from camera.now spacing planes.now)) v.items) }
 {
@@ -46,7 +47,7 @@ fn picked(
     planes: &Planes,
 ) -> Result<Vec<Rank>, NoMemory>
     requires spacing_low { 1 ≤ spacing }
-    requires spacing_high { spacing ≤ 1024 }
+    requires spacing_high { spacing ≤ GREATEST_SPACING }
     ensures { IfOk result (λ v. IsPicked
         (priority_of w.now.n w.now.heights (view_from camera.now spacing planes.now))
         (2 ^ (2 * w.now.n + 1)) v.items) }
@@ -66,7 +67,7 @@ fn picked(
 /// How many splittable triangles have a positive priority.
 fn count_positive(w: &Wedges, camera: &Camera, spacing: u32, planes: &Planes) -> u32
     requires spacing_low { 1 ≤ spacing }
-    requires spacing_high { spacing ≤ 1024 }
+    requires spacing_high { spacing ≤ GREATEST_SPACING }
     ensures { result ≡ positives_below
         (priority_of w.now.n w.now.heights (view_from camera.now spacing planes.now))
         (2 ^ (2 * w.now.n + 1)) }
@@ -109,7 +110,7 @@ fn rank_at(
     requires low { 2 ≤ number }
     requires splittable { number < 2 ^ (2 * w.now.n + 1) }
     requires spacing_low { 1 ≤ spacing }
-    requires spacing_high { spacing ≤ 1024 }
+    requires spacing_high { spacing ≤ GREATEST_SPACING }
     ensures tri { result.tri ≡ number }
     ensures value { result.p
         ≡ priority_of w.now.n w.now.heights (view_from camera.now spacing planes.now) number }

@@ -31,7 +31,7 @@ pub use file_shelf::FileShelf;
 pub use mem_meshes::MemMeshes;
 pub use mem_sink::MemSink;
 pub use mesh_call::MeshCall;
-pub use mesh_sink::MeshSink;
+pub use mesh_sink::{GREATEST_NUMBER, LONGEST_PREFIX, MeshSink};
 pub use shelf::Shelf;
 pub use sink::Sink;
 pub use std_sink::StdSink;

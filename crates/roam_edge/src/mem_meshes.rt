@@ -3,6 +3,7 @@
 ghost use Rattle.std.specs.Prelude.{◌≡◌, ◌^◌, ◌<◌, ◌≤◌, ℕ, [], Some, None, true, false, IfOk, is_ok, is_err, is_some, length, option_map, slice_get};
 ghost use Rattle.roam_edge.specs.Fault.{HasCause};
 ghost use Rattle.roam_edge.specs.MeshSink.{Begins, Writes, Finishes};
+ghost use Rattle.roam_edge.specs.declared.mesh_sink.TheConstants.{LONGEST_PREFIX, GREATEST_NUMBER};
 ghost use Rattle.roam_edge.specs.MemMeshes.{all_meshes, begin_fails, after_begin, write_fails, after_write, finish_fails, after_finish};
 
 use crate::mesh_call::is_named;
@@ -180,9 +181,9 @@ impl MeshSink for MemMeshes {
     fn begin(&mut self, prefix: &str, number: u32) -> Result<(), Failed>
         requires idle { is_some self.old.current ≡ false }
         requires prefix_some { 0 < length prefix.now }
-        requires prefix_short { length prefix.now ≤ 200 }
+        requires prefix_short { length prefix.now ≤ LONGEST_PREFIX }
         requires number_low { 1 ≤ number }
-        requires number_high { number ≤ 999999 }
+        requires number_high { number ≤ GREATEST_NUMBER }
         ensures fails { is_err result ≡ begin_fails self.old }
         ensures after { self.new ≡ after_begin self.old prefix.now number }
         ensures mesh { Begins (Some (all_meshes self.old)) (Some (all_meshes self.new))

@@ -1,9 +1,7 @@
 //! Where the meshes of a sink in memory lie in its room of bytes.
 
+use crate::LONGEST_PREFIX;
 use arrayvec::ArrayString;
-
-/// The greatest length of a prefix, in bytes: that which `begin` of a mesh sink asks for.
-pub(crate) const LONGEST_PREFIX: usize = 200;
 
 /// The name of a mesh, and the place in the room at which its bytes start.
 #[derive(Clone, Copy)]

@@ -3,8 +3,15 @@
 ghost use Rattle.std.specs.Prelude.{◌≡◌, ◌<◌, ◌≤◌, ℕ, List, Option, Bool, true, false, is_ok, is_err, length};
 ghost use Rattle.roam_edge.specs.Fault.{HasCause};
 ghost use Rattle.roam_edge.specs.MeshSink.{Mesh, Begins, Writes, Finishes};
+ghost use Rattle.roam_edge.specs.declared.mesh_sink.TheConstants.{LONGEST_PREFIX, GREATEST_NUMBER};
 
 use crate::Failed;
+
+/// The greatest length of a prefix, in bytes: with six digits and `.obj` a name has at most 210.
+pub const LONGEST_PREFIX: usize = 200;
+
+/// The greatest number of a mesh: a name has six digits.
+pub const GREATEST_NUMBER: u32 = 999_999;
 
 /// A sink of meshes, each named by a prefix and a number, written one after the other.
 pub trait MeshSink {
@@ -21,9 +28,9 @@ pub trait MeshSink {
     fn begin(&mut self, prefix: &str, number: u32) -> Result<(), Failed>
         requires idle { under_way self.old ≡ false }
         requires prefix_some { 0 < length prefix.now }
-        requires prefix_short { length prefix.now ≤ 200 }
+        requires prefix_short { length prefix.now ≤ LONGEST_PREFIX }
         requires number_low { 1 ≤ number }
-        requires number_high { number ≤ 999999 }
+        requires number_high { number ≤ GREATEST_NUMBER }
         ensures mesh { Begins (meshes self.old) (meshes self.new) prefix.now number result }
         ensures under_way { under_way self.new ≡ is_ok result }
         ensures faults { HasCause (faults self.old) (faults self.new) result };

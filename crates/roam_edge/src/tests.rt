@@ -1,10 +1,11 @@
 //! Tests of each implementation through its trait, and of the adapters on real files.
 
 ghost use Rattle.std.specs.Prelude.{◌≡◌, ◌<◌, ◌≤◌, ◌^◌, false, length};
+ghost use Rattle.roam_edge.specs.declared.mesh_sink.TheConstants.{LONGEST_PREFIX, GREATEST_NUMBER};
 
 use crate::{
-    CalmShelf, Failed, FileMeshes, FileShelf, MemMeshes, MemSink, MeshCall, MeshSink, Shelf, Sink,
-    StdSink,
+    CalmShelf, Failed, FileMeshes, FileShelf, LONGEST_PREFIX, MemMeshes, MemSink, MeshCall,
+    MeshSink, Shelf, Sink, StdSink,
 };
 use std::io::Write;
 use std::path::PathBuf;
@@ -23,9 +24,9 @@ fn read_front<F: Shelf>(shelf: &mut F, name: &str, buf: &mut [u8]) -> Result<usi
 fn put_mesh<M: MeshSink>(meshes: &mut M, prefix: &str, number: u32) -> Result<(), Failed>
     requires idle { M.under_way meshes.old ≡ false }
     requires prefix_some { 0 < length prefix.now }
-    requires prefix_short { length prefix.now ≤ 200 }
+    requires prefix_short { length prefix.now ≤ LONGEST_PREFIX }
     requires number_low { 1 ≤ number }
-    requires number_high { number ≤ 999999 }
+    requires number_high { number ≤ GREATEST_NUMBER }
 {
     meshes.begin(prefix, number)?;
     meshes.write(b"v 0 0 0\n")?;
@@ -155,9 +156,9 @@ fn a_mesh_sink_over_real_files_names_and_fills_them(rt: HostRuntime) -> Result<(
 fn put_at<M: MeshSink>(meshes: &mut M, prefix: &str, number: u32) -> Result<(), Failed>
     requires idle { M.under_way meshes.old ≡ false }
     requires number_low { 1 ≤ number }
-    requires number_high { number ≤ 999999 }
+    requires number_high { number ≤ GREATEST_NUMBER }
 {
-    if prefix.is_empty() || prefix.len() > 200 {
+    if prefix.is_empty() || prefix.len() > LONGEST_PREFIX {
         return Err(Failed);
     }
     put_mesh(meshes, prefix, number)

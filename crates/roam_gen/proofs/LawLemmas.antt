@@ -1,6 +1,6 @@
 -- What holds of generated grids, their texts, and the lines of generated scripts.
-use Rattle.std.proofs.Common.{◌≡◌, ℕ, zero, suc, ◌+◌, ◌-◌, ◌*◌, ◌/◌, ◌%◌, ◌^◌, ◌<◌, ◌≤◌, Bool, true, false, List, [], ◌∷◌, ◌++◌, length, get_or, map, Ok, refl, sym, ap, ◌∙◌, subst, arith, lit<, lit≤, pos, length-append}
-use Rattle.std.specs.Prelude.{if◌then◌else◌, All, ◌==◌, nat_lt}
+use Rattle.std.proofs.Common.{ℕ, ◌+◌, ◌-◌, ◌*◌, ◌/◌, ◌%◌, ◌^◌, ◌<◌, ◌≤◌, List, [], length, map, refl, sym, subst, arith, lit<, lit≤, length-append}
+use Rattle.std.specs.Prelude.{◌==◌, nat_lt}
 use Rattle.std.specs.Fmt.{decimal}
 use Rattle.std.specs.List.{range_with_len, flat_map}
 use Rattle.std.proofs.Math.Nat.{mod-lt, mul-le-mul_right, div-le_self}
@@ -10,11 +10,11 @@ use Rattle.mesh_defs.specs.HeightField.{IsHeightField, side_of}
 use Rattle.pgm_header.specs.HeaderText.{IsHeaderText}
 use Rattle.pgm_header.specs.Laws.{WrittenHeadersAreTexts}
 use Rattle.text_laws.specs.Words.{two_bytes}
+use Rattle.text_laws.proofs.WordLemmas.{length-flat}
+use Rattle.std.proofs.lemmas.Bool.{cond_both}
 use Rattle.pgm_grid.specs.PgmText.{IsFileText}
-use Rattle.roam_script.specs.declared.line.Line.{Line}
-use Rattle.roam_script.specs.declared.line.Line.TheVariants.{Camera, Set, Frame}
-use Rattle.roam_gen.specs.Generated.{made_height, height_of_place, made_grid, octave_base, camera_line, edit_line}
-use Rattle.roam_gen.specs.LineAt.{line_of_tens, line_at}
+use Rattle.roam_gen.specs.Generated.{height_of_place, made_grid, octave_base, camera_line, edit_line}
+use Rattle.roam_gen.specs.LineAt.{line_at}
 use Rattle.roam_gen.specs.Written.{header_of, header_text, grid_text}
 use Rattle.roam_gen.specs.Laws.{IsMadeLine}
 use Rattle.roam_gen.proofs.OctaveLemmas.{octaves-bound, lattice-small, width-small}
@@ -36,11 +36,6 @@ made-is_grid n seed low high =
       bounded = λ k d below. subst P (sym (get_or-map-range_with_len f 0 count k k d (omega (arith, long, below)) (omega arith)))
           (octaves-bound (n + 1) n seed (k % side_of n) (2 ^ n - k / side_of n) (omega arith));
     }
-
--- two bytes a sample
-length-samples : (samples : List ℕ) → length (flat_map two_bytes samples) ≡ 2 * length samples
-length-samples [] = refl
-length-samples (sample ∷ samples) = let e = length-samples samples in omega (arith, e)
 
 -- a side is at most 2049
 side-small : (n : ℕ) → n ≤ 11 → side_of n ≤ 2049
@@ -71,7 +66,7 @@ made-is_text n seed high is_text =
     let heights : List ℕ = map (height_of_place n seed) (range_with_len 0 (side_of n * side_of n)) in
     let raster : List ℕ = flat_map two_bytes heights in
     let long = length-map-range_with_len (height_of_place n seed) 0 (side_of n * side_of n) in
-    let bytes = length-samples heights in
+    let bytes = length-flat heights in
     let few = points-small (side_of n) (side-small n high) in
     let short = header-short n high in
     record {
@@ -89,10 +84,6 @@ made-is_text n seed high is_text =
     }
 
 -- Lines
-
-choose : {A : Type 0} (P : A → Type 0) (test : Bool) (x y : A) → (test ≡ true → P x) → (test ≡ false → P y) → P (if test then x else y)
-choose P true x y holds fails = holds refl
-choose P false x y holds fails = fails refl
 
 -- a part of a side is in reach of the camera
 way-small : (n parts : ℕ) → n ≤ 11 → parts ≤ 51 → 2 ^ n * 30 * parts / 51 ≤ 2 ^ 30
@@ -119,7 +110,7 @@ line-made n seed i high first last =
     let place : ℕ = (i - 1) % 21 in
     let few : tens ≤ 4 = omega arith in
     let within : place < 21 = omega arith in
-    choose (IsMadeLine n) (nat_lt place 18) _ _
-    (λ early. choose (IsMadeLine n) (place % 2 == 0) _ _ (λ even. camera-made n (10 * tens + place / 2 + 1) high (omega (arith, few, within))) (λ odd. tt))
-    (λ late. choose (IsMadeLine n) (place == 18) _ _ (λ e. camera-made n (10 * tens + 10) high (omega (arith, few)))
-    (λ other. choose (IsMadeLine n) (place == 19) _ _ (λ e. edit-made n seed (10 * tens + 10)) (λ e. tt)))
+    cond_both (nat_lt place 18) _ _ (IsMadeLine n)
+    (λ early. cond_both (place % 2 == 0) _ _ (IsMadeLine n) (λ even. camera-made n (10 * tens + place / 2 + 1) high (omega (arith, few, within))) (λ odd. tt))
+    (λ late. cond_both (place == 18) _ _ (IsMadeLine n) (λ e. camera-made n (10 * tens + 10) high (omega (arith, few)))
+    (λ other. cond_both (place == 19) _ _ (IsMadeLine n) (λ e. edit-made n seed (10 * tens + 10)) (λ e. tt)))

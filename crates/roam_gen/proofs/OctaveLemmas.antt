@@ -4,7 +4,7 @@ use Rattle.std.proofs.Math.Nat.{mul_assoc, mul_comm, add-mul, mul-add, mul-le-mu
 use Rattle.std.proofs.lemmas.Nat.{le-div, pow_pos, pow-add, shl_whole, and_mask}
 use Rattle.roam_gen.specs.declared.octave.Cell.{Cell}
 use Rattle.roam_gen.specs.Rows.{cell_at}
-use Rattle.roam_gen.specs.Generated.{plus, times, mixed, octave_base, lattice_from, between, octave, octaves, made_height}
+use Rattle.roam_gen.specs.Generated.{plus, times, mixed, octave_base, lattice_from, between, octave, octaves}
 
 -- the values of a lattice have 16 bits
 pub mixed-small : (z : ℕ) → mixed z < 2 ^ 64

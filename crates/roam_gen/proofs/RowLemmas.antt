@@ -1,11 +1,13 @@
 -- Rows of heights, and the samples of a file.
-use Rattle.std.proofs.Common.{◌≡◌, ℕ, zero, suc, ◌+◌, ◌-◌, ◌*◌, ◌/◌, ◌%◌, ◌^◌, ◌<◌, ◌≤◌, List, [], ◌∷◌, ◌++◌, length, get_or, map, refl, sym, ap, ◌∙◌, subst, arith, add-zero, append_assoc}
+use Rattle.std.proofs.Common.{◌≡◌, ℕ, suc, ◌+◌, ◌-◌, ◌*◌, ◌/◌, ◌%◌, ◌^◌, ◌<◌, ◌≤◌, List, [], ◌∷◌, ◌++◌, length, get_or, map, refl, sym, ap, ◌∙◌, arith, add-zero, append_assoc}
 use Rattle.std.specs.List.{range_with_len, flat_map}
 use Rattle.std.proofs.Math.Nat.{div-add-mod', mod-lt, le_refl, add-mul, one-mul}
 use Rattle.std.proofs.lemmas.Nat.{same_from_place, row-Below}
 use Rattle.std.proofs.lemmas.Grind.{flat_map-append}
 use Rattle.mesh_defs.specs.HeightField.{HeightField, side_of, place_of, height_at}
 use Rattle.text_laws.specs.Words.{two_bytes}
+use Rattle.text_laws.proofs.ListLemmas.{range-append}
+use Rattle.std.proofs.lemmas.List.{map-append}
 use Rattle.roam_gen.specs.Generated.{made_height, height_of_place, made_grid}
 use Rattle.roam_gen.specs.Rows.{HasOctaves}
 
@@ -18,18 +20,6 @@ by-index f (x ∷ xs) a is =
     by-index f xs (a + 1) (λ k below. is (suc k) (omega arith) ∙ ap f (let e : a + suc k ≡ a + 1 + k = omega arith in e)) in
     ap (λ v. v ∷ xs) first ∙ ap (λ l. f a ∷ l) others
 
--- a range is its first numbers and the others
-range-more : (a m n : ℕ) → range_with_len a (m + n) ≡ range_with_len a m ++ range_with_len (a + m) n
-range-more a zero n = let e : 0 + n ≡ n = omega arith in let f : a + 0 ≡ a = omega arith in ap (range_with_len a) e ∙ ap (λ b. range_with_len b n) (sym f)
-range-more a (suc m) n =
-    let e : suc m + n ≡ suc (m + n) = omega arith in
-    let f : a + 1 + m ≡ a + suc m = omega arith in
-    ap (range_with_len a) e ∙ ap (λ l. a ∷ l) (range-more (a + 1) m n ∙ ap (λ b. range_with_len (a + 1) m ++ range_with_len b n) f)
-
-map-join : (f : ℕ → ℕ) (xs ys : List ℕ) → map f (xs ++ ys) ≡ map f xs ++ map f ys
-map-join f [] ys = refl
-map-join f (x ∷ xs) ys = ap (λ l. f x ∷ l) (map-join f xs ys)
-
 -- the samples of so many places, from one on
 abbrev pub samples_from : ℕ → ℕ → ℕ → ℕ → List ℕ
 samples_from n seed a k = flat_map two_bytes (map (height_of_place n seed) (range_with_len a k))
@@ -38,7 +28,7 @@ samples_from n seed a k = flat_map two_bytes (map (height_of_place n seed) (rang
 pub samples-more : (n seed a k m : ℕ) → samples_from n seed a (k + m) ≡ samples_from n seed a k ++ samples_from n seed (a + k) m
 samples-more n seed a k m =
     let f : ℕ → ℕ = height_of_place n seed in
-    ap (λ l. flat_map two_bytes (map f l)) (range-more a k m) ∙ ap (flat_map two_bytes) (map-join f (range_with_len a k) (range_with_len (a + k) m))
+    ap (λ l. flat_map two_bytes (map f l)) (range-append a k m) ∙ ap (flat_map two_bytes) (map-append f (range_with_len a k) (range_with_len (a + k) m))
     ∙ flat_map-append two_bytes (map f (range_with_len a k)) (map f (range_with_len (a + k) m))
 
 -- the samples of one row more

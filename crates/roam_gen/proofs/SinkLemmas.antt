@@ -1,7 +1,6 @@
 -- Writing one piece after another: what a sink has then, and what stands of the whole where a write fails.
-use Rattle.std.proofs.Common.{◌≡◌, ℕ, List, [], ◌∷◌, ◌++◌, Option, Some, Result, Ok, Err, refl, sym, ap, ◌∙◌, subst, append_assoc}
+use Rattle.std.proofs.Common.{◌≡◌, ℕ, List, [], ◌++◌, Option, Some, Result, Ok, Err, sym, ap, ◌∙◌, append_assoc}
 use Rattle.std.proofs.lemmas.List.{append-nil}
-use Rattle.roam_edge.specs.Told.{IsFront}
 use Rattle.roam_edge.specs.Sink.{Appends}
 use Rattle.roam_gen.specs.Rows.{Wrote}
 

@@ -1,5 +1,5 @@
 -- What holds of generated grids and scripts, in the words of the crates that read them.
-use Rattle.std.specs.Prelude.{◌≡◌, ℕ, ◌≤◌, Ok, ℤ, pos, unsigned_abs, ◌^◌}
+use Rattle.std.specs.Prelude.{◌≡◌, ℕ, ◌≤◌, Ok, unsigned_abs, ◌^◌}
 use Rattle.mesh_defs.specs.HeightField.{IsHeightField}
 use Rattle.pgm_grid.specs.PgmText.{IsFileText}
 use Rattle.pgm_grid.specs.Progress.{grid_of}

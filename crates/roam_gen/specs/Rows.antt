@@ -1,7 +1,7 @@
 -- What stands in a row of heights while it is made, and in a grid whose rows are made one after the other.
 -- Words: cell_at, AreSmall, HasOctaves, HasRow, Wrote.
-use Rattle.std.specs.Prelude.{◌≡◌, ◌≢◌, ℕ, ◌+◌, ◌-◌, ◌<◌, ◌≤◌, ◌^◌, List, ◌++◌, length, slice_index, Option, Some}
-use Rattle.mesh_defs.specs.HeightField.{HeightField, height_at, side_of}
+use Rattle.std.specs.Prelude.{◌≡◌, ℕ, ◌+◌, ◌<◌, ◌≤◌, ◌^◌, List, ◌++◌, length, slice_index, Option, Some}
+use Rattle.mesh_defs.specs.HeightField.{HeightField, height_at}
 use Rattle.roam_gen.specs.declared.octave.Cell.{Cell}
 use Rattle.roam_gen.specs.Generated.{lattice_from, octaves, made_height}
 

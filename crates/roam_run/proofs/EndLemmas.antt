@@ -1,7 +1,6 @@
 -- The end of a script, and a script that is read from a shelf, piece by piece.
-use Rattle.std.proofs.Common.{◌≡◌, ◌≢◌, ℕ, ◌+◌, ◌≤◌, ◌⊎◌, Bool, true, false, List, [], ◌∷◌, ◌++◌, length, take, drop, Option, Some, None, IsSome, Result, Ok, Err, refl, sym, ◌∙◌, ap, subst, inl, inr, append_assoc, append-nil}
+use Rattle.std.proofs.Common.{◌≡◌, ◌≢◌, ℕ, Bool, true, false, List, [], ◌∷◌, ◌++◌, take, drop, Option, Some, None, IsSome, Err, refl, sym, ◌∙◌, ap, subst, append_assoc, append-nil}
 use Rattle.std.proofs.lemmas.List.{take-append-drop}
-use Rattle.mesh_defs.specs.State.{State}
 use Rattle.roam_edge.specs.Shelf.{NamedFile, bytes_of}
 use Rattle.run_laws.specs.declared.status.Status.{Status}
 use Rattle.run_laws.specs.declared.status.Status.TheVariants as ends
@@ -10,13 +9,11 @@ use Rattle.run_laws.specs.Words.{Show, AsMeshes}
 use Rattle.run_laws.specs.Picture.{Picture, ArePictures}
 use Rattle.run_laws.specs.Act.{Act, Told, Stands, IsCutShort}
 use Rattle.run_laws.specs.Outcome.{Outcome, shown_acts, stop_acts, stop_status, frames_outcome, IsFramesOutcome}
-use Rattle.run_laws.specs.Step.{Place, HasCome, Refuses, Cuts}
-use Rattle.run_laws.specs.Laws.{KeepsStates}
 use Rattle.run_laws.proofs.StepLemmas.{place, come-begin, come-others, walk_of-end, walk_of-empty}
 use Rattle.roam_run.specs.declared.stage.Stage.{Stage}
 use Rattle.roam_run.specs.declared.script.Stop.{Stop}
 use Rattle.roam_run.specs.declared.script.Stop.TheVariants.{Refused, Failed, NoMemory}
-use Rattle.roam_run.specs.StageView.{Shows, IsAt, Halts, Begins}
+use Rattle.roam_run.specs.StageView.{IsAt, Halts, Begins}
 use Rattle.roam_run.specs.Taking.{status_for, TakesBytes, DoesAs, AreFirst, EndsScript, StopsReading}
 
 -- a walk that was stopped ends as refused

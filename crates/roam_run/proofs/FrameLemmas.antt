@@ -1,19 +1,18 @@
 -- A frame that was written or cut short.
-use Rattle.std.proofs.Common.{◌≡◌, ℕ, ◌+◌, true, List, [], ◌∷◌, ◌++◌, Option, Some, Result, Ok, Err, refl, sym, ◌∙◌, ap, subst, length}
+use Rattle.std.proofs.Common.{◌≡◌, ℕ, ◌+◌, true, List, [], ◌∷◌, ◌++◌, Option, Some, Ok, Err, ◌∙◌, ap, subst, length}
 use Rattle.mesh_defs.specs.State.{State, text_in}
 use Rattle.roam_edge.specs.MeshSink.{Mesh}
 use Rattle.roam_edge.specs.Told.{IsFront}
 use Rattle.obj_write.specs.Written.{mesh_with, Grows, IsPartOfMesh}
-use Rattle.run_laws.specs.Words.{Show, AsMeshes}
+use Rattle.run_laws.specs.Words.{AsMeshes}
 use Rattle.run_laws.specs.Picture.{Picture, triangles_of}
-use Rattle.run_laws.specs.Act.{Act, WholeMesh, ReportText, Told, told, Stands, IsCutShort}
+use Rattle.run_laws.specs.Act.{Act, ReportText, Told, told, Stands, IsCutShort}
 use Rattle.run_laws.specs.ReportText.{frame_line}
 use Rattle.run_laws.specs.Outcome.{picture_acts}
 use Rattle.run_laws.proofs.ActLemmas.{cut-mesh, cut-line}
 use Rattle.roam_run.specs.declared.mesh.FrameMesh.{FrameMesh}
 use Rattle.roam_run.specs.declared.stage.Stage.{Stage}
-use Rattle.roam_run.specs.declared.script.Stop.{Stop}
-use Rattle.roam_run.specs.declared.script.Stop.TheVariants.{Refused, Failed, NoMemory}
+use Rattle.roam_run.specs.declared.script.Stop.TheVariants.{Failed}
 use Rattle.roam_run.specs.MeshSeen.{picture_seen, IsMeshOf}
 use Rattle.roam_run.specs.StageView.{SameBut}
 use Rattle.roam_run.specs.Taking.{TakesFrame}

@@ -1,5 +1,5 @@
 -- The mesh of a scene, from what is seen of the scene.
-use Rattle.std.proofs.Common.{◌≡◌, ℕ, ◌+◌, ◌*◌, ◌^◌, ◌<◌, ◌≤◌, ◌↔◌, List, length, All, refl, sym, ◌∙◌, ap, subst, arith, slice_index_or}
+use Rattle.std.proofs.Common.{◌≡◌, ℕ, ◌+◌, ◌*◌, ◌^◌, ◌<◌, ◌≤◌, ◌↔◌, List, length, All, sym, ◌∙◌, ap, subst, arith, slice_index_or}
 use Rattle.mesh_defs.specs.HeightField.{HeightField}
 use Rattle.mesh_defs.specs.BoundingBox.{CameraAt}
 use Rattle.mesh_defs.specs.View.{ViewPlane}

@@ -1,5 +1,5 @@
 -- A grid that is read from a shelf, piece by piece.
-use Rattle.std.proofs.Common.{arith, ◌+◌, length-append, Result, OnOk, IfOk, Bool, true, ◌≡◌, ◌≢◌, ℕ, ◌≤◌, List, [], ◌++◌, length, take, drop, Option, Some, Ok, Err, refl, sym, ◌∙◌, ap, append_assoc, append-nil, false, ◌∷◌, zero}
+use Rattle.std.proofs.Common.{arith, ◌+◌, length-append, Result, OnOk, IfOk, Bool, true, ◌≡◌, ◌≢◌, ℕ, ◌≤◌, List, [], ◌++◌, length, take, drop, Option, Some, Ok, Err, refl, sym, ◌∙◌, ap, append_assoc, append-nil, false, ◌∷◌}
 use Rattle.std.proofs.Math.Seq.{take-append_seam}
 use Rattle.std.proofs.lemmas.List.{take-append-drop, length-take-le}
 use Rattle.mesh_defs.specs.HeightField.{HeightField}

@@ -1,9 +1,10 @@
 -- Lines that a stage carries out or refuses, in the words of a script.
-use Rattle.std.proofs.Common.{◌≡◌, ◌≢◌, ℕ, ◌+◌, ◌*◌, ◌<◌, ◌≤◌, List, [], ◌∷◌, ◌++◌, length, Option, Some, None, Result, Ok, Err, OnOk, refl, sym, ◌∙◌, ap, subst, arith, inl, inr, append_assoc, append-nil, length-append}
+use Rattle.std.proofs.Common.{◌≡◌, ◌≢◌, ℕ, ◌+◌, ◌*◌, ◌<◌, ◌≤◌, List, [], ◌∷◌, ◌++◌, length, Result, Ok, Err, OnOk, refl, sym, ◌∙◌, ap, subst, arith, append_assoc, append-nil, length-append}
 use Rattle.mesh_defs.specs.ClosedSet.{among}
 use Rattle.mesh_defs.specs.State.{State, priority_in}
 use Rattle.closure_laws.specs.Frame.{IsFrame}
 use Rattle.roam_script.specs.declared.limits.Limits.{Limits}
+use Rattle.roam_script.specs.declared.limits.TheConstants.{MOST_LINES, MOST_LINE_BYTES}
 use Rattle.roam_script.specs.declared.line.Line.{Line}
 use Rattle.roam_script.specs.declared.line.Line.TheVariants.{Blank, Camera, Set, Plane, NoPlanes, Budget, Raise, Frame}
 use Rattle.roam_script.specs.declared.script_fault.ScriptFault.{ScriptFault}
@@ -13,18 +14,18 @@ use Rattle.run_laws.specs.Words.{Show, AsMeshes}
 use Rattle.run_laws.specs.Picture.{Picture, IsPicture, ArePictures, last_members}
 use Rattle.run_laws.specs.Act.{Act, ReportText, Told, Stands, IsCutShort}
 use Rattle.run_laws.specs.ReportText.{line_refusal}
-use Rattle.run_laws.specs.Outcome.{Outcome, picture_acts, shown_acts, sum_acts, IsFramesOutcome}
+use Rattle.run_laws.specs.Outcome.{Outcome, picture_acts, shown_acts, IsFramesOutcome}
 use Rattle.run_laws.specs.Step.{Place, HasCome}
 use Rattle.run_laws.specs.Laws.{BudgetsAreTwo, FramesExist}
 use Rattle.run_laws.proofs.ActLemmas.{stands-nothing}
 use Rattle.run_laws.specs.Laws.{KeepsStates}
-use Rattle.run_laws.proofs.StepLemmas.{place, come-byte, come-line, cuts-frame, settles-line, settles-byte, refuses, cuts-refusal, last_members-append, Settles, refusal_acts}
+use Rattle.run_laws.proofs.StepLemmas.{place, come-byte, come-line, cuts-frame, settles-line, settles-byte, refuses, cuts-refusal, last_members-append}
 use Rattle.roam_run.specs.declared.mesh.FrameMesh.{FrameMesh}
 use Rattle.roam_run.specs.declared.stage.Stage.{Stage}
 use Rattle.roam_run.specs.declared.script.Stop.{Stop}
-use Rattle.roam_run.specs.declared.script.Stop.TheVariants.{Refused, Failed, NoMemory}
+use Rattle.roam_run.specs.declared.script.Stop.TheVariants.{Refused, Failed}
 use Rattle.roam_run.specs.MeshSeen.{picture_seen, IsMeshOf}
-use Rattle.roam_run.specs.StageView.{refusal, limits_seen, Shows, IsAt, Halts}
+use Rattle.roam_run.specs.StageView.{refusal, limits_seen, Shows, IsAt}
 use Rattle.roam_run.specs.Taking.{TakesBytes, TakesFrame}
 
 abbrev limits_with : State → ℕ → ℕ → ℕ → Limits
@@ -193,7 +194,7 @@ module _ (before middle : Told) (prefix : List ℕ) (start : Walk) (read : List 
   line-settles why is = settles-line before middle show start read here at.come why is
 
   -- the line goes on by a byte
-  pub takes-byte : (new : Stage) (byte : ℕ) → byte ≢ 10 → length old.part.items < 200 → old.lines < 10000000
+  pub takes-byte : (new : Stage) (byte : ℕ) → byte ≢ 10 → length old.part.items < MOST_LINE_BYTES → old.lines < MOST_LINES
       → new.scene ≡ old.scene → new.most ≡ old.most → new.lines ≡ old.lines → new.frames ≡ old.frames → new.split ≡ old.split
       → new.part.items ≡ old.part.items ++ byte ∷ [] → IsAt before middle show start (read ++ byte ∷ []) new
   takes-byte new byte other short few scene most lines frames split part =
@@ -252,6 +253,6 @@ takes-longer before now show start bytes rest all old new stop is takes =
 
 -- a line that was carried out is longer than what had begun
 pub longer-line : (answer : Result (Unit {0}) Stop) (lines lines' : ℕ) (part part' : List ℕ) → OnOk answer (lines' ≡ lines + 1) → OnOk answer (part' ≡ [])
-    → length part ≤ 200 → OnOk answer (201 * lines + length part + 1 ≤ 201 * lines' + length part')
+    → length part ≤ MOST_LINE_BYTES → OnOk answer (201 * lines + length part + 1 ≤ 201 * lines' + length part')
 longer-line (Ok done) lines lines' part part' more none short = omega (arith, more, short)
 longer-line (Err stop) lines lines' part part' more none short = tt

@@ -1,9 +1,8 @@
 -- A generated run: its lines lie in their ranges, each leads one step along the walk, and the sums are those of the pictures.
-use Rattle.std.proofs.Common.{◌≡◌, ◌≢◌, ℕ, suc, ◌+◌, ◌*◌, ◌^◌, ◌<◌, ◌≤◌, ◌++◌, max, is_some, if◌then◌else◌, List, [], ◌∷◌, length, map, sum_by, count_by, get_or, drop, drop-cons, drop_of_length-le, cond, Option, Some, None, refl, sym, ◌∙◌, ap, subst, arith, inl, inr, append-nil, length-append, slice_get}
+use Rattle.std.proofs.Common.{◌≡◌, ◌≢◌, ℕ, suc, ◌+◌, ◌^◌, ◌≤◌, ◌++◌, max, is_some, if◌then◌else◌, List, [], ◌∷◌, length, get_or, drop, drop-cons, drop_of_length-le, cond, Option, Some, None, refl, sym, ◌∙◌, ap, subst, arith, inl, append-nil, length-append, slice_get}
 use Rattle.std.proofs.lemmas.List.Sums.{sum_by_push}
 use Rattle.std.proofs.lemmas.Option.{slice_get_within, get_or_from_slice_get}
-use Rattle.mesh_defs.specs.BoundingBox.{greatest}
-use Rattle.mesh_defs.specs.ClosedSet.{among, leaves_of}
+use Rattle.mesh_defs.specs.ClosedSet.{among}
 use Rattle.mesh_defs.specs.HeightField.{HeightField}
 use Rattle.mesh_defs.specs.State.{State, start_state, priority_in}
 use Rattle.closure_laws.specs.Frame.{IsFrame}
@@ -18,7 +17,7 @@ use Rattle.roam_gen.specs.Laws.{IsMadeLine}
 use Rattle.run_laws.specs.declared.status.Status.{Status}
 use Rattle.run_laws.specs.declared.status.Status.TheVariants as ends
 use Rattle.run_laws.specs.Walk.{Refusal, Walk, start_walk, state_after, shown_by, after_line, walk_along}
-use Rattle.run_laws.specs.Words.{Show, AsSums, OnGrid, Generated, Job}
+use Rattle.run_laws.specs.Words.{AsSums, OnGrid, Generated, Job}
 use Rattle.run_laws.specs.Picture.{Picture, triangles_of, IsPicture, ArePictures, last_members}
 use Rattle.run_laws.specs.ReportText.{all_triangles, worst_in, count_blocked, sums_line, try_line}
 use Rattle.run_laws.specs.Act.{Act, ReportText, Told, Stands, IsCutShort}

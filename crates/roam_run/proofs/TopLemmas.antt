@@ -1,6 +1,5 @@
 -- What words do whose command is known: the promises of a run from those of its command.
-use Rattle.std.proofs.Common.{◌≡◌, ◌≢◌, ℕ, zero, suc, ◌+◌, ◌-◌, ◌^◌, ◌<◌, ◌≤◌, ◌⊎◌, ◌↔◌, IsTrue, List, [], ◌∷◌, length, Option, Some, None, refl, sym, ◌∙◌, ap, subst, inl, inr, arith}
-use Rattle.mesh_defs.specs.HeightField.{HeightField}
+use Rattle.std.proofs.Common.{◌≡◌, ◌≢◌, ℕ, ◌-◌, ◌^◌, ◌<◌, ◌⊎◌, ◌↔◌, IsTrue, List, [], Option, Some, None, refl, sym, ◌∙◌, subst, inl, inr, arith}
 use Rattle.roam_edge.specs.Shelf.{NamedFile}
 use Rattle.roam_edge.specs.Fault.{Rose}
 use Rattle.run_laws.specs.declared.status.Status.{Status}
@@ -8,9 +7,9 @@ use Rattle.run_laws.specs.declared.status.Status.TheVariants.{Done, NoMemory, Us
 use Rattle.run_laws.specs.Act.{Told}
 use Rattle.run_laws.specs.Cause.{StatusHasCause, StatusWritesHaveCause}
 use Rattle.run_laws.specs.Laws.{AcceptedIsDone}
-use Rattle.run_laws.specs.Words.{Scripted, Job, Frames, Facts, Command, OnGrid, names_of, file_count, command_of}
+use Rattle.run_laws.specs.Words.{Job, Command, OnGrid, file_count, command_of}
 use Rattle.run_laws.specs.Outcome.{Outcome, plain_outcome, IsWordsOutcome, IsOutcome}
-use Rattle.run_laws.specs.Promise.{Seen, AreFiles, is_complete, EndsAs, EndsRight, LeavesAtReadFault, LeavesAtNoMemory, IsAccepted}
+use Rattle.run_laws.specs.Promise.{Seen, AreFiles, is_complete, EndsRight, LeavesAtReadFault, LeavesAtNoMemory, IsAccepted}
 use Rattle.run_laws.proofs.ActLemmas.{stands-nothing}
 use Rattle.roam_run.specs.Leaving.{CommandEnds, CommandReadFault, CommandNoMemory}
 

@@ -1,6 +1,6 @@
 -- What a command leaves, by the status of its run: the promises of a run, of one command.
 -- Words: CommandEnds, CommandReadFault, CommandNoMemory.
-use Rattle.std.specs.Prelude.{◌≡◌, ◌≢◌, ℕ, ◌+◌, ◌≤◌, IsTrue, List, [], Option, Some}
+use Rattle.std.specs.Prelude.{◌≡◌, ◌≢◌, ℕ, ◌+◌, ◌≤◌, IsTrue, List, [], Some}
 use Rattle.roam_edge.specs.Shelf.{NamedFile, bytes_of}
 use Rattle.run_laws.specs.declared.status.Status.{Status}
 use Rattle.run_laws.specs.declared.status.Status.TheVariants.{NoMemory, ReadFault}

@@ -1,6 +1,6 @@
 -- What contracts see of a stage, and how a stage shows a place of a script.
 -- Words: refusal, limits_seen, HasMesh, SameBut, IsStage, Shows, IsAt, Halts, Begins.
-use Rattle.std.specs.Prelude.{◌≡◌, ℕ, ◌+◌, ◌≤◌, List, [], ◌++◌, length, Option, None, IfSome}
+use Rattle.std.specs.Prelude.{◌≡◌, ℕ, ◌+◌, ◌≤◌, List, [], ◌++◌, length, None, IfSome}
 use Rattle.roam_script.specs.declared.limits.Limits.{Limits}
 use Rattle.roam_script.specs.declared.limits.TheConstants.{MOST_LINES, MOST_FRAMES, MOST_LINE_BYTES}
 use Rattle.roam_script.specs.declared.script_fault.ScriptFault.{ScriptFault}

@@ -1,6 +1,7 @@
 //! A frame: its mesh, and then its line of the report.
 
 ghost use Rattle.std.specs.Prelude.{◌≡◌, ◌<◌, ◌≤◌, false, length, OnOk, OnErr};
+ghost use Rattle.roam_edge.specs.declared.mesh_sink.TheConstants.{LONGEST_PREFIX, GREATEST_NUMBER};
 ghost use Rattle.run_laws.specs.Act.{told, Stands, IsCutShort};
 ghost use Rattle.run_laws.specs.Cause.{WritesHaveCause};
 ghost use Rattle.run_laws.specs.Words.{AsMeshes};
@@ -25,9 +26,9 @@ pub(crate) fn write_frame<M: MeshSink, R: Sink>(
 ) -> Result<(), Failed>
     requires idle { M.under_way meshes.old ≡ false }
     requires prefix_some { 0 < length prefix.now }
-    requires prefix_short { length prefix.now ≤ 200 }
+    requires prefix_short { length prefix.now ≤ LONGEST_PREFIX }
     requires number_low { 1 ≤ number }
-    requires number_high { number ≤ 999999 }
+    requires number_high { number ≤ GREATEST_NUMBER }
     requires mesh { IsMeshOf scene.now mesh.now }
     ensures ok { OnOk result (Stands (told (M.meshes meshes.old) (R.contents report.old))
         (told (M.meshes meshes.new) (R.contents report.new))

@@ -3,6 +3,7 @@
 ghost use Rattle.std.specs.Prelude.{◌≡◌, ◌+◌, ◌*◌, ◌≤◌, ◌<◌, IfOk, length};
 ghost use Rattle.mesh_defs.specs.HeightField.{side_of};
 ghost use Rattle.mesh_defs.specs.State.{text_in};
+ghost use Rattle.wedgie_tree.specs.declared.wedges.TheConstants.{GREATEST_SPACING};
 ghost use Rattle.obj_write.specs.MeshView.{view_text};
 ghost use Rattle.roam_run.specs.MeshSeen.{IsMeshOf};
 
@@ -71,7 +72,7 @@ impl FrameMesh {
         ensures leaves { result.leaves.now ≡ self.now.leaves.items }
         ensures numbers { result.numbers.now ≡ self.now.numbers.items }
         ensures spacing_low { 1 ≤ result.spacing }
-        ensures spacing_high { result.spacing ≤ 1024 }
+        ensures spacing_high { result.spacing ≤ GREATEST_SPACING }
     {
         MeshView {
             wedges: &scene.wedges,

@@ -2,6 +2,7 @@
 
 ghost use Rattle.std.specs.Prelude.{◌≡◌, ◌≢◌, ◌≤◌, ◌<◌, length, IfOk};
 ghost use Rattle.mesh_defs.specs.State.{start_state};
+ghost use Rattle.wedgie_tree.specs.declared.wedges.TheConstants.{GREATEST_SPACING};
 ghost use Rattle.roam_script.specs.Laws.{LiesInRange};
 ghost use Rattle.roam_script.specs.declared.limits.Limits.{Limits as LimitsSeen};
 ghost use Rattle.run_laws.specs.Walk.{state_after};
@@ -51,7 +52,7 @@ impl Scene {
         budget: u32,
     ) -> Result<Scene, NoMemory>
         requires spacing_low { 1 ≤ spacing }
-        requires spacing_high { spacing ≤ 1024 }
+        requires spacing_high { spacing ≤ GREATEST_SPACING }
         requires budget { 2 ≤ budget }
         ensures { IfOk result (λ s. s ≡ start_state grid spacing budget) }
     {

@@ -4,6 +4,7 @@ ghost use Rattle.std.specs.Prelude.{◌≡◌, ◌≢◌, ◌+◌, ◌*◌, ◌<
 ghost use Rattle.roam_edge.specs.Fault.{HasCause, next_count};
 ghost use Rattle.roam_edge.specs.Shelf.{NamedFile, bytes_of};
 ghost use Rattle.roam_edge.specs.Sink.{Appends};
+ghost use Rattle.roam_script.specs.declared.limits.TheConstants.{MOST_LINES, MOST_FRAMES};
 ghost use Rattle.run_laws.specs.Cause.{StatusHasCause, StatusWritesHaveCause};
 ghost use Rattle.run_laws.specs.Promise.{seen, HasEnded};
 ghost use Rattle.run_laws.specs.Walk.{Walk, walk_of};
@@ -55,8 +56,8 @@ fn take_frame<M: MeshSink, R: Sink>(
     requires idle { M.under_way meshes.old ≡ false }
     requires prefix { IsPrefixLength prefix.now }
     requires stage { IsStage stage.old }
-    requires lines { stage.old.lines < 10000000 }
-    requires frames { stage.old.frames < 999999 }
+    requires lines { stage.old.lines < MOST_LINES }
+    requires frames { stage.old.frames < MOST_FRAMES }
     ensures outcome { TakesFrame (told (M.meshes meshes.old) (R.contents report.old))
         (told (M.meshes meshes.new) (R.contents report.new)) (AsMeshes prefix.now) stage.old stage.new result }
     ensures stage { OnOk result (IsStage stage.new) }

@@ -2,6 +2,7 @@
 
 ghost use Rattle.std.specs.Prelude.{◌≡◌, ◌≢◌, ◌+◌, ◌<◌, ◌≤◌, ◌++◌, ◌∷◌, [], ℕ, List, length, None, Err, IfOk, IfSome};
 ghost use Rattle.roam_script.specs.LineText.{line_in};
+ghost use Rattle.roam_script.specs.declared.limits.TheConstants.{MOST_LINES, MOST_FRAMES, MOST_LINE_BYTES};
 ghost use Rattle.roam_script.specs.Laws.{LiesInRange};
 ghost use Rattle.run_laws.specs.Walk.{state_after};
 ghost use Rattle.roam_run.specs.MeshSeen.{IsMeshOf};
@@ -60,7 +61,7 @@ impl Stage {
 
     /// What the next line is read under.
     pub(crate) fn limits(&self) -> Limits
-        requires { self.now.lines ≤ 10000000 }
+        requires { self.now.lines ≤ MOST_LINES }
         ensures value { result ≡ limits_seen self.now }
         ensures level { result.n ≤ 11 }
     {
@@ -79,8 +80,8 @@ impl Stage {
     pub(crate) fn settled_fault(&self) -> Option<ScriptFault>
         ensures some { IfSome result (λ fault. (byte : ℕ) (tail : List ℕ) →
             line_in (limits_seen self.now) ((self.now.part.items ++ byte ∷ []) ++ tail) ≡ Err fault) }
-        ensures lines { result ≡ None → self.now.lines < 10000000 }
-        ensures room { result ≡ None → length self.now.part.items < 200 }
+        ensures lines { result ≡ None → self.now.lines < MOST_LINES }
+        ensures room { result ≡ None → length self.now.part.items < MOST_LINE_BYTES }
     {
         line_laws();
         if self.lines >= MOST_LINES {
@@ -109,8 +110,8 @@ impl Stage {
     /// Keeps the mesh of the frame that its line has made.
     pub(crate) fn end_frame(&mut self, mesh: FrameMesh)
         requires mesh { IsMeshOf self.old.scene mesh }
-        requires lines { self.old.lines < 10000000 }
-        requires frames { self.old.frames < 999999 }
+        requires lines { self.old.lines < MOST_LINES }
+        requires frames { self.old.frames < MOST_FRAMES }
         ensures scene { self.new.scene ≡ self.old.scene }
         ensures most { self.new.most ≡ self.old.most }
         ensures lines { self.new.lines ≡ self.old.lines + 1 }
@@ -130,7 +131,7 @@ impl Stage {
     pub(crate) fn end_line(&mut self, line: Line)
         requires other { line ≢ Line.Frame }
         requires ranges { LiesInRange (limits_seen self.old) line }
-        requires lines { self.old.lines < 10000000 }
+        requires lines { self.old.lines < MOST_LINES }
         requires mesh { HasMesh self.old }
         ensures scene { self.new.scene ≡ state_after line self.old.scene }
         ensures most { self.new.most ≡ self.old.most }

@@ -5,7 +5,9 @@ ghost use Rattle.std.specs.Option.{option_map};
 ghost use Rattle.run_laws.specs.Words.{command_of, number_word};
 ghost use Rattle.roam_run.specs.WordView.{command_seen, IsAccepted};
 
+use roam_edge::LONGEST_PREFIX;
 use roam_num::read_dec;
+use wedgie_tree::GREATEST_SPACING;
 
 /// A command.
 #[derive(Clone, Copy)]
@@ -33,17 +35,11 @@ pub(crate) struct MeshWords<'a> {
     pub(crate) spacing: u32,
 }
 
-/// The longest prefix, in bytes.
-const LONGEST_PREFIX: usize = 200;
-
 /// The least budget: the two base triangles.
 const LEAST_BUDGET: u32 = 2;
 
 /// The greatest budget.
 const GREATEST_BUDGET: u32 = 1 << 20;
-
-/// The greatest spacing. With it no coordinate of a vertex is above 2^21.
-const GREATEST_SPACING: u32 = 1 << 10;
 
 /// The greatest level of a grid.
 const GREATEST_LEVEL: u32 = 11;

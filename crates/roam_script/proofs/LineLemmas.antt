@@ -1,8 +1,7 @@
 -- Why a line is answered as it is: each answer of `line_in` with its cause, both ways.
-use Rattle.std.proofs.Common.{◌≡◌, ℕ, zero, suc, ◌+◌, ◌<◌, ◌≤◌, Bool, true, false, List, [], ◌∷◌, ◌++◌, length, Option, Some, None, Result, Ok, Err, ℤ, pos, refl, sym, ap, ◌∙◌, subst, arith, eqb, ltb, length-append, ◌^◌, inl, inr, lit<}
+use Rattle.std.proofs.Common.{◌≡◌, ℕ, zero, suc, ◌+◌, ◌<◌, ◌≤◌, Bool, true, false, List, [], ◌∷◌, ◌++◌, length, Option, Some, None, Result, Ok, Err, ℤ, pos, refl, sym, ap, ◌∙◌, subst, arith, eqb, ltb, length-append, ◌^◌, lit<}
 use Rattle.std.specs.Prelude.{◌≢◌, ◌↔◌, ⊤, if◌then◌else◌, codes, bytes_eq, unwrap_or, unsigned_abs, ◌≤ℤ◌}
-use Rattle.std.proofs.lemmas.Bool.{ltb-true, ltb-false, lt-ltb, eqb-true, eqb-false, eq-eqb}
-use Rattle.std.proofs.lemmas.Bool.Decides.{leb_tells, eqb_tells}
+use Rattle.std.proofs.lemmas.Bool.{ltb-true, ltb-false, lt-ltb, eqb-true, eqb-false, eq-eqb, cond_both, cond-true, cond-false, le-ltb, ne_eqb}
 use Rattle.std.proofs.lemmas.Slice.Eq.{bytes_eq-Decides}
 use Rattle.std.proofs.lemmas.Int.{ints}
 use Rattle.roam_num.specs.DecText.{signed_in}
@@ -17,19 +16,6 @@ use Rattle.roam_script.specs.declared.script_fault.ScriptFault.TheVariants.{Line
 use Rattle.roam_script.specs.LineText.{command_of, Range, from_to, around, is_within, number_at, size_at, ranges_of, field_number, fields_fault, line_with, line_of, counted_line, checked_line, is_comment, fields_line, line_in}
 use Rattle.roam_script.specs.Laws.{line_fields, IsShort, SaysNothing, word_of, fields_behind, HasCommand, HasFields, AreWithin, NoneIsLeft, IsAndMore, FailsFirst, IsNoNumber, IsOutside, FailsLater, IsSound, IsCounted, LiesInRange}
 
--- what holds of both branches of a choice, each under its test, holds of the choice
-choose : {A : Type 0} (P : A → Type 0) (test : Bool) (x y : A) → (test ≡ true → P x) → (test ≡ false → P y) → P (if test then x else y)
-choose P true x y holds fails = holds refl
-choose P false x y holds fails = fails refl
-
--- a choice whose test holds
-chosen : {A : Type 0} (test : Bool) (x y : A) → test ≡ true → (if test then x else y) ≡ x
-chosen {A} test x y e = ap (λ (v : Bool). if v then x else y) e
-
--- a choice whose test fails
-left : {A : Type 0} (test : Bool) (x y : A) → test ≡ false → (if test then x else y) ≡ y
-left {A} test x y e = ap (λ (v : Bool). if v then x else y) e
-
 -- Fields
 
 -- a field that passes, then the faults of the others
@@ -37,7 +23,7 @@ fault-passed : (number : ℕ) (range : Range) (ranges : List Range) (field : Lis
     → fields_fault number (range ∷ ranges) (field ∷ fields) ≡ fields_fault (number + 1) ranges fields
 fault-passed number range ranges field fields v is within =
     ap (λ (r : Result ℤ ScriptFault). elim r as (λ _. Option ScriptFault) [ Err fault ↦ Some fault | Ok w ↦ fields_fault (number + 1) ranges fields ])
-    (ap (field_number range number) is ∙ chosen (is_within range v) (Ok v) (Err (OutOfRange number)) within)
+    (ap (field_number range number) is ∙ cond-true (is_within range v) (Ok v) (Err (OutOfRange number)) within)
 
 -- a field that is no number
 fault-no_number : (number : ℕ) (range : Range) (ranges : List Range) (field : List ℕ) (fields : List (List ℕ)) → signed_in field ≡ None
@@ -51,7 +37,7 @@ fault-outside : (number : ℕ) (range : Range) (ranges : List Range) (field : Li
     → fields_fault number (range ∷ ranges) (field ∷ fields) ≡ Some (OutOfRange number)
 fault-outside number range ranges field fields v is outside =
     ap (λ (r : Result ℤ ScriptFault). elim r as (λ _. Option ScriptFault) [ Err fault ↦ Some fault | Ok w ↦ fields_fault (number + 1) ranges fields ])
-    (ap (field_number range number) is ∙ left (is_within range v) (Ok v) (Err (OutOfRange number)) outside)
+    (ap (field_number range number) is ∙ cond-false (is_within range v) (Ok v) (Err (OutOfRange number)) outside)
 
 -- the first fault of fields is that of the first field that fails
 fault-of_fails : (number : ℕ) (ranges : List Range) (fields : List (List ℕ)) (fault : ScriptFault) → FailsFirst number ranges fields fault → fields_fault number ranges fields ≡ Some fault
@@ -88,8 +74,7 @@ fields-come_first : (number : ℕ) (range : Range) (ranges : List Range) (field 
     → FieldsCome number (range ∷ ranges) (field ∷ fields) (elim (field_number range number read) as (λ _. Option ScriptFault) [ Err fault ↦ Some fault | Ok w ↦ fields_fault (number + 1) ranges fields ])
 fields-come_first number range ranges field fields None is more = IsNoNumber number range ranges field fields is
 fields-come_first number range ranges field fields (Some v) is more =
-    choose (λ (r : Result ℤ ScriptFault). FieldsCome number (range ∷ ranges) (field ∷ fields) (elim r as (λ _. Option ScriptFault) [ Err fault ↦ Some fault | Ok w ↦ fields_fault (number + 1) ranges fields ]))
-    (is_within range v) (Ok v) (Err (OutOfRange number))
+    cond_both (is_within range v) (Ok v) (Err (OutOfRange number)) (λ (r : Result ℤ ScriptFault). FieldsCome number (range ∷ ranges) (field ∷ fields) (elim r as (λ _. Option ScriptFault) [ Err fault ↦ Some fault | Ok w ↦ fields_fault (number + 1) ranges fields ]))
     (λ within. come-later number range ranges field fields v is within (fields_fault (number + 1) ranges fields) more)
     (λ outside. IsOutside number range ranges field fields v is outside)
 
@@ -135,13 +120,13 @@ IsCommand first (Some word) = first ≡ word_of word
 pub word-of_command : (first : List ℕ) → IsCommand first (command_of first)
 word-of_command first =
     let P = IsCommand first in
-    choose P (bytes_eq first (codes "frame")) _ _ (λ e. bytes-same first (codes "frame") e)
-    (λ a. choose P (bytes_eq first (codes "camera")) _ _ (λ e. bytes-same first (codes "camera") e)
-    (λ b. choose P (bytes_eq first (codes "set")) _ _ (λ e. bytes-same first (codes "set") e)
-    (λ c. choose P (bytes_eq first (codes "plane")) _ _ (λ e. bytes-same first (codes "plane") e)
-    (λ d. choose P (bytes_eq first (codes "noplanes")) _ _ (λ e. bytes-same first (codes "noplanes") e)
-    (λ f. choose P (bytes_eq first (codes "budget")) _ _ (λ e. bytes-same first (codes "budget") e)
-    (λ g. choose P (bytes_eq first (codes "raise")) _ _ (λ e. bytes-same first (codes "raise") e)
+    cond_both (bytes_eq first (codes "frame")) _ _ P (λ e. bytes-same first (codes "frame") e)
+    (λ a. cond_both (bytes_eq first (codes "camera")) _ _ P (λ e. bytes-same first (codes "camera") e)
+    (λ b. cond_both (bytes_eq first (codes "set")) _ _ P (λ e. bytes-same first (codes "set") e)
+    (λ c. cond_both (bytes_eq first (codes "plane")) _ _ P (λ e. bytes-same first (codes "plane") e)
+    (λ d. cond_both (bytes_eq first (codes "noplanes")) _ _ P (λ e. bytes-same first (codes "noplanes") e)
+    (λ f. cond_both (bytes_eq first (codes "budget")) _ _ P (λ e. bytes-same first (codes "budget") e)
+    (λ g. cond_both (bytes_eq first (codes "raise")) _ _ P (λ e. bytes-same first (codes "raise") e)
     (λ h. tt)))))))
 
 -- a command has as many ranges as fields
@@ -201,10 +186,10 @@ why-fails limits bytes TooManyPlanes of_number fails = absurd of_number
 
 why-sound : (limits : Limits) (bytes : List ℕ) (word : Command) (fields : List (List ℕ)) → IsSound limits bytes word fields → Why limits bytes (counted_line limits (Ok (line_with word fields)))
 why-sound limits bytes command.Frame fields sound =
-    choose (Why limits bytes) (ltb limits.frames MOST_FRAMES) (Ok Frame) (Err TooManyFrames)
+    cond_both (ltb limits.frames MOST_FRAMES) (Ok Frame) (Err TooManyFrames) (Why limits bytes)
     (λ e. (command.Frame, fields, sound, ltb-true limits.frames MOST_FRAMES e, refl)) (λ e. (fields, sound, ltb-false limits.frames MOST_FRAMES e))
 why-sound limits bytes command.Plane fields sound =
-    choose (Why limits bytes) (ltb limits.planes MOST_PLANES) (Ok (line_with command.Plane fields)) (Err TooManyPlanes)
+    cond_both (ltb limits.planes MOST_PLANES) (Ok (line_with command.Plane fields)) (Err TooManyPlanes) (Why limits bytes)
     (λ e. (command.Plane, fields, sound, ltb-true limits.planes MOST_PLANES e, refl)) (λ e. (fields, sound, ltb-false limits.planes MOST_PLANES e))
 why-sound limits bytes command.Camera fields sound = (command.Camera, fields, sound, tt, refl)
 why-sound limits bytes command.Set fields sound = (command.Set, fields, sound, tt, refl)
@@ -227,7 +212,7 @@ why-word limits bytes first fields (Some word) short cut other is =
     let same : first ≡ word_of word = subst (IsCommand first) is (word-of_command first) in
     let begins : HasCommand limits bytes word fields = record { short = short; cut = cut ∙ ap (λ w. w ∷ fields) same } in
     let count = ranges-count limits word fields in
-    choose (Why limits bytes) (eqb (length fields) (length (ranges_of limits word fields))) (counted_line limits (line_of limits word fields)) (Err WrongFields)
+    cond_both (eqb (length fields) (length (ranges_of limits word fields))) (counted_line limits (line_of limits word fields)) (Err WrongFields) (Why limits bytes)
     (λ e. let as_many = eqb-true (length fields) (length (ranges_of limits word fields)) e in
     why-faults limits bytes word fields (fields_fault 1 (ranges_of limits word fields) fields) (record { begins = begins; count = as_many ∙ count })
     (fields-come 1 (ranges_of limits word fields) fields as_many))
@@ -236,42 +221,34 @@ why-word limits bytes first fields (Some word) short cut other is =
 why-fields : (limits : Limits) (bytes : List ℕ) (fields : List (List ℕ)) → IsShort limits bytes → line_fields bytes ≡ fields → Why limits bytes (fields_line limits fields)
 why-fields limits bytes [] short cut = (short, subst SaysNothing (sym cut) tt)
 why-fields limits bytes (first ∷ fields) short cut =
-    choose (Why limits bytes) (is_comment first) (Ok Blank) (checked_line limits (command_of first) fields)
+    cond_both (is_comment first) (Ok Blank) (checked_line limits (command_of first) fields) (Why limits bytes)
     (λ e. (short, subst SaysNothing (sym cut) e)) (λ e. why-word limits bytes first fields (command_of first) short cut e refl)
 
 -- each answer has its cause
 pub why : (limits : Limits) (bytes : List ℕ) → Why limits bytes (line_in limits bytes)
 unfolding line_in
 why limits bytes =
-    choose (Why limits bytes) (ltb MOST_LINES limits.line) _ _ (λ e. ltb-true MOST_LINES limits.line e)
+    cond_both (ltb MOST_LINES limits.line) _ _ (Why limits bytes) (λ e. ltb-true MOST_LINES limits.line e)
     (λ e. let line = ltb-false MOST_LINES limits.line e in
-    choose (Why limits bytes) (ltb MOST_LINE_BYTES (length bytes)) _ _ (λ d. (line, ltb-true MOST_LINE_BYTES (length bytes) d))
+    cond_both (ltb MOST_LINE_BYTES (length bytes)) _ _ (Why limits bytes) (λ d. (line, ltb-true MOST_LINE_BYTES (length bytes) d))
     (λ d. why-fields limits bytes (line_fields bytes) (record { in_script = line; few = ltb-false MOST_LINE_BYTES (length bytes) d }) refl))
 
 -- the cause of an answer
 pub cause : (limits : Limits) (bytes : List ℕ) (answer : Result Line ScriptFault) → line_in limits bytes ≡ answer → Why limits bytes answer
 cause limits bytes answer e = subst (Why limits bytes) e (why limits bytes)
 
--- a test below that does not hold
-not-below : (a b : ℕ) → b ≤ a → ltb a b ≡ false
-not-below a b h = elim (leb_tells (suc a) b) [ inl t ↦ absurd (omega (arith, t.1)) | inr t ↦ t.0 ]
-
--- a test of equality that does not hold
-not-same : (a b : ℕ) → a ≢ b → eqb a b ≡ false
-not-same a b differ = elim (eqb_tells a b) [ inl h ↦ absurd (differ h.1) | inr h ↦ h.0 ]
-
 -- a line in the script of at most 200 bytes is that of its fields
 in-short : (limits : Limits) (bytes : List ℕ) → IsShort limits bytes → line_in limits bytes ≡ fields_line limits (line_fields bytes)
 unfolding line_in
 in-short limits bytes short =
-    left (ltb MOST_LINES limits.line) _ _ (not-below MOST_LINES limits.line short.in_script)
-    ∙ left (ltb MOST_LINE_BYTES (length bytes)) _ _ (not-below MOST_LINE_BYTES (length bytes) short.few)
+    cond-false (ltb MOST_LINES limits.line) _ _ (le-ltb MOST_LINES limits.line short.in_script)
+    ∙ cond-false (ltb MOST_LINE_BYTES (length bytes)) _ _ (le-ltb MOST_LINE_BYTES (length bytes) short.few)
 
 -- of a line with a command the count of fields decides
 in-command : (limits : Limits) (bytes : List ℕ) (word : Command) (fields : List (List ℕ)) → HasCommand limits bytes word fields
     → line_in limits bytes ≡ checked_line limits (Some word) fields
 in-command limits bytes word fields begins =
-    in-short limits bytes begins.short ∙ ap (fields_line limits) begins.cut ∙ left (is_comment (word_of word)) _ _ (word-no_comment word)
+    in-short limits bytes begins.short ∙ ap (fields_line limits) begins.cut ∙ cond-false (is_comment (word_of word)) _ _ (word-no_comment word)
     ∙ ap (λ w. checked_line limits w fields) (command-of_word word)
 
 -- with as many fields as the command has, their numbers
@@ -279,7 +256,7 @@ in-fields : (limits : Limits) (bytes : List ℕ) (word : Command) (fields : List
     → line_in limits bytes ≡ counted_line limits (line_of limits word fields)
 in-fields limits bytes word fields counted =
     in-command limits bytes word fields counted.begins
-    ∙ chosen (eqb (length fields) (length (ranges_of limits word fields))) _ _
+    ∙ cond-true (eqb (length fields) (length (ranges_of limits word fields))) _ _
     (eq-eqb (length fields) (length (ranges_of limits word fields)) (counted.count ∙ sym (ranges-count limits word fields)))
 
 -- and where they all pass, the counts of planes and frames
@@ -291,8 +268,8 @@ in-sound limits bytes word fields sound =
     (fault-of_within 1 (ranges_of limits word fields) fields sound.within)
 
 counted-accepts : (limits : Limits) (word : Command) (fields : List (List ℕ)) → IsCounted limits word → counted_line limits (Ok (line_with word fields)) ≡ Ok (line_with word fields)
-counted-accepts limits command.Frame fields few = chosen (ltb limits.frames MOST_FRAMES) _ _ (lt-ltb limits.frames MOST_FRAMES few)
-counted-accepts limits command.Plane fields few = chosen (ltb limits.planes MOST_PLANES) _ _ (lt-ltb limits.planes MOST_PLANES few)
+counted-accepts limits command.Frame fields few = cond-true (ltb limits.frames MOST_FRAMES) _ _ (lt-ltb limits.frames MOST_FRAMES few)
+counted-accepts limits command.Plane fields few = cond-true (ltb limits.planes MOST_PLANES) _ _ (lt-ltb limits.planes MOST_PLANES few)
 counted-accepts limits command.Camera fields few = refl
 counted-accepts limits command.Set fields few = refl
 counted-accepts limits command.NoPlanes fields few = refl
@@ -313,7 +290,7 @@ in-fails limits bytes fault (word, fields, counted, fails) =
 
 in-nothing : (limits : Limits) (fields : List (List ℕ)) → SaysNothing fields → fields_line limits fields ≡ Ok Blank
 in-nothing limits [] nothing = refl
-in-nothing limits (first ∷ fields) nothing = chosen (is_comment first) _ _ nothing
+in-nothing limits (first ∷ fields) nothing = cond-true (is_comment first) _ _ nothing
 
 in-unknown : (limits : Limits) (bytes first : List ℕ) (fields : List (List ℕ)) (word : Option Command) → command_of first ≡ word → ((w : Command) → first ≢ word_of w) → command_of first ≡ None
 in-unknown limits bytes first fields None is differs = is
@@ -330,22 +307,22 @@ because limits bytes (Ok (Plane a b c d)) w = in-accepted limits bytes (Plane a 
 because limits bytes (Ok NoPlanes) w = in-accepted limits bytes NoPlanes w
 because limits bytes (Ok (Budget n)) w = in-accepted limits bytes (Budget n) w
 because limits bytes (Ok (Raise x0 y0 x1 y1 dz)) w = in-accepted limits bytes (Raise x0 y0 x1 y1 dz) w
-because limits bytes (Err TooManyLines) w = chosen (ltb MOST_LINES limits.line) _ _ (lt-ltb MOST_LINES limits.line w)
+because limits bytes (Err TooManyLines) w = cond-true (ltb MOST_LINES limits.line) _ _ (lt-ltb MOST_LINES limits.line w)
 because limits bytes (Err LineTooLong) w =
-    left (ltb MOST_LINES limits.line) _ _ (not-below MOST_LINES limits.line w.0) ∙ chosen (ltb MOST_LINE_BYTES (length bytes)) _ _ (lt-ltb MOST_LINE_BYTES (length bytes) w.1)
+    cond-false (ltb MOST_LINES limits.line) _ _ (le-ltb MOST_LINES limits.line w.0) ∙ cond-true (ltb MOST_LINE_BYTES (length bytes)) _ _ (lt-ltb MOST_LINE_BYTES (length bytes) w.1)
 because limits bytes (Err UnknownCommand) (first, fields, short, cut, not_comment, unknown) =
-    in-short limits bytes short ∙ ap (fields_line limits) cut ∙ left (is_comment first) _ _ not_comment
+    in-short limits bytes short ∙ ap (fields_line limits) cut ∙ cond-false (is_comment first) _ _ not_comment
     ∙ ap (λ w. checked_line limits w fields) (in-unknown limits bytes first fields (command_of first) refl unknown)
 because limits bytes (Err WrongFields) (word, fields, begins, differ) =
     in-command limits bytes word fields begins
-    ∙ left (eqb (length fields) (length (ranges_of limits word fields))) _ _
-    (not-same (length fields) (length (ranges_of limits word fields)) (λ same. differ (same ∙ ranges-count limits word fields)))
+    ∙ cond-false (eqb (length fields) (length (ranges_of limits word fields))) _ _
+    (ne_eqb (length fields) (length (ranges_of limits word fields)) (λ same. differ (same ∙ ranges-count limits word fields)))
 because limits bytes (Err (BadNumber number)) w = in-fails limits bytes (BadNumber number) w
 because limits bytes (Err (OutOfRange number)) w = in-fails limits bytes (OutOfRange number) w
 because limits bytes (Err TooManyPlanes) (fields, sound, many) =
-    in-sound limits bytes command.Plane fields sound ∙ left (ltb limits.planes MOST_PLANES) _ _ (not-below limits.planes MOST_PLANES many)
+    in-sound limits bytes command.Plane fields sound ∙ cond-false (ltb limits.planes MOST_PLANES) _ _ (le-ltb limits.planes MOST_PLANES many)
 because limits bytes (Err TooManyFrames) (fields, sound, many) =
-    in-sound limits bytes command.Frame fields sound ∙ left (ltb limits.frames MOST_FRAMES) _ _ (not-below limits.frames MOST_FRAMES many)
+    in-sound limits bytes command.Frame fields sound ∙ cond-false (ltb limits.frames MOST_FRAMES) _ _ (le-ltb limits.frames MOST_FRAMES many)
 
 -- a line other than a blank one is accepted because it passes all tests
 pub accepted-cause : (limits : Limits) (bytes : List ℕ) (line : Line) → line ≢ Blank → Why limits bytes (Ok line) → Accepts limits bytes line

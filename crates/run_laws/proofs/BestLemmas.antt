@@ -1,6 +1,7 @@
 -- The headline follows from what stands after each status.
-use Rattle.std.proofs.Common.{◌≡◌, ◌≢◌, ℕ, zero, suc, ◌≤◌, ◌⊎◌, IsTrue, List, [], ◌++◌, take, drop, Option, Some, None, Result, Ok, refl, sym, ◌∙◌, ap, subst, inl, inr, append_assoc, append-nil}
+use Rattle.std.proofs.Common.{◌≡◌, ◌≢◌, ℕ, zero, suc, ◌≤◌, ◌⊎◌, IsTrue, List, [], ◌++◌, take, drop, Option, Some, Result, Ok, refl, sym, ◌∙◌, ap, subst, inl, inr, append_assoc, append-nil}
 use Rattle.std.proofs.lemmas.List.{take-append-drop}
+use Rattle.std.proofs.lemmas.Option.{same_Some, none-some}
 use Rattle.mesh_defs.specs.HeightField.{HeightField}
 use Rattle.mesh_defs.specs.State.{State, start_state}
 use Rattle.roam_edge.specs.MeshSink.{Mesh}
@@ -28,12 +29,6 @@ same-command xs ys e = cc
 
 same-grid : (answer : Result HeightField PgmFault) (g h : HeightField) → answer ≡ Ok g → answer ≡ Ok h → g ≡ h
 same-grid answer g h one two = cc
-
-same-name : (xs ys : List ℕ) → Some xs ≡ Some ys → xs ≡ ys
-same-name xs ys e = cc
-
-no-file : (name : List ℕ) → None ≡ Some name → ⊥
-no-file name e = cc
 
 module _ (best : FramesAreBest) (two : BudgetsAreTwo) (read_texts : TextsAreRead) (words : List (List ℕ)) (files : List NamedFile) (s : Scripted) (grid : HeightField)
     (run : IsRunOf words files s grid) (before now : Told) (old new : Seen) (all : List Mesh)
@@ -90,10 +85,10 @@ module _ (best : FramesAreBest) (two : BudgetsAreTwo) (read_texts : TextsAreRead
   at-file status unfinished (suc zero) fault =
       let has = fault.has_read in
       let P : HeightField → Type 0 = λ g. ScriptHasRead s g fault.read fault.acts in
-      let name : s.script ≡ fault.name = same-name s.script fault.name fault.named in
+      let name : s.script ≡ fault.name = same_Some s.script fault.name fault.named in
       from-read status unfinished fault.read fault.unread fault.acts (ap (bytes_of files) name ∙ fault.cut)
       (subst P (same-grid (grid_of (bytes_of files run.grid_name)) has.0 grid has.1 read-grid) has.2) fault.stands
-  at-file status unfinished (suc (suc k)) fault = absurd (no-file fault.name fault.named)
+  at-file status unfinished (suc (suc k)) fault = absurd (none-some fault.name fault.named)
 
   from-read-fault : (status : Status) → (IsTrue (ends_script status) → ⊥) → LeavesAtReadFault before now old new words → Keeps status
   from-read-fault status unfinished leaves =

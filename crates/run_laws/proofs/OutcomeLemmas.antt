@@ -13,7 +13,7 @@ use Rattle.pgm_grid.specs.Progress.{grid_of}
 use Rattle.pgm_grid.specs.Laws.{TextsAreRead}
 use Rattle.roam_gen.specs.Generated.{made_grid, made_lines}
 use Rattle.run_laws.specs.declared.status.Status.TheVariants.{Done, Usage, GridRefused}
-use Rattle.run_laws.specs.Walk.{Walk, start_walk, walk_along}
+use Rattle.run_laws.specs.Walk.{Walk, start_walk}
 use Rattle.run_laws.specs.Words.{Show, AsMeshes, AsSums, Scripted, Job, Frames, Facts, Command, OnGrid, Generated, greatest_level, greatest_seed, number_word, try_command, within, budget_word, spacing_word, is_prefix, frames_command, meshes_command, command_of}
 use Rattle.run_laws.specs.Picture.{Picture, ArePictures, IsCertified}
 use Rattle.run_laws.specs.ReportText.{info_line, grid_refusal}

@@ -1,7 +1,8 @@
 -- Pictures: there is one of a state, it is a best mesh, and what it tells of blocking is a certificate.
-use Rattle.std.proofs.Common.{◌≡◌, ℕ, ◌<◌, ◌≤◌, ◌↔◌, Bool, List, [], ◌∷◌, length, All, Option, Some, None, IsNone, IfSome, Contains, refl, sym, ◌∙◌, ap, subst, arith}
+use Rattle.std.proofs.Common.{◌≡◌, ℕ, ◌<◌, ◌≤◌, ◌↔◌, Bool, List, [], ◌∷◌, length, All, Option, IsNone, IfSome, Contains, refl, sym, ◌∙◌, ap, subst, arith}
 use Rattle.std.specs.List.{AllByRecursion}
 use Rattle.std.proofs.lemmas.List.Elements.{recursion_from_All, All-from_recursion}
+use Rattle.std.proofs.lemmas.Option.{IfSome_then}
 use Rattle.mesh_defs.specs.ClosedSet.{among, leaves_of}
 use Rattle.mesh_defs.specs.GridSet.{IsAscending}
 use Rattle.mesh_defs.specs.BestMesh.{IsBestMesh}
@@ -108,10 +109,6 @@ zero-worst priority (a ∷ triangles) none =
     let rest : worst_of priority triangles ≡ 0 = omega (arith, none) in
     (omega (arith, none), zero-worst priority triangles rest)
 
-if-some : {A : Type 0} (o : Option A) (P Q : A → Type 0) → ((a : A) → P a → Q a) → IfSome o P → IfSome o Q
-if-some None P Q weaker is = tt
-if-some (Some a) P Q weaker is = weaker a is
-
 module _ (falling : (n : ℕ) (heights : List ℕ) (view : View) → IsFalling n (priority_of n heights view)) where
   -- the frame's mesh is a best mesh of the state
   pub frame-best : ((n budget : ℕ) (priority : ℕ → ℕ) (has : ℕ → Bool) (worst : ℕ) (blocked : Option Blocked) →
@@ -142,9 +139,9 @@ module _ (falling : (n : ℕ) (heights : List ℕ) (view : View) → IsFalling n
             (λ e. f.greatest ∙ worst-zero priority triangles (recursion_from_All (λ a. priority a ≡ 0) triangles (none.0 e))),
             (λ e. none.1 (All-from_recursion (λ a. priority a ≡ 0) triangles (zero-worst priority triangles (sym f.greatest ∙ e)))),
           );
-          leaf = if-some blocked _ _ (λ b is. is.2) some;
-          worst = if-some blocked _ _ (λ b is. is.1) some;
-          need = if-some blocked _ _ (λ b is. is.0) some;
+          leaf = IfSome_then blocked some (λ b is. is.2);
+          worst = IfSome_then blocked some (λ b is. is.1);
+          need = IfSome_then blocked some (λ b is. is.0);
         }
 
     -- so is what each picture of states with a budget of at least 2 tells

@@ -1,5 +1,5 @@
 -- Laws of walks, pictures and outcomes.
--- Words: WalksGoOn, PicturesGoOn, FramesExist, BudgetsAreTwo, AreStates, KeepsStates, OutcomesAreUnique, OutcomesExist,
+-- Words: WalksGoOn, PicturesGoOn, FramesExistFrom, FramesExist, BudgetsAreTwo, AreStates, KeepsStates, OutcomesAreUnique, OutcomesExist,
 -- AcceptedIsDone, PicturesAreCertified, HeadlineFollows.
 use Rattle.std.specs.Prelude.{◌≡◌, ⊤, ℕ, ◌≤◌, IsTrue, is_some, List, [], ◌∷◌, ◌++◌, All, Option, Some, Ok}
 use Rattle.mesh_defs.specs.HeightField.{HeightField}
@@ -32,10 +32,14 @@ abbrev pub PicturesGoOn : Type 0
 PicturesGoOn = (show : Show) (before : List ℕ) (ss ts : List State) (ps qs : List Picture) → ArePictures show before ss ps
     → ArePictures show (last_members before ps) ts qs → ArePictures show before (ss ++ ts) (ps ++ qs)
 
--- each budget of at least 2 has a frame
-abbrev pub FramesExist : Type 0
-FramesExist = (n budget : ℕ) (priority : ℕ → ℕ) → 2 ≤ budget
+-- each budget of at least this many triangles has a frame
+abbrev pub FramesExistFrom : ℕ → Type 0
+FramesExistFrom least = (n budget : ℕ) (priority : ℕ → ℕ) → least ≤ budget
     → (members : List ℕ) × (worst : ℕ) × (blocked : Option Blocked) × IsAscending members × IsFrame n budget priority (among members) worst blocked
+
+-- each budget of at least 2 has one: the mesh of the two base triangles is the smallest
+abbrev pub FramesExist : Type 0
+FramesExist = FramesExistFrom 2
 
 -- an accepted line sets no budget below 2
 abbrev pub BudgetsAreTwo : Type 0

@@ -3,6 +3,7 @@
 -- prefix_of, is_prefix, within, number_word, least_budget, greatest_budget, greatest_spacing, greatest_level, greatest_seed,
 -- frames_command, try_command, command_of.
 use Rattle.std.specs.Prelude.{ℕ, Bool, true, false, ◌&&◌, nat_le, if◌then◌else◌, List, [], ◌∷◌, length, Option, Some, None, codes, bytes_eq}
+use Rattle.roam_edge.specs.declared.mesh_sink.TheConstants.{LONGEST_PREFIX}
 use Rattle.roam_num.specs.DecText.{number_in}
 
 -- how frames are shown: as meshes whose names begin with this prefix; or by their sums alone, of a run that is
@@ -58,9 +59,9 @@ abbrev pub prefix_of : Show → Option (List ℕ)
 prefix_of (AsMeshes prefix) = Some prefix
 prefix_of (AsSums n seed) = None
 
--- a prefix has 1 to 200 bytes
+-- a prefix has at least 1 byte, and no more than a mesh sink takes
 abbrev pub is_prefix : List ℕ → Bool
-is_prefix prefix = nat_le 1 (length prefix) && nat_le (length prefix) 200
+is_prefix prefix = nat_le 1 (length prefix) && nat_le (length prefix) LONGEST_PREFIX
 
 -- a number, if it lies within these bounds
 abbrev pub within : ℕ → ℕ → Option ℕ → Option ℕ

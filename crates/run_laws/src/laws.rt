@@ -1,7 +1,7 @@
 //! Laws of the definitions, as clauses of functions with empty bodies.
 
 ghost use Rattle.run_laws.specs.Examples.{WrongFieldsStop, FirstLinesAreRefused, CountsAreBounded, SeventhPlaneStops, BudgetsAreInForce, AreasAreRaised, WaysAreAddedUp};
-ghost use Rattle.run_laws.specs.Laws.{WalksGoOn, PicturesGoOn, FramesExist, BudgetsAreTwo, OutcomesAreUnique, OutcomesExist, AcceptedIsDone, PicturesAreCertified, HeadlineFollows};
+ghost use Rattle.run_laws.specs.Laws.{WalksGoOn, PicturesGoOn, FramesExistFrom, BudgetsAreTwo, OutcomesAreUnique, OutcomesExist, AcceptedIsDone, PicturesAreCertified, HeadlineFollows};
 
 use closure_laws::{existence_laws, frame_laws, member_laws};
 use pgm_grid::grids_and_texts;
@@ -16,7 +16,7 @@ pub fn walk_laws()
 
 /// Each budget has a frame, and no line sets a budget below 2: so each state of a script has a picture.
 pub fn state_laws()
-    ensures frames { FramesExist }
+    ensures frames { FramesExistFrom 2 }
     ensures budgets { BudgetsAreTwo }
 {
     existence_laws();

@@ -1,4 +1,6 @@
 pub mod TestLemmas
+pub mod AnswerLemmas
+pub mod ListLemmas
 pub mod DigitLemmas
 pub mod BlankLemmas
 pub mod WordLemmas

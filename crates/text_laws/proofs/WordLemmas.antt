@@ -1,5 +1,5 @@
 -- Samples of two bytes each, in bytes.
-use Rattle.std.proofs.Common.{◌≡◌, ℕ, zero, suc, ◌+◌, ◌*◌, ◌/◌, ◌%◌, List, [], ◌∷◌, ◌++◌, length, refl, ap, ap₂, arith}
+use Rattle.std.proofs.Common.{◌≡◌, ℕ, zero, suc, ◌+◌, ◌*◌, ◌/◌, ◌%◌, ◌<◌, ◌≤◌, List, [], ◌∷◌, ◌++◌, length, take, drop, refl, sym, ap, ap₂, ◌∙◌, arith, take-append-drop, length-take-le}
 use Rattle.std.specs.List.{flat_map}
 use Rattle.text_laws.specs.Words.{two_bytes, words_of}
 
@@ -26,3 +26,20 @@ length-flat (s ∷ samples) = omega (arith, length-flat samples)
 pub words-flat : (samples : List ℕ) → words_of (flat_map two_bytes samples) ≡ samples
 words-flat [] = refl
 words-flat (s ∷ samples) = let e : 256 * (s / 256) + s % 256 ≡ s = omega arith in ap₂ (λ (x : ℕ) (xs : List ℕ). x ∷ xs) e (words-flat samples)
+
+-- two bytes are those of the sample that they are
+pub two_bytes-back : (high low : ℕ) → high < 256 → low < 256 → high ∷ low ∷ [] ≡ two_bytes (256 * high + low)
+two_bytes-back high low h l =
+    let first : high ≡ (256 * high + low) / 256 = omega arith in
+    let second : low ≡ (256 * high + low) % 256 = omega arith in
+    ap₂ (λ (x : ℕ) (y : ℕ). x ∷ y ∷ []) first second
+
+-- bytes that are cut at an even place are the samples of both parts
+pub words-cut : (bytes : List ℕ) (n k : ℕ) → n ≡ 2 * k → n ≤ length bytes → words_of bytes ≡ words_of (take n bytes) ++ words_of (drop n bytes)
+words-cut bytes n k e short =
+    ap words_of (sym (take-append-drop n bytes)) ∙ words-append (take n bytes) (drop n bytes) k (length-take-le n bytes short ∙ e)
+
+-- the same of two parts with names
+pub words-parts : (bytes front back : List ℕ) (n k : ℕ) → front ≡ take n bytes → back ≡ drop n bytes → n ≡ 2 * k → n ≤ length bytes → words_of bytes ≡ words_of front ++ words_of back
+words-parts bytes front back n k f b e short =
+    words-cut bytes n k e short ∙ ap₂ (λ (xs : List ℕ) (ys : List ℕ). words_of xs ++ words_of ys) (sym f) (sym b)

@@ -4,7 +4,6 @@ use Rattle.std.proofs.Math.Nat.{mul-le-mul}
 use Rattle.std.proofs.lemmas.Int.{ints}
 use Rattle.mesh_defs.specs.State.{move_length}
 use Rattle.mesh_defs.specs.BoundingBox.{BoundingBox, CameraAt, IsRoot, gap, squared_distance, root_of, distance_of}
-use Rattle.view_priority.specs.Camera.{moved}
 use Rattle.cull_marks.specs.Nesting.{IsOrdered}
 use Rattle.view_priority.proofs.RootLemmas.{root-at_most}
 
@@ -35,7 +34,7 @@ squares x y z u v w x_le y_le z_le =
 
 -- a camera that moves is at most so much farther away
 pub distance_of-moved : ((s : ℕ) → IsRoot s (root_of s)) → (box : BoundingBox) (from to : CameraAt) → IsOrdered box →
-    distance_of box to ≤ distance_of box from + moved from to
+    distance_of box to ≤ distance_of box from + move_length from to
 unfolding distance_of
 distance_of-moved roots box from to order =
     let root_to = roots (squared_distance box to) in
@@ -47,7 +46,7 @@ distance_of-moved roots box from to order =
     (gap-moved from.z to.z box.z0 box.z1 order.z) in
     let limit = root-moved _ _ _ i j k (root_of (squared_distance box from)) root_from.next_square_above in
     root-at_most (squared_distance box to) (root_of (squared_distance box to))
-    (root_of (squared_distance box from) + moved from to) root_to.square_within (omega arith)
+    (root_of (squared_distance box from) + move_length from to) root_to.square_within (omega arith)
 
 -- no move has no length
 pub move_length-none : (c : CameraAt) → move_length c c ≡ 0

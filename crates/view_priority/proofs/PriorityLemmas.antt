@@ -11,7 +11,8 @@ use Rattle.mesh_defs.specs.BoundingBox.{BoundingBox, CameraAt, IsRoot, root_of, 
 use Rattle.mesh_defs.specs.View.{View, ViewPlane, mark_of}
 use Rattle.mesh_defs.specs.Priority.{seen_ratio, priority_of}
 use Rattle.cull_marks.specs.Nesting.{IsInside, IsOrdered}
-use Rattle.view_priority.specs.Camera.{moved, view_from}
+use Rattle.mesh_defs.specs.State.{move_length}
+use Rattle.view_priority.specs.Camera.{view_from}
 use Rattle.view_priority.specs.Bounds.{priority_at}
 use Rattle.view_priority.proofs.RatioLemmas.{seen_ratio-order, seen_ratio-inherited}
 use Rattle.view_priority.proofs.NestLemmas.{distance_of-inside}
@@ -41,22 +42,19 @@ priority_of-none n heights view a none = rw none (seen_ratio-none _ _)
 
 -- ---- children and parents
 
-halves : (b : ℕ) → (b ≡ 2 * (b / 2)) ⊎ (b ≡ 2 * (b / 2) + 1)
-halves b = parity (cases_lt (b % 2) 1)
-  where
-    parity : ((b % 2 < 1) ⊎ (1 ≤ b % 2)) → (b ≡ 2 * (b / 2)) ⊎ (b ≡ 2 * (b / 2) + 1)
-    parity (inl even) = inl (omega arith)
-    parity (inr odd) = inr (omega arith)
-
 -- what holds from each child to its parent holds from b to b / 2
 pub parent-by_children : (priority : ℕ → ℕ) (n b : ℕ) → ((a : ℕ) → IsSplittable n a → priority (2 * a) ≤ priority a) →
     ((a : ℕ) → IsSplittable n a → priority (2 * a + 1) ≤ priority a) → IsSplittable n (b / 2) →
     priority b ≤ priority (b / 2)
-parent-by_children priority n b left right splittable = by_half (halves b)
+parent-by_children priority n b left right splittable = by_half (cases_lt (b % 2) 1)
   where
-    by_half : ((b ≡ 2 * (b / 2)) ⊎ (b ≡ 2 * (b / 2) + 1)) → priority b ≤ priority (b / 2)
-    by_half (inl even) = subst (λ x. priority x ≤ priority (b / 2)) (sym even) (left (b / 2) splittable)
-    by_half (inr odd) = subst (λ x. priority x ≤ priority (b / 2)) (sym odd) (right (b / 2) splittable)
+    by_half : ((b % 2 < 1) ⊎ (1 ≤ b % 2)) → priority b ≤ priority (b / 2)
+    by_half (inl even) =
+        let is_left : b ≡ 2 * (b / 2) = omega arith in
+        subst (λ x. priority x ≤ priority (b / 2)) (sym is_left) (left (b / 2) splittable)
+    by_half (inr odd) =
+        let is_right : b ≡ 2 * (b / 2) + 1 = omega arith in
+        subst (λ x. priority x ≤ priority (b / 2)) (sym is_right) (right (b / 2) splittable)
 
 -- a child of no greater priority does not rank before its parent
 pub no_rank-before : (priority : ℕ → ℕ) (b : ℕ) → priority b ≤ priority (b / 2) → RanksBefore priority b (b / 2) → ⊥
@@ -88,26 +86,26 @@ back : (i j : ℤ) → unsigned_abs (j -ℤ i) ≡ unsigned_abs (i -ℤ j)
 back i j = omega (arith, ints)
 
 -- a move back is as long as the move
-moved-swapped : (from to : CameraAt) → moved from to ≡ moved to from
-moved-swapped from to = rw (back from.x to.x, back from.y to.y, back from.z to.z) refl
+move_length-swapped : (from to : CameraAt) → move_length from to ≡ move_length to from
+move_length-swapped from to = rw (back from.x to.x, back from.y to.y, back from.z to.z) refl
 
 module _ (n : ℕ) (heights : List ℕ) (from to : CameraAt) (spacing : ℕ) (planes : List ViewPlane) (t slack : ℕ)
     (farther : (box : BoundingBox) (from to : CameraAt) → IsOrdered box →
-    distance_of box to ≤ distance_of box from + moved from to)
+    distance_of box to ≤ distance_of box from + move_length from to)
     (ordered : IsOrdered (box_of n heights spacing t)) where
   -- within the slack the priority is at most that at the distance less the slack
-  pub priority_of-below_hi : moved from to ≤ slack →
+  pub priority_of-below_hi : move_length from to ≤ slack →
       priority_of n heights (view_from to spacing planes) t ≤
       priority_at n heights (view_from from spacing planes) t
       (distance_of (box_of n heights spacing t) from - slack)
   unfolding priority_of priority_at
   priority_of-below_hi within =
       let back = farther (box_of n heights spacing t) to from ordered in
-      let same = moved-swapped from to in
+      let same = move_length-swapped from to in
       seen_ratio-order (mark_of planes (box_of n heights spacing t)) _ _ _ _ (omega arith) (omega arith)
 
   -- and at least that at the distance and the slack
-  pub priority_of-above_lo : moved from to ≤ slack →
+  pub priority_of-above_lo : move_length from to ≤ slack →
       priority_at n heights (view_from from spacing planes) t
       (distance_of (box_of n heights spacing t) from + slack) ≤
       priority_of n heights (view_from to spacing planes) t

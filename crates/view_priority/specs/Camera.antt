@@ -1,6 +1,6 @@
--- Where cameras may be, how far one camera is from another, and what is seen from one.
--- Words: IsCamera, moved, view_from.
-use Rattle.std.specs.Prelude.{ℕ, ◌+◌, ◌≤◌, ◌^◌, List, ◌-ℤ◌, unsigned_abs}
+-- Where cameras may be, and what is seen from one. How far a camera moves is `move_length` of mesh_defs.
+-- Words: IsCamera, view_from.
+use Rattle.std.specs.Prelude.{ℕ, ◌≤◌, ◌^◌, List, unsigned_abs}
 use Rattle.mesh_defs.specs.BoundingBox.{CameraAt}
 use Rattle.mesh_defs.specs.View.{View, ViewPlane}
 
@@ -9,10 +9,6 @@ pub record IsCamera (c : CameraAt) : Type 0 where
   pub x_small : unsigned_abs c.x ≤ 2 ^ 30
   pub y_small : unsigned_abs c.y ≤ 2 ^ 30
   pub z_small : unsigned_abs c.z ≤ 2 ^ 30
-
--- how far the second camera is from the first, added up over the three axes
-abbrev pub moved : CameraAt → CameraAt → ℕ
-moved from to = unsigned_abs (to.x -ℤ from.x) + unsigned_abs (to.y -ℤ from.y) + unsigned_abs (to.z -ℤ from.z)
 
 -- the view from a camera, with this spacing and these planes
 abbrev pub view_from : CameraAt → ℕ → List ViewPlane → View

@@ -4,7 +4,9 @@ ghost use Rattle.std.specs.Prelude.{◌≡◌, ◌+◌, ◌-◌, ◌*◌, ◌/�
 ghost use Rattle.mesh_defs.specs.Triangle.{level_of};
 ghost use Rattle.mesh_defs.specs.BoundingBox.{CameraAt, box_of, distance_of};
 ghost use Rattle.mesh_defs.specs.Priority.{priority_of};
-ghost use Rattle.view_priority.specs.Camera.{moved, view_from};
+ghost use Rattle.mesh_defs.specs.State.{move_length};
+ghost use Rattle.wedgie_tree.specs.declared.wedges.TheConstants.{GREATEST_SPACING};
+ghost use Rattle.view_priority.specs.Camera.{view_from};
 ghost use Rattle.view_priority.specs.Meter.{counted};
 ghost use Rattle.view_priority.specs.Bounds.{priority_at};
 
@@ -30,7 +32,7 @@ pub fn rank(
 ) -> Rank
     requires level { level_of t ≤ 2 * w.now.n }
     requires spacing_low { 1 ≤ spacing }
-    requires spacing_high { spacing ≤ 1024 }
+    requires spacing_high { spacing ≤ GREATEST_SPACING }
     ensures tri { result.tri ≡ t }
     ensures value { result.p
         ≡ priority_of w.now.n w.now.heights (view_from camera.now spacing planes.now) t }
@@ -64,7 +66,7 @@ pub fn bounds(
 ) -> Bounds
     requires level { level_of t ≤ 2 * w.now.n }
     requires spacing_low { 1 ≤ spacing }
-    requires spacing_high { spacing ≤ 1024 }
+    requires spacing_high { spacing ≤ GREATEST_SPACING }
     requires slack { slack ≤ 2 ^ 32 }
     ensures hi_tri { result.hi.tri ≡ t }
     ensures lo_tri { result.lo.tri ≡ t }
@@ -76,9 +78,9 @@ pub fn bounds(
         (distance_of (box_of w.now.n w.now.heights spacing t) camera.now + slack) }
 
     // At every camera within the slack the priority lies between the two.
-    ensures above { (to : CameraAt) → moved camera.now to ≤ slack →
+    ensures above { (to : CameraAt) → move_length camera.now to ≤ slack →
         priority_of w.now.n w.now.heights (view_from to spacing planes.now) t ≤ result.hi.p }
-    ensures below { (to : CameraAt) → moved camera.now to ≤ slack →
+    ensures below { (to : CameraAt) → move_length camera.now to ≤ slack →
         result.lo.p ≤ priority_of w.now.n w.now.heights (view_from to spacing planes.now) t }
     ensures count { meter.new ≡ counted meter.old }
 {

@@ -8,7 +8,6 @@ ghost use Rattle.mesh_defs.specs.View.{View, ViewPlane, mark_of};
 ghost use Rattle.mesh_defs.specs.Priority.{priority_of};
 ghost use Rattle.mesh_defs.specs.Ranking.{RanksBefore};
 ghost use Rattle.cull_marks.specs.Nesting.{IsInside, IsOrdered};
-ghost use Rattle.view_priority.specs.Camera.{moved};
 
 use bintree_addr::{corner_laws, level_laws};
 use cull_marks::mark_laws;
@@ -47,7 +46,7 @@ pub fn priority_laws()
 pub fn distance_laws()
     ensures ordered { (n : ℕ) (heights : List ℕ) (spacing a : ℕ) → IsOrdered (box_of n heights spacing a) }
     ensures moved { (box : BoundingBox) (from to : CameraAt) → IsOrdered box →
-        distance_of box to ≤ distance_of box from + moved from to }
+        distance_of box to ≤ distance_of box from + move_length from to }
 {
     roots();
 }

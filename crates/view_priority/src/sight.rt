@@ -5,6 +5,7 @@ ghost use Rattle.mesh_defs.specs.Triangle.{level_of};
 ghost use Rattle.mesh_defs.specs.Thickness.{thickness_of};
 ghost use Rattle.mesh_defs.specs.BoundingBox.{box_of, distance_of};
 ghost use Rattle.mesh_defs.specs.View.{mark_of};
+ghost use Rattle.wedgie_tree.specs.declared.wedges.TheConstants.{GREATEST_SPACING};
 
 use crate::{Camera, distance};
 use bintree_addr::Tri;
@@ -26,7 +27,7 @@ pub(crate) struct Sight {
 pub(crate) fn sight_of(w: &Wedges, camera: &Camera, spacing: u32, planes: &Planes, t: Tri) -> Sight
     requires level { level_of t ≤ 2 * w.now.n }
     requires spacing_low { 1 ≤ spacing }
-    requires spacing_high { spacing ≤ 1024 }
+    requires spacing_high { spacing ≤ GREATEST_SPACING }
     ensures mark { result.mark ≡ mark_of planes.now (box_of w.now.n w.now.heights spacing t) }
     ensures thickness { result.thickness ≡ thickness_of w.now.n w.now.heights t }
     ensures distance { result.distance ≡ distance_of (box_of w.now.n w.now.heights spacing t) camera.now }

@@ -8,7 +8,7 @@ use pgm_grid::PgmReader;
 use std::alloc::Global;
 use std::process::Abort;
 use std::test::Fail;
-use wedgie_tree::Wedges;
+use wedgie_tree::{GREATEST_SPACING, Wedges};
 
 /// Three points a side, all of height 0 but for the middle one of height 10.
 const MIDDLE: [u8; 31] = *b"P5\n3 3\n65535\n\0\0\0\0\0\0\0\0\0\x0a\0\0\0\0\0\0\0\0";
@@ -35,7 +35,7 @@ fn priority_of(
     let tri = Tri::new(number).ok_or("an address")?;
     let deepest = 2 * wedges.grid().n();
     assert!(rt; tri.level() <= deepest);
-    assert!(rt; 1 <= spacing && spacing <= 1024);
+    assert!(rt; 1 <= spacing && spacing <= GREATEST_SPACING);
     let mut meter = Meter::new();
     let found = rank(wedges, &camera, spacing, planes, tri, &mut meter);
     assert_eq!(rt; (found.tri.number(), meter.count()), (number, 1));

@@ -3,13 +3,16 @@
 use Rattle.std.proofs.Common.{◌≡◌, ℕ, zero, suc, ◌+◌, ◌-◌, ◌*◌, ◌/◌, ◌%◌, ◌^◌, ◌<◌, ◌≤◌, ◌⊎◌, ◌↔◌, Bool, true, false, ◌&&◌, ◌||◌, refl, sym, ap, ◌∙◌, arith, ⊎_elim, inl, inr}
 use Rattle.std.proofs.Common.{pow-add, subst}
 use Rattle.std.proofs.Math.Nat.{pow-succ'}
-use Rattle.std.proofs.lemmas.Bool.{cases_lt, leb-true, le-leb}
+use Rattle.std.proofs.lemmas.Bool.{cases_lt, leb-true, le-leb, and_parts}
 use Rattle.std.specs.Cmp.Derive.{both_true}
 use Rattle.mesh_defs.specs.declared.point.Point.{Point}
 use Rattle.mesh_defs.specs.declared.point.Corners.{Corners}
 use Rattle.mesh_defs.specs.Triangle.{child, midpoint, base_triangle, IsCorner, level_of, corners_of}
 use Rattle.mesh_defs.specs.BoundingBox.{is_left_or_on, is_in_closed}
 use Rattle.bintree_laws.specs.Corners.{IsWithin, HasEvenBase}
+use Rattle.bintree_laws.proofs.LevelLemmas.{level_of-below, level_of-left, level_of-right, level_of-parent}
+use Rattle.bintree_laws.proofs.CornerLemmas.{corners_of-left, corners_of-right, IsWithin-corners_of}
+use Rattle.bintree_laws.proofs.LatticeLemmas.{HasEvenBase-corners_of}
 
 -- ---- doubled areas
 
@@ -65,6 +68,19 @@ pub record AddressLaws : Type 0 where
   pub right_corners : (n a : ℕ) → 2 ≤ a → corners_of n (2 * a + 1) ≡ child 1 (corners_of n a)
   pub within : (n a : ℕ) → IsWithin (2 ^ n) (corners_of n a)
   pub even : (n a : ℕ) → level_of a < 2 * n → HasEvenBase (corners_of n a)
+
+-- which are those of bintree_laws
+pub address_laws : AddressLaws
+address_laws = record {
+  below = level_of-below;
+  left = level_of-left;
+  right = level_of-right;
+  parent = level_of-parent;
+  left_corners = corners_of-left;
+  right_corners = corners_of-right;
+  within = IsWithin-corners_of;
+  even = HasEvenBase-corners_of;
+}
 
 -- an address is its parent's left or right child
 pub left-or-right : (a : ℕ) → (a ≡ 2 * (a / 2)) ⊎ (a ≡ 2 * (a / 2) + 1)
@@ -129,16 +145,12 @@ pub record IsHeld (c : Corners) (r : Point) : Type 0 where
   pub base : IsLeft r c.v0 c.v1
   pub right_leg : IsLeft r c.v1 c.apex
 
-and-parts : (b d : Bool) → (b && d) ≡ true → (b ≡ true) × (d ≡ true)
-and-parts true d h = (refl, h)
-and-parts false d h = absurd (cc)
-
 pub read : (c : Corners) (r : Point) → is_in_closed c r ≡ true → IsHeld c r
 read c r h =
     let legs : (is_left_or_on r c.apex c.v0 ≡ true) × ((is_left_or_on r c.v0 c.v1 && is_left_or_on r c.v1 c.apex) ≡ true) =
-    and-parts (is_left_or_on r c.apex c.v0) (is_left_or_on r c.v0 c.v1 && is_left_or_on r c.v1 c.apex) h in
+    and_parts (is_left_or_on r c.apex c.v0) (is_left_or_on r c.v0 c.v1 && is_left_or_on r c.v1 c.apex) h in
     let rest : (is_left_or_on r c.v0 c.v1 ≡ true) × (is_left_or_on r c.v1 c.apex ≡ true) =
-    and-parts (is_left_or_on r c.v0 c.v1) (is_left_or_on r c.v1 c.apex) legs.1 in
+    and_parts (is_left_or_on r c.v0 c.v1) (is_left_or_on r c.v1 c.apex) legs.1 in
     record {
       left_leg = leb-true _ _ legs.0;
       base = leb-true _ _ rest.0;

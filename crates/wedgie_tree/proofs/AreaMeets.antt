@@ -1,17 +1,12 @@
 -- Two rectangles share a grid point exactly where their columns and their rows overlap.
-use Rattle.std.proofs.Common.{◌≡◌, ℕ, ◌≤◌, ◌↔◌, Bool, true, false, ◌&&◌, IsTrue, max, min, refl, arith, ⊎_elim}
-use Rattle.std.proofs.lemmas.Bool.{leb-true, le-leb}
+use Rattle.std.proofs.Common.{◌≡◌, ℕ, ◌≤◌, ◌↔◌, true, IsTrue, max, arith}
+use Rattle.std.proofs.lemmas.Bool.{leb-true, le-leb, and_parts}
 use Rattle.std.specs.Cmp.Derive.{both_true}
 use Rattle.mesh_defs.specs.declared.point.Point.{Point}
 use Rattle.mesh_defs.specs.declared.point.Corners.{Corners}
 use Rattle.mesh_defs.specs.State.{Area, is_in_area}
 use Rattle.mesh_defs.specs.BoundingBox.{least_of_3, greatest_of_3}
-use Rattle.wedgie_tree.specs.Edits.{MeetsArea, SharesPoint, IsInRectangle, overlaps}
-
--- both parts of a conjunction
-pub and-parts : (b d : Bool) → (b && d) ≡ true → (b ≡ true) × (d ≡ true)
-and-parts true d h = (refl, h)
-and-parts false d h = absurd (cc)
+use Rattle.wedgie_tree.specs.Edits.{MeetsArea, IsInRectangle, overlaps}
 
 -- what is known of a point of the area
 pub record IsBetweenEnds (area : Area) (i j : ℕ) : Type 0 where
@@ -30,7 +25,7 @@ shared : (c : Corners) (area : Area) → area.x0 ≤ area.x1 → area.y0 ≤ are
 shared c area columns rows over =
     let lines : (area.x0 ≤ greatest_of_3 c.apex.x c.v0.x c.v1.x) × ((least_of_3 c.apex.x c.v0.x c.v1.x ≤ area.x1)
     × ((area.y0 ≤ greatest_of_3 c.apex.y c.v0.y c.v1.y) × (least_of_3 c.apex.y c.v0.y c.v1.y ≤ area.y1))) =
-    let one = and-parts _ _ over in let two = and-parts _ _ one.1 in let three = and-parts _ _ two.1 in
+    let one = and_parts _ _ over in let two = and_parts _ _ one.1 in let three = and_parts _ _ two.1 in
     (leb-true _ _ one.0, (leb-true _ _ two.0, (leb-true _ _ three.0, leb-true _ _ three.1))) in
     let p : Point = record {
       x = max area.x0 (least_of_3 c.apex.x c.v0.x c.v1.x);

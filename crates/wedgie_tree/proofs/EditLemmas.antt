@@ -1,17 +1,17 @@
 -- What a change of heights leaves: a triangle lies in its bounding rectangle, and its thickness and box depend
 -- on the points that it holds alone.
-use Rattle.std.proofs.Common.{◌≡◌, ℕ, zero, suc, ◌+◌, ◌-◌, ◌*◌, ◌/◌, ◌^◌, ◌<◌, ◌≤◌, ◌⊎◌, Bool, true, false, cond, ◌||◌, ◌&&◌, max, List, [], ◌∷◌, map, refl, sym, ap, ◌∙◌, arith, ⊎_elim, subst}
+use Rattle.std.proofs.Common.{◌≡◌, ℕ, zero, suc, ◌+◌, ◌-◌, ◌*◌, ◌^◌, ◌<◌, ◌≤◌, Bool, true, false, cond, List, [], ◌∷◌, map, refl, ap, ◌∙◌, arith, ⊎_elim, subst}
 use Rattle.std.proofs.Math.Nat.{mul-le-mul_left}
-use Rattle.std.proofs.lemmas.Bool.{cases_lt}
+use Rattle.std.proofs.lemmas.Bool.{cases_lt, or_left, or_right}
 use Rattle.std.proofs.lemmas.Nat.{pow_pos}
 use Rattle.std.specs.List.{filter}
 use Rattle.mesh_defs.specs.declared.point.Point.{Point}
 use Rattle.mesh_defs.specs.declared.point.Corners.{Corners}
 use Rattle.mesh_defs.specs.HeightField.{HeightField}
-use Rattle.mesh_defs.specs.Triangle.{level_of, corners_of, midpoint, child, IsSplittable}
+use Rattle.mesh_defs.specs.Triangle.{level_of, corners_of, midpoint, IsSplittable}
 use Rattle.mesh_defs.specs.Thickness.{height_of, deviation, apart, thickness_under, thickness_of}
-use Rattle.mesh_defs.specs.BoundingBox.{is_in_closed, holds_point, points_of, heights_in, low_of, high_of, box_of, BoundingBox, least_of_3, greatest_of_3}
-use Rattle.bintree_laws.specs.Corners.{IsWithin, HasEvenBase}
+use Rattle.mesh_defs.specs.BoundingBox.{is_in_closed, holds_point, points_of, heights_in, low_of, high_of, box_of}
+use Rattle.bintree_laws.specs.Corners.{IsWithin}
 use Rattle.wedgie_tree.specs.declared.wedge.Wedge.{Wedge}
 use Rattle.wedgie_tree.specs.Table.{IsWedge}
 use Rattle.wedgie_tree.specs.Edits.{AgreesOn, IsInRectangle}
@@ -121,21 +121,13 @@ held-y laws n a r low fits held =
 
 -- ---- what children hold
 
-or-left : (b d : Bool) → b ≡ true → (b || d) ≡ true
-or-left true d h = refl
-or-left false d h = absurd (cc)
-
-or-right : (b d : Bool) → d ≡ true → (b || d) ≡ true
-or-right true d h = refl
-or-right false d h = h
-
 -- a triangle holds what its left child holds
 pub held-left : AddressLaws → (n a : ℕ) → IsSplittable n a → (r : Point) → holds_point n (2 * a) r ≡ true → holds_point n a r ≡ true
-held-left laws n a split r held = holds_point-children laws n a split r ∙ or-left (holds_point n (2 * a) r) (holds_point n (2 * a + 1) r) held
+held-left laws n a split r held = holds_point-children laws n a split r ∙ or_left (holds_point n (2 * a) r) (holds_point n (2 * a + 1) r) held
 
 -- a triangle holds what its right child holds
 pub held-right : AddressLaws → (n a : ℕ) → IsSplittable n a → (r : Point) → holds_point n (2 * a + 1) r ≡ true → holds_point n a r ≡ true
-held-right laws n a split r held = holds_point-children laws n a split r ∙ or-right (holds_point n (2 * a) r) (holds_point n (2 * a + 1) r) held
+held-right laws n a split r held = holds_point-children laws n a split r ∙ or_right (holds_point n (2 * a) r) (holds_point n (2 * a + 1) r) held
 
 -- ---- boxes
 

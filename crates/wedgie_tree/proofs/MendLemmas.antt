@@ -1,17 +1,13 @@
 -- Mending the table: which entries are right after a change of heights, and what the walk may leave out.
-use Rattle.std.proofs.Common.{◌≡◌, ℕ, zero, suc, ◌+◌, ◌-◌, ◌*◌, ◌/◌, ◌^◌, ◌<◌, ◌≤◌, Bool, true, false, ◌&&◌, List, length, refl, sym, ap, arith, subst, slice_index_or}
-use Rattle.std.proofs.lemmas.Bool.{le-leb}
-use Rattle.std.specs.Cmp.Derive.{both_true}
-use Rattle.mesh_defs.specs.declared.point.Point.{Point}
+use Rattle.std.proofs.Common.{◌≡◌, ℕ, zero, suc, ◌+◌, ◌*◌, ◌^◌, ◌<◌, ◌≤◌, true, List, sym, arith, subst, slice_index_or}
 use Rattle.mesh_defs.specs.declared.point.Corners.{Corners}
-use Rattle.mesh_defs.specs.HeightField.{HeightField, IsHeightField, height_at}
+use Rattle.mesh_defs.specs.HeightField.{HeightField, height_at}
 use Rattle.mesh_defs.specs.State.{Area, is_in_area}
 use Rattle.mesh_defs.specs.Triangle.{level_of, corners_of, IsSplittable}
-use Rattle.mesh_defs.specs.BoundingBox.{holds_point}
 use Rattle.bintree_laws.specs.Corners.{IsWithin}
 use Rattle.wedgie_tree.specs.declared.wedge.Wedge.{Wedge}
-use Rattle.wedgie_tree.specs.Table.{IsWedge, HasEntry, AllUnder, IsTable, IsRightOff}
-use Rattle.wedgie_tree.specs.Edits.{MeetsArea, SharesPoint, IsClearOf, IsInRectangle, area_of}
+use Rattle.wedgie_tree.specs.Table.{HasEntry, AllUnder, IsTable, IsRightOff}
+use Rattle.wedgie_tree.specs.Edits.{MeetsArea, IsClearOf, IsInRectangle, area_of}
 use Rattle.wedgie_tree.proofs.AreaLemmas.{AddressLaws}
 use Rattle.wedgie_tree.proofs.HeightLemmas.{apex-passes}
 use Rattle.wedgie_tree.proofs.AreaMeets.{made-area}

@@ -1,13 +1,12 @@
 -- A list of heights by its points: what is known of each point is known of the list in file order.
-use Rattle.std.proofs.Common.{◌≡◌, ℕ, ◌+◌, ◌-◌, ◌*◌, ◌/◌, ◌%◌, ◌^◌, ◌<◌, ◌≤◌, Bool, true, false, ◌&&◌, nat_eq, nat_le, nat_lt, if◌then◌else◌, List, map, length, get_or, slice_index, ℤ, pos, ◌+ℤ◌, refl, sym, ap, ◌∙◌, arith, ⊎_elim, subst}
+use Rattle.std.proofs.Common.{◌≡◌, ℕ, ◌+◌, ◌-◌, ◌*◌, ◌/◌, ◌%◌, ◌^◌, ◌<◌, ◌≤◌, Bool, true, false, if◌then◌else◌, List, map, length, get_or, slice_index, ℤ, pos, ◌+ℤ◌, refl, sym, ap, ◌∙◌, arith, subst}
 use Rattle.std.proofs.lemmas.List.{ext_get_or, length-map, get_or-map}
 use Rattle.std.proofs.lemmas.List.FromFn.{length-enumerate_from, get_or-enumerate_from}
 use Rattle.std.proofs.lemmas.Nat.{div_below, mod_below}
 use Rattle.std.specs.List.{enumerate_from}
 use Rattle.mesh_defs.specs.HeightField.{HeightField, IsHeightField, side_of, place_of, height_at}
-use Rattle.mesh_defs.specs.State.{Area, is_in_area, clamped, raised_at, raised_heights}
-use Rattle.wedgie_tree.specs.Edits.{is_in_row, placed_at, with_row}
-use Rattle.wedgie_tree.proofs.AreaMeets.{IsBetweenEnds, read-area, made-area, and-parts}
+use Rattle.mesh_defs.specs.State.{Area, is_in_area, clamped, raised_heights}
+use Rattle.wedgie_tree.specs.Edits.{is_in_row, with_row}
 
 -- a choice by a test that holds, or does not
 pub if-held : (b : Bool) (i j k : ℕ) → (b ≡ true → k ≡ i) → ((b ≡ true → ⊥) → k ≡ j) → k ≡ (if b then i else j)

@@ -1,5 +1,5 @@
 -- Changes of heights a point and a row at a time: what stands after some of the steps.
-use Rattle.std.proofs.Common.{◌≡◌, ℕ, ◌+◌, ◌-◌, ◌*◌, ◌^◌, ◌<◌, ◌≤◌, true, List, map, length, get_or, slice_index, slice_index_or, All, ◌++◌, ◌∷◌, [], ℤ, pos, negsuc, ◌+ℤ◌, min, int_lt, unsigned_abs, if◌then◌else◌, refl, sym, ap, ◌∙◌, arith, ⊎_elim, subst}
+use Rattle.std.proofs.Common.{◌≡◌, ℕ, ◌+◌, ◌-◌, ◌*◌, ◌^◌, ◌<◌, ◌≤◌, true, List, map, length, get_or, slice_index, All, ◌++◌, ◌∷◌, [], ℤ, pos, negsuc, ◌+ℤ◌, refl, sym, ap, ◌∙◌, arith, ⊎_elim, subst}
 use Rattle.std.proofs.lemmas.Bool.{cases_lt, cases_eq}
 use Rattle.std.proofs.Math.Pow.{pow_mono}
 use Rattle.std.proofs.lemmas.Int.{ints}

@@ -8,8 +8,6 @@ ghost use Rattle.mesh_defs.specs.BoundingBox.{low_of, high_of, least_of_3, great
 ghost use Rattle.mesh_defs.specs.declared.point.Point.{Point};
 ghost use Rattle.wedgie_tree.specs.Edits.{AgreesOn, IsInRectangle};
 
-use bintree_addr::{corner_laws, level_laws};
-
 /// What holds of a triangle by its children, and of a finest one by its corners.
 ///
 /// With the children's thickness, least and greatest height, a triangle's own cost a step. A child is at
@@ -40,10 +38,7 @@ pub fn wedge_laws()
 
     // A level adds at most twice the greatest height, and there are at most 22 levels below a triangle.
     ensures bounded { (g : HeightField) (a : ℕ) → IsHeightField g → thickness_of g.n g.heights a ≤ 2883540 }
-{
-    corner_laws();
-    level_laws();
-}
+{}
 
 /// What a change of heights leaves as it was: the thickness and the box of each triangle that holds no
 /// point whose height changed.
@@ -58,7 +53,4 @@ pub fn edit_laws()
         holds_point n a r ≡ (holds_point n (2 * a) r || holds_point n (2 * a + 1) r) }
     ensures rectangle { (n a : ℕ) (r : Point) → 2 ≤ a → level_of a ≤ 2 * n → holds_point n a r ≡ true →
         IsInRectangle (corners_of n a) r }
-{
-    corner_laws();
-    level_laws();
-}
+{}

@@ -18,4 +18,4 @@ mod wedges;
 
 pub use area::Area;
 pub use laws::{edit_laws, wedge_laws};
-pub use wedges::Wedges;
+pub use wedges::{GREATEST_SPACING, Wedges};

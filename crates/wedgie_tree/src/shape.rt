@@ -6,6 +6,7 @@ ghost use Rattle.mesh_defs.specs.Triangle.{midpoint, child};
 ghost use Rattle.mesh_defs.specs.Thickness.{height_of, deviation};
 ghost use Rattle.mesh_defs.specs.BoundingBox.{least_of_3, greatest_of_3};
 ghost use Rattle.bintree_laws.specs.Corners.{IsWithin, IsInSquare};
+ghost use Rattle.wedgie_tree.specs.declared.wedges.TheConstants.{GREATEST_SPACING};
 
 use bintree_addr::{Corners, Cuboid, Point};
 use pgm_grid::Grid;
@@ -70,7 +71,7 @@ pub fn deviation_of(grid: &Grid, corners: Corners) -> u32
 /// The box around the surface over these corners, in world units, where the heights are from low to high.
 pub fn box_around(corners: Corners, spacing: u32, low: u16, high: u16) -> Cuboid
     requires within { IsWithin (2 ^ 11) corners }
-    requires spacing_high { spacing ≤ 1024 }
+    requires spacing_high { spacing ≤ GREATEST_SPACING }
     requires ordered { low ≤ high }
     ensures x0 { result.x0 ≡ pos (spacing * least_of_3 corners.apex.x corners.v0.x corners.v1.x) }
     ensures x1 { result.x1 ≡ pos (spacing * greatest_of_3 corners.apex.x corners.v0.x corners.v1.x) }

@@ -106,8 +106,6 @@ pub fn fill(table: &mut [Wedge], grid: &Grid)
     requires { length table.old ≡ 2 ^ (2 * grid.now.n + 1) }
     ensures { IsTable grid.now table.new }
 {
-    corner_laws();
-    level_laws();
     let side = 1 << grid.n();
     let square = Area::new(0, 0, side, side);
     mend(table, grid, square);

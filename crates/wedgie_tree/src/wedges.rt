@@ -6,6 +6,7 @@ ghost use Rattle.mesh_defs.specs.State.{is_in_area, raised_heights};
 ghost use Rattle.mesh_defs.specs.Triangle.{level_of};
 ghost use Rattle.mesh_defs.specs.Thickness.{thickness_of};
 ghost use Rattle.mesh_defs.specs.BoundingBox.{low_of, high_of, box_of};
+ghost use Rattle.wedgie_tree.specs.declared.wedges.TheConstants.{GREATEST_SPACING};
 ghost use Rattle.wedgie_tree.specs.Edits.{with_row};
 
 use crate::Area;
@@ -14,11 +15,14 @@ use crate::laws::wedge_laws;
 use crate::shape::box_around;
 use crate::table::{fill, finest_wedge, mend, places};
 use crate::wedge::Wedge;
-use bintree_addr::{Cuboid, Tri, corner_laws, level_laws};
+use bintree_addr::{Cuboid, Tri, level_laws};
 use pgm_grid::Grid;
 use roam_edge::NoMemory;
 use std::alloc::Global;
 use std::marker::Model;
+
+/// The most world units that a grid step has: so no corner of a box lies beyond 2^21.
+pub const GREATEST_SPACING: u32 = 1024;
 
 /// A grid of heights with the thickness, the least and the greatest height of each of its triangles.
 ///
@@ -84,8 +88,6 @@ impl Wedges {
         ensures others { (i j : ℕ) → i ≤ 2 ^ self.old.n → j ≤ 2 ^ self.old.n → (i ≡ x → j ≡ y → ⊥)
             → height_at self.old.n self.new.heights i j ≡ height_at self.old.n self.old.heights i j }
     {
-        corner_laws();
-        level_laws();
         self.grid.put(x, y, h);
         mend(&mut self.table, &self.grid, Area::new(x, y, x, y));
     }
@@ -105,8 +107,6 @@ impl Wedges {
             → (j ≡ y → x ≤ i → i < x + length heights.now → ⊥)
             → height_at self.old.n self.new.heights i j ≡ height_at self.old.n self.old.heights i j }
     {
-        corner_laws();
-        level_laws();
         // The heights are those of a grid, also where the row is empty.
         let _valid = self.grid();
         let count = heights.len();
@@ -132,8 +132,6 @@ impl Wedges {
         ensures others { (i j : ℕ) → i ≤ 2 ^ self.old.n → j ≤ 2 ^ self.old.n → (is_in_area area i j ≡ true → ⊥)
             → height_at self.old.n self.new.heights i j ≡ height_at self.old.n self.old.heights i j }
     {
-        corner_laws();
-        level_laws();
         raise_heights(&mut self.grid, area, dz);
         mend(&mut self.table, &self.grid, area);
     }
@@ -180,7 +178,7 @@ impl Wedges {
     pub fn cuboid(&self, t: Tri, spacing: u32) -> Cuboid
         requires level { level_of t ≤ 2 * self.now.n }
         requires spacing_low { 1 ≤ spacing }
-        requires spacing_high { spacing ≤ 1024 }
+        requires spacing_high { spacing ≤ GREATEST_SPACING }
         ensures x0 { result.x0 ≡ (box_of self.now.n self.now.heights spacing t).x0 }
         ensures x1 { result.x1 ≡ (box_of self.now.n self.now.heights spacing t).x1 }
         ensures y0 { result.y0 ≡ (box_of self.now.n self.now.heights spacing t).y0 }

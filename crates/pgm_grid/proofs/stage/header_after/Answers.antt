@@ -1,10 +1,11 @@
 use Rattle.std.proofs.Common.{◌≡◌, ◌+◌, ◌<◌, length, drop, get_or, arith, ◌∙◌, ap, subst}
 use Rattle.std.proofs.Math.Seq.{take-length}
 use Rattle.std.proofs.lemmas.List.{length-take-le}
-use Rattle.std.proofs.lemmas.Result.{IfOk-weaker}
+use Rattle.std.proofs.lemmas.Result.{IfOk-weaker, IfErr-weaker}
+use Rattle.text_laws.proofs.ListLemmas.{cut-at}
 use Rattle.pgm_header.specs.Reading as reading
 use Rattle.pgm_grid.specs.Stage.{progress_of}
-use Rattle.pgm_grid.proofs.ReaderLemmas.{HasTaken, cut-at, header-takes, header-stops, header-ends, weaker-err}
+use Rattle.pgm_grid.proofs.ReaderLemmas.{HasTaken, header-takes, header-stops, header-ends}
 use Rattle.pgm_grid.proofs.HeaderEndLemmas.{header-full}
 use Rattle.pgm_grid.proofs.stage.header_after.Goals as goal
 
@@ -22,7 +23,7 @@ pub returns-in-Ok-Some-clause-stops : goal.returns-in-Ok-Some-clause-stops
 returns-in-Ok-Some-clause-stops c =
     let below : c.loop-i.i < length c.args.piece.now = omega arith in
     let place : c.from-at.result + 1 ≡ reading.taken c.loop-i.reader + 1 = ap (λ k. k + 1) (c.from-at.ensures ∙ c.place.ensures.value ∙ ap reading.taken (rw c.in-Ok-Some.field-0-is at c.in-Ok-Some.ensures.ended_same)) in
-    weaker-err c.raster_begun.result _ _
+    IfErr-weaker c.raster_begun.result _ _
     (λ fault refusal. header-full c.header_laws.ensures.texts c.header_laws.ensures.read c.header_laws.ensures.read_stands c.header_laws.ensures.part_refusable c.args.reader c.loop-i.reader c.args.piece.now c.requires c.loop-i.i (get_or c.args.piece.now c.loop-i.i 0)
     (drop (c.loop-i.i + 1) c.args.piece.now) c.loop-i.invariant (cut-at c.args.piece.now c.loop-i.i below) c.in-Ok-Some.header (rw c.in-Ok-Some.field-0-is at c.in-Ok-Some.ensures.ends)
     (c.from-at.result + 1) place (length-take-le c.loop-i.i c.args.piece.now (omega (arith, below))) fault refusal)

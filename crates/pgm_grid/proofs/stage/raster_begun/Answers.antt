@@ -1,9 +1,9 @@
 use Rattle.std.proofs.Common.{◌≡◌, ℕ, List}
-use Rattle.std.proofs.lemmas.Result.{IfOk-weaker}
+use Rattle.std.proofs.lemmas.Result.{IfOk-weaker, IfErr-weaker}
 use Rattle.pgm_raster.specs.Progress as samples
 use Rattle.pgm_grid.specs.Progress.{samples_at}
 use Rattle.pgm_grid.specs.Stage.{progress_of}
-use Rattle.pgm_grid.proofs.ReaderLemmas.{begins-raster, begins-refused, begun-means, weaker-err}
+use Rattle.pgm_grid.proofs.ReaderLemmas.{begins-raster, begins-refused, begun-means}
 use Rattle.pgm_grid.proofs.stage.raster_begun.Goals as goal
 
 pub returns-in-Ok-clause-takes : goal.returns-in-Ok-clause-takes
@@ -17,5 +17,5 @@ pub returns-in-Ok-clause-stops : goal.returns-in-Ok-clause-stops
 returns-in-Ok-clause-stops c =
     let means : (more : List ℕ) → samples.resume c.in-Ok.reader more ≡ samples_at c.args.header c.args.at more =
     begun-means c.args.header c.form_for-form.result c.points_for-count.result c.args.at c.in-Ok.reader c.form_for-form.ensures c.points_for-count.ensures.value c.in-Ok.ensures.value in
-    weaker-err c.raster_after.result _ _
+    IfErr-weaker c.raster_after.result _ _
     (λ fault refusal other. begins-refused c.args.header c.args.at c.in-Ok.reader c.args.rest.now fault means refusal) c.raster_after.ensures.refusal

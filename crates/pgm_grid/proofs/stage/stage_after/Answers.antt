@@ -1,5 +1,6 @@
-use Rattle.pgm_grid.proofs.ReaderLemmas.{raster-stops, stopped-stops, both-err}
+use Rattle.pgm_grid.proofs.ReaderLemmas.{raster-stops, stopped-stops}
 use Rattle.pgm_grid.proofs.stage.stage_after.Goals as goal
+use Rattle.text_laws.proofs.AnswerLemmas.{both-err}
 
 pub returns-in-InRaster-clause-stops : goal.returns-in-InRaster-clause-stops
 returns-in-InRaster-clause-stops c =

@@ -1,7 +1,7 @@
 use Rattle.std.proofs.Common.{◌≡◌, ◌∙◌, ◌+◌, ◌/◌, ◌++◌, ℕ, length, arith, ap, subst, List}
 use Rattle.text_laws.specs.Words.{words_of}
-use Rattle.text_laws.proofs.WordLemmas.{length-words}
-use Rattle.pgm_raster.proofs.RasterLemmas.{Pushes, Refuses, passed_on, chunk-pushed, chunk-refused, words-parts}
+use Rattle.text_laws.proofs.WordLemmas.{length-words, words-parts}
+use Rattle.pgm_raster.proofs.RasterLemmas.{Pushes, Refuses, passed_on, chunk-pushed, chunk-refused}
 use Rattle.pgm_raster.proofs.bulk.push_words.Goals as goal
 
 pub returns-in_err-push_samples-clause-err : goal.returns-in_err-push_samples-clause-err

@@ -1,8 +1,9 @@
 use Rattle.std.proofs.Common.{◌≡◌, ◌∙◌, ◌+◌, ◌^◌, ◌<◌, ◌∷◌, ℕ, length, arith, ap, List, Err, sym}
+use Rattle.text_laws.proofs.DigitLemmas.{eight-digits}
 use Rattle.pgm_raster.specs.Progress.{after, plain_from, no_digits}
 use Rattle.pgm_raster.specs.declared.fault.RasterFault.{RasterFault}
 use Rattle.pgm_raster.proofs.RasterLemmas.{passed_on}
-use Rattle.pgm_raster.proofs.PlainLemmas.{plain-space, eight_digits}
+use Rattle.pgm_raster.proofs.PlainLemmas.{plain-space}
 use Rattle.pgm_raster.proofs.plain.plain_step.Goals as goal
 
 pub returns-in_err-end_digits-clause-err : goal.returns-in_err-end_digits-clause-err
@@ -20,10 +21,10 @@ returns-then-is_whitespace-clause-ok c =
 
 pub overflow_mul-result : goal.overflow_mul-result
 overflow_mul-result c =
-    let small : c.args.digits.value < 10 ^ 8 = eight_digits c.args.digits.count c.args.digits.value (omega arith) c.requires.part.small in
+    let small : c.args.digits.value < 10 ^ 8 = eight-digits c.args.digits.count c.args.digits.value (omega arith) c.requires.part.small in
     omega (arith, small)
 
 pub overflow_add-result-then-digits-lt-LONGEST : goal.overflow_add-result-then-digits-lt-LONGEST
 overflow_add-result-then-digits-lt-LONGEST c =
-    let small : c.args.digits.value < 10 ^ 8 = eight_digits c.args.digits.count c.args.digits.value (omega arith) c.requires.part.small in
+    let small : c.args.digits.value < 10 ^ 8 = eight-digits c.args.digits.count c.args.digits.value (omega arith) c.requires.part.small in
     omega (arith, small)

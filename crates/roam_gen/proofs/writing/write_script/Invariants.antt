@@ -1,4 +1,4 @@
-use Rattle.std.proofs.Common.{◌≡◌, ◌-◌, ◌≤◌, take}
+use Rattle.std.proofs.Common.{◌≡◌, ◌-◌, take}
 use Rattle.std.specs.List.{flat_map}
 use Rattle.roam_gen.specs.Generated.{made_lines}
 use Rattle.roam_gen.specs.Written.{line_text}

@@ -1,4 +1,4 @@
-use Rattle.std.proofs.Common.{◌≡◌, ◌++◌, ◌∙◌, ap, sym, codes, decimal, ℕ}
+use Rattle.std.proofs.Common.{◌++◌, ◌∙◌, ap, sym, codes, decimal, ℕ}
 use Rattle.roam_script.specs.declared.script_fault.ScriptFault.{ScriptFault}
 use Rattle.run_laws.specs.ReportText.{script_fault_text}
 use Rattle.roam_run.proofs.report.push_script_fault.Goals as goal

@@ -1,8 +1,8 @@
-use Rattle.std.proofs.Common.{◌≡◌, ◌≢◌, ◌++◌, ℕ, List, [], Some, Err, take, drop, true, false, refl, rules, arith, sym, ap, subst, ◌∙◌}
+use Rattle.std.proofs.Common.{◌≡◌, ◌++◌, ℕ, List, [], Some, take, drop, true, false, refl, rules, arith, sym, ap, subst, ◌∙◌}
 use Rattle.std.proofs.lemmas.Grind.{common_steps}
 use Rattle.roam_edge.specs.Shelf.{bytes_of}
 use Rattle.run_laws.specs.declared.status.Status.{Status}
-use Rattle.run_laws.specs.Walk.{Walk, walk_of}
+use Rattle.run_laws.specs.Walk.{walk_of}
 use Rattle.run_laws.specs.Words.{AsMeshes}
 use Rattle.run_laws.specs.Act.{told}
 use Rattle.run_laws.specs.Outcome.{Outcome, IsFramesOutcome}

@@ -1,5 +1,4 @@
-use Rattle.std.proofs.Common.{◌≡◌, ◌≢◌, ◌<◌, ◌≤◌, [], length, refl, rules, arith}
-use Rattle.std.proofs.lemmas.Grind.{common_steps}
+use Rattle.std.proofs.Common.{[], refl}
 use Rattle.run_laws.proofs.ActLemmas.{stands-text, cut-only-line}
 use Rattle.roam_run.proofs.StageLemmas.{takes-byte, byte-settles, takes-refusal, takes-cut, longer-line}
 use Rattle.roam_run.proofs.script.take_byte.Goals as goal

@@ -1,9 +1,9 @@
-use Rattle.std.proofs.Common.{◌≡◌, ◌≢◌, ◌<◌, Ok, Err, Result, [], ℕ, List, length, sym, ap, ◌∙◌, subst, rules, arith}
+use Rattle.std.proofs.Common.{◌≡◌, ◌≢◌, ◌<◌, Ok, Err, [], ℕ, List, length, sym, ap, ◌∙◌, subst, rules, arith}
 use Rattle.std.proofs.lemmas.Grind.{common_steps}
 use Rattle.roam_script.specs.declared.limits.Limits.{Limits}
+use Rattle.roam_script.specs.declared.limits.TheConstants.{MOST_LINES, MOST_FRAMES}
 use Rattle.roam_script.specs.declared.line.Line.{Line}
 use Rattle.roam_script.specs.declared.line.Line.TheVariants.{Frame}
-use Rattle.roam_script.specs.declared.script_fault.ScriptFault.{ScriptFault}
 use Rattle.roam_script.specs.LineText.{line_in}
 use Rattle.run_laws.proofs.ActLemmas.{stands-text, cut-only-line}
 use Rattle.roam_run.proofs.StageLemmas.{line-shown, takes-frame, takes-change, takes-refusal, takes-cut, line-settles}
@@ -12,7 +12,7 @@ use Rattle.roam_run.proofs.script.take_line.Goals as goal
 pub take_frame-requires-clause-frames : goal.take_frame-requires-clause-frames
 take_frame-requires-clause-frames g c =
     let is : line_in c.limits.result c.as_slice.result.now ≡ Ok Frame = sym c.read_line.ensures.same ∙ (c.in-Ok-Frame.is ∙ ap (λ (l : Line). Ok l) c.in-Ok-Frame.field-0-is) in
-    let P = λ (l : Limits). l.frames < 999999 in
+    let P = λ (l : Limits). l.frames < MOST_FRAMES in
     subst P c.limits.ensures.value (c.line_laws.ensures.ranges c.limits.result c.as_slice.result.now Frame is)
 
 pub returns-in-Ok-Frame-clause-outcome : goal.returns-in-Ok-Frame-clause-outcome
@@ -38,7 +38,7 @@ returns-in-Ok g c = record {
         no_memory = λ e. cc;
       };
   stage = record {
-    few_lines = (let few : c.args.stage.now.lines < 10000000 = grind (arith, common_steps) in let e = c.end_line.ensures.lines in omega (arith, few, e));
+    few_lines = (let few : c.args.stage.now.lines < MOST_LINES = grind (arith, common_steps) in let e = c.end_line.ensures.lines in omega (arith, few, e));
     few_frames = (let e = c.end_line.ensures.frames in let few = c.requires.stage.few_frames in omega (arith, few, e));
     short = (let e = ap (λ (l : List ℕ). length l) c.end_line.ensures.part in omega (arith, e));
     mesh = c.end_line.ensures.mesh;

@@ -1,4 +1,4 @@
-use Rattle.std.proofs.Common.{◌≡◌, ap, arith}
+use Rattle.std.proofs.Common.{ap, arith}
 use Rattle.mesh_defs.specs.HeightField.{HeightField}
 use Rattle.wedgie_tree.proofs.RowLemmas.{IsPutSoFar-none, IsPutSoFar-next, IsPutSoFar-all}
 use Rattle.wedgie_tree.proofs.heights.put_row.Goals as goal

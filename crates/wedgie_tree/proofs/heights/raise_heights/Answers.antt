@@ -1,9 +1,8 @@
-use Rattle.std.proofs.Common.{◌≡◌, ℕ, ◌+◌, ap, sym, subst, arith}
+use Rattle.std.proofs.Common.{◌≡◌, ◌+◌, ap, sym, subst, arith}
 use Rattle.std.proofs.lemmas.Int.{to_z-of_z}
 use lib.IntN.{ℤ}
 use mir.Syntax.{w32}
 use mir.Val.{to_z, of_z}
-use Rattle.mesh_defs.specs.HeightField.{HeightField}
 use Rattle.mesh_defs.specs.State as state
 use Rattle.wedgie_tree.proofs.RowLemmas.{IsRaisedSoFar, IsRaisedSoFar-none, IsRaisedSoFar-next, IsRaisedSoFar-all}
 use Rattle.wedgie_tree.proofs.heights.raise_heights.Goals as goal

@@ -1,6 +1,5 @@
-use Rattle.std.proofs.Common.{◌+◌, arith}
-use Rattle.std.proofs.Math.Pow.{pow_mono}
-use Rattle.wedgie_tree.proofs.RowLemmas.{IsReadSoFar, IsReadSoFar-none, IsReadSoFar-next, IsReadSoFar-room}
+use Rattle.std.proofs.Common.{arith}
+use Rattle.wedgie_tree.proofs.RowLemmas.{IsReadSoFar-none, IsReadSoFar-next, IsReadSoFar-room}
 use Rattle.wedgie_tree.proofs.heights.row_of.Goals as goal
 
 pub loop-x-init : goal.loop-x-init

@@ -1,8 +1,8 @@
-use Rattle.std.proofs.Common.{◌≡◌, ℕ, ◌^◌, ◌+◌, ◌-◌, ◌*◌, ◌<◌, ◌≤◌, sym, subst, arith, slice_index_or, set}
+use Rattle.std.proofs.Common.{ℕ, ◌^◌, ◌+◌, ◌-◌, ◌*◌, ◌<◌, ◌≤◌, sym, subst, arith, slice_index_or, set}
 use Rattle.mesh_defs.specs.Triangle.{level_of}
 use Rattle.wedgie_tree.specs.Table.{IsWedge}
 use Rattle.wedgie_tree.proofs.PlaceLemmas.{IsWithin-of, IsWithin-largest}
-use Rattle.wedgie_tree.proofs.AreaLemmas.{AddressLaws}
+use Rattle.wedgie_tree.proofs.AreaLemmas.{address_laws}
 use Rattle.wedgie_tree.proofs.MendLemmas.{IsClearOf-apart, AllUnder-clear, IsRightOff-kept}
 use Rattle.wedgie_tree.specs.Edits.{IsClearOf}
 use Rattle.wedgie_tree.proofs.TableLemmas.{AllUnder-filled, HasEntry-set}
@@ -41,22 +41,9 @@ returns-clause-others t c =
     λ a has. HasEntry-set c.args.grid.now c.mend_under-right.new.table c.number-2.result c.joined-wedge.result (omega arith)
     wedge a (c.mend_under-right.ensures.others a (c.mend_under-left.ensures.others a has))
 
--- the laws that the two calls state
-laws : (t : ℕ) → goal.After-result-1 t → AddressLaws
-laws t c = record {
-  below = c.level_laws.ensures.below;
-  left = c.level_laws.ensures.left;
-  right = c.level_laws.ensures.right;
-  parent = c.level_laws.ensures.parent;
-  left_corners = c.corner_laws.ensures.left;
-  right_corners = c.corner_laws.ensures.right;
-  within = c.corner_laws.ensures.within;
-  even = c.corner_laws.ensures.even;
-}
-
 -- a triangle that is left out holds no point of the area
 is_clear : (t : ℕ) (c : goal.After-result-1 t) → IsClearOf c.args.grid.now.n c.args.area c.args.tri
-is_clear t c = IsClearOf-apart (laws t c) c.args.grid.now.n c.args.tri c.args.area c.args.corners c.requires.of_tri
+is_clear t c = IsClearOf-apart address_laws c.args.grid.now.n c.args.tri c.args.area c.args.corners c.requires.of_tri
     (omega arith) (omega arith) (λ meets. let met = c.meets.ensures.1 meets in absurd (cc (met, c.if-not-meets.true)))
 
 pub returns-then-not-meets-clause-value : goal.returns-then-not-meets-clause-value
@@ -68,7 +55,7 @@ returns-then-not-meets-clause-value t c =
 
 pub returns-then-not-meets-clause-under : goal.returns-then-not-meets-clause-under
 returns-then-not-meets-clause-under t c =
-    AllUnder-clear (laws t c) c.args.grid.now c.args.area c.args.table.now c.requires.clear
+    AllUnder-clear address_laws c.args.grid.now c.args.area c.args.table.now c.requires.clear
     (2 * c.args.grid.now.n - level_of c.args.tri) c.args.tri (omega arith) (omega arith) (is_clear t c)
 
 pub returns-clause-clear : goal.returns-clause-clear

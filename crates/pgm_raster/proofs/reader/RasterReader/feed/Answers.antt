@@ -1,8 +1,9 @@
 use Rattle.std.proofs.Common.{◌≡◌, ◌∙◌, ◌+◌, ◌^◌, ◌≤◌, subst, vec_len, ◌++◌, ℕ, length, sym, refl, ap, arith, Option}
+use Rattle.text_laws.proofs.AnswerLemmas.{at-none, at-some}
 use Rattle.pgm_raster.specs.declared.fault.RasterFault.{RasterFault}
 use Rattle.pgm_raster.specs.Progress.{Progress, Reading, resume, next_place, refusal_of, IsSettled}
 use Rattle.pgm_raster.specs.Stage.{progress_of, IsPart, IsPlace}
-use Rattle.pgm_raster.proofs.ReaderLemmas.{opened-resume, opened-place, opened-refusal, closed, closed-resume, closed-refusal, resume-reading, place-reading, refusal-reading, refusal-refused, refused-settled, at-none, at-some, settled-by, settled-reading, place-within}
+use Rattle.pgm_raster.proofs.ReaderLemmas.{opened-resume, opened-place, opened-refusal, closed, closed-resume, closed-refusal, resume-reading, place-reading, refusal-reading, refusal-refused, refused-settled, settled-by, settled-reading, place-within}
 use Rattle.pgm_raster.proofs.OpenLemmas.{still-open}
 use Rattle.pgm_raster.proofs.reader.RasterReader.feed.Goals as goal
 

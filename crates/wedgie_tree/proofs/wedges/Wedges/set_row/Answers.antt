@@ -1,23 +1,13 @@
 use Rattle.std.proofs.Common.{ℕ, List, ap, arith}
 use Rattle.mesh_defs.specs.HeightField.{HeightField}
-use Rattle.wedgie_tree.proofs.AreaLemmas.{AddressLaws}
+use Rattle.wedgie_tree.proofs.AreaLemmas.{address_laws}
 use Rattle.wedgie_tree.proofs.MendLemmas.{IsRightOff-row}
 use Rattle.wedgie_tree.proofs.PointLemmas.{with_row-none}
 use Rattle.wedgie_tree.proofs.wedges.Wedges.set_row.Goals as goal
 
 pub mend-requires-clause-clear : goal.mend-requires-clause-clear
 mend-requires-clause-clear c =
-    let laws : AddressLaws = record {
-      below = c.level_laws.ensures.below;
-      left = c.level_laws.ensures.left;
-      right = c.level_laws.ensures.right;
-      parent = c.level_laws.ensures.parent;
-      left_corners = c.corner_laws.ensures.left;
-      right_corners = c.corner_laws.ensures.right;
-      within = c.corner_laws.ensures.within;
-      even = c.corner_laws.ensures.even;
-    } in
-    IsRightOff-row laws c.self.inside.grid c.put_row.new.grid c.new.result c.self.inside.table.items c.deref_mut.result.now
+    IsRightOff-row address_laws c.self.inside.grid c.put_row.new.grid c.new.result c.self.inside.table.items c.deref_mut.result.now
     c.args.x c.args.y _ _ c.new.ensures (omega arith) c.deref_mut.ensures.value
     (ap (λ (g : HeightField). g.n) c.put_row.ensures.value) c.self.invariant c.put_row.ensures.others
 
