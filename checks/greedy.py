@@ -5,8 +5,8 @@ writes the meshes.
 usage: checks/greedy.py GRID BUDGET SPACING MESH            one frame seen from the origin; its mesh is written to MESH
        checks/greedy.py GRID SCRIPT PREFIX BUDGET SPACING   all frames of a script; exit status 4 where a line is refused
 
-Slow and plain: each triangle is a tuple of corners, a set is a set of addresses, and each frame is made anew. Reads
-raw PGM grids with two-byte samples and without comments."""
+Slow and plain: each triangle is a tuple of corners, a set is a set of addresses, and each frame is made anew; thickness
+and boxes are, where a height was changed. Reads raw PGM grids with two-byte samples and without comments."""
 import math
 import re
 import sys
