@@ -4,7 +4,7 @@
 
 X Y Z         the camera, whole numbers in world units
 DX DY DZ      the direction of view, of any length, but neither straight up nor straight down
-DEGREES       the field of view from left to right, up to 170
+DEGREES       the field of view from left to right, up to 170, as is the one from bottom to top that follows
 WIDTH HEIGHT  the size of the picture, in any unit
 """
 import math
