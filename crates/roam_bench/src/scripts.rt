@@ -1,7 +1,7 @@
 //! What lines of a script cost: reading them, edits of heights over a grid of side 2049, and the generated grid.
 //! `bench/scripts.rs` makes the same calls in plain Rust.
 
-ghost use Rattle.std.specs.Prelude.{◌<◌, ◌≤◌, ◌^◌};
+ghost use Rattle.std.specs.Prelude.{◌<◌, ◌^◌};
 
 use bintree_addr::Tri;
 use height_edit::set_point;
