@@ -164,6 +164,44 @@ if [ -x "$single" ]; then
   echo "| the wedges of a rough grid, n = 11, the filling of the grid with it | $calls call | $building s | | under 0.5 s |"
   read -r _ _ calls _ found _ seconds <<<"$(fastest ranks)"
   echo "| the rank of every triangle of that grid without planes, n = 11 | $calls calls, $found positive | $(awk -v s="$seconds" -v b="$building" -v n="$calls" 'BEGIN { printf "%.1f", 1000000000 * (s - b) / n }') ns a call | | under 60 ns |"
+  # Edits of heights over that grid, the generated grid and lines of scripts, beside the same calls in plain Rust.
+  plain_scripts=
+  plain_building=0
+  if command -v rustc >"$room/said" && rustc -O --edition 2021 "$top/bench/scripts.rs" -o "$room/scripts" 2>"$room/said"; then
+    plain_scripts=$room/scripts
+    plain_building=$(for ((k = 0; k < runs; k++)); do "$plain_scripts" wedges; done | cut -d ' ' -f 7 | sort -n | head -n 1)
+  fi
+  # each SECONDS LESS CALLS: the time of a call, or how many a second.
+  each() {
+    awk -v s="$1" -v less="$2" -v n="$3" 'BEGIN {
+      t = (s - less) / n
+      if (t < 1e-6) printf "%.1f million a second", 1e-6 / t
+      else if (t < 1e-3) printf "%.1f us a call", 1e6 * t
+      else printf "%.2f ms a call", 1e3 * t
+    }'
+  }
+  # script_row CASE LESS PLAIN_LESS WHAT TARGET: the least seconds without those of the building, of ours and of the plain
+  # Rust, which has to find the same where it has that case.
+  script_row() {
+    local calls found ours plain_found='' plain beside='no rustc'
+    read -r _ _ calls _ found _ ours <<<"$(fastest "$1")"
+    if [ -n "$plain_scripts" ]; then
+      beside=
+      read -r _ _ _ _ plain_found _ plain <<<"$(for ((k = 0; k < runs; k++)); do "$plain_scripts" "$1"; done | sort -t ' ' -k 7 -n | head -n 1)"
+      if [ -n "$plain_found" ]; then
+        [ "$plain_found" = "$found" ] || { echo "bench/run.sh: ours and plain Rust differ in $1: $found and $plain_found" >&2; exit 1; }
+        beside=$(awk -v text="$(each "$plain" "$3" "$calls")" -v s="$ours" -v less="$2" -v p="$plain" -v pless="$3" \
+          'BEGIN { printf "plain Rust %s, ours / plain %.2f", text, (s - less) / (p - pless) }')
+      fi
+    fi
+    echo "| $4 | $calls calls | $(each "$ours" "$2" "$calls") | $beside | $5 |"
+  }
+  script_row set "$building" "$plain_building" '`set` of a random point of that grid' 'under 30 us'
+  script_row set_point "$building" "$plain_building" '`set_point` of the same points, with its list of triangles' ''
+  script_row raise_row "$building" "$plain_building" '`raise` of a random row of that grid' 'under 5 ms'
+  script_row raise_whole "$building" "$plain_building" '`raise` of that whole grid' "at most \`build\` alone, $(each "$building" "$(seconds_of rough_grid)" 1)"
+  script_row gen_grid 0 0 '`gen_grid`, n = 11' 'under 1 s'
+  script_row read_line 0 0 '`read_line` of lines of all kinds' ''
   # The pool of linked triangles: made; filled level by level, then emptied or planned over; refined by force.
   plain_pool=
   if command -v rustc >"$room/said" && rustc -O --edition 2021 "$top/bench/pool.rs" -o "$room/pool" 2>"$room/said"; then

@@ -5,8 +5,8 @@ writes the meshes.
 usage: checks/greedy.py GRID BUDGET SPACING MESH            one frame seen from the origin; its mesh is written to MESH
        checks/greedy.py GRID SCRIPT PREFIX BUDGET SPACING   all frames of a script; exit status 4 where a line is refused
 
-Slow and plain: each triangle is a tuple of corners, a set is a set of addresses, and each frame is made anew. Reads
-raw PGM grids with two-byte samples and without comments."""
+Slow and plain: each triangle is a tuple of corners, a set is a set of addresses, and each frame is made anew; thickness
+and boxes are, where a height was changed. Reads raw PGM grids with two-byte samples and without comments."""
 import math
 import re
 import sys
@@ -26,11 +26,15 @@ n = m.bit_length() - 1
 heights = {(x, y): int.from_bytes(raster[2 * ((m - y) * side + x):][:2], "big") for x in range(side) for y in range(side)}
 camera, planes, budget = (0, 0, 0), [], greatest
 
-triangles_at = {2: ((0, 0), (m, 0), (0, m)), 3: ((m, m), (0, m), (m, 0))}
-for a in range(4, 2 ** (2 * n + 2)):
-    apex, v0, v1 = triangles_at[a // 2]
+# By address: apex and two ends of the base of each triangle.
+triangles_at = [None, None, ((0, 0), (m, 0), (0, m)), ((m, m), (0, m), (m, 0))]
+for a in range(2, 2 ** (2 * n + 1)):
+    apex, v0, v1 = triangles_at[a]
     middle = ((v0[0] + v1[0]) // 2, (v0[1] + v1[1]) // 2)
-    triangles_at[a] = (middle, apex, v0) if a % 2 == 0 else (middle, v1, apex)
+    triangles_at += [(middle, apex, v0), (middle, v1, apex)]
+
+# By address: the least and the greatest x, and the least and the greatest y, of each triangle in world units.
+sides_at = [points and [(spacing * min(ends), spacing * max(ends)) for ends in zip(*points)] for points in triangles_at]
 
 
 def level(a):
@@ -51,8 +55,8 @@ def mate(a):
 
 def wedges():
     """From the finest triangles up: thickness, least and greatest height."""
-    wedge = {}
-    for a in range(2 ** (2 * n + 2) - 1, 1, -1):
+    wedge = [None] * len(triangles_at)
+    for a in reversed(range(2, len(triangles_at))):
         apex, v0, v1 = triangles_at[a]
         if level(a) == 2 * n:
             own = [heights[p] for p in (apex, v0, v1)]
@@ -67,8 +71,7 @@ def wedges():
 
 def box(a, wedge):
     """The least and the greatest value on each axis, in world units."""
-    points = triangles_at[a]
-    return [(spacing * min(p[axis] for p in points), spacing * max(p[axis] for p in points)) for axis in (0, 1)] + [wedge[a][1:]]
+    return sides_at[a] + [wedge[a][1:]]
 
 
 def mark(ends):
@@ -80,7 +83,7 @@ def mark(ends):
 
 def priority(a, wedge):
     ends = box(a, wedge)
-    if mark(ends) == "outside":
+    if wedge[a][0] == 0 or mark(ends) == "outside":
         return 0
     gaps = [max(low - at, at - high, 0) for (low, high), at in zip(ends, camera)]
     return 65536 * wedge[a][0] // (math.isqrt(sum(gap * gap for gap in gaps)) + 1)
@@ -100,10 +103,9 @@ def forced(split, a):
     return more
 
 
-def frame(number, before, path):
+def frame(number, before, path, wedge):
     """Writes the mesh of a frame and prints its report line; the set that was split."""
-    wedge = wedges()
-    priorities = {a: priority(a, wedge) for a in range(2, 2 ** (2 * n + 2))}
+    priorities = {a: priority(a, wedge) for a in range(2, len(triangles_at))}
     split, blocked = set(), "none"
     for p, a in sorted((-priorities[a], a) for a in range(2, 2 ** (2 * n + 1)) if priorities[a] > 0):
         more = forced(split, a)
@@ -173,7 +175,7 @@ RANGES = {
 pieces = script.split(b"\n")
 if not pieces[-1]:
     pieces.pop()
-frames, split = 0, set()
+frames, split, wedge = 0, set(), None
 for number, line in enumerate(pieces, 1):
     try:
         if len(line) > 200:
@@ -191,11 +193,13 @@ for number, line in enumerate(pieces, 1):
         sys.exit(4)
     if fields[0] == b"frame":
         frames += 1
-        split = frame(frames, split, f"{prefix}{frames:06}.obj" if scripted else mesh)
+        wedge = wedge or wedges()
+        split = frame(frames, split, f"{prefix}{frames:06}.obj" if scripted else mesh, wedge)
     elif fields[0] == b"camera":
         camera = tuple(values)
     elif fields[0] == b"set":
         heights[values[0], values[1]] = values[2]
+        wedge = None
     elif fields[0] == b"plane":
         planes.append(values)
     elif fields[0] == b"noplanes":
@@ -207,3 +211,4 @@ for number, line in enumerate(pieces, 1):
         for x in range(x0, x1 + 1):
             for y in range(y0, y1 + 1):
                 heights[x, y] = min(max(heights[x, y] + rise, 0), maxval)
+        wedge = None

@@ -365,6 +365,12 @@ start try_of_the_least_level
 run try 01 1
 expect 0 0 'try 1 1 frames 50 triangles 400 worst 0 blocked 0\n'
 
+# The sums of the report that greedy.py makes of the grid and the script of generated.py, with budget 20000 and spacing 30,
+# in three minutes. All of its 50 meshes were those of the program too.
+start try_of_level_9
+run try 9 1
+expect 0 0 'try 9 1 frames 50 triangles 999963 worst 4223 blocked 50\n'
+
 # --- Words. ---
 
 long=$(printf '%0200d' 0)

@@ -77,6 +77,13 @@ none links_lead_to_files "$(
   done
 )"
 
+# The worked view of docs/FORMATS.md is what its command prints.
+if has the_worked_view_is_what_frustum_prints python3; then
+  read -r -a words < <(grep '^python3 examples/frustum.py' docs/FORMATS.md)
+  none the_worked_view_is_what_frustum_prints \
+    "$(diff <("${words[@]}") <(sed -n '/^python3 examples\/frustum.py/,/^Th/p' docs/FORMATS.md | sed -n '/^noplanes$/,/^```$/p' | sed '$d'))"
+fi
+
 if git rev-parse --git-dir >/dev/null 2>&1; then
   none rt_files_stand_only_in_src "$(git ls-files '*.rt' | grep -vE '^crates/[a-z0-9_]+/src/')"
   none antt_files_stand_only_in_specs_and_proofs "$(git ls-files '*.antt' | grep -vE '^crates/[a-z0-9_]+/(specs|proofs)/')"

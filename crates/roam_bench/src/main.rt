@@ -9,10 +9,12 @@
 mod heaps;
 mod pools;
 mod reading;
+mod scripts;
 
 use crate::heaps::heap_calls;
 use crate::pools::{Work, filled, made, refined};
 use crate::reading::{Kernel, kernels, plain_text, raw_text, readings, text_alone};
+use crate::scripts::{Edit, edited, generated, lines_read};
 use bintree_addr::Tri;
 use cull_marks::Planes;
 use diamond_rel::Split;
@@ -33,8 +35,15 @@ fn main(rt: HostRuntime) -> io::Result<()> {
             "mates" => mates(),
             "forced" => forced(rt.alloc()),
             "heap" => heap_calls(rt.alloc()),
+            "rough_grid" => grid_alone(rt.alloc()),
             "wedges" => wedges(rt.alloc()),
             "ranks" => ranks(rt.alloc()),
+            "set" => edited(rough_wedges(rt.alloc()), Edit::Set),
+            "set_point" => edited(rough_wedges(rt.alloc()), Edit::SetPoint),
+            "raise_row" => edited(rough_wedges(rt.alloc()), Edit::RaiseRow),
+            "raise_whole" => edited(rough_wedges(rt.alloc()), Edit::RaiseWhole),
+            "gen_grid" => generated(rt.alloc()),
+            "read_line" => lines_read(),
             "pool_new" => made(rt.alloc()),
             "pool_split" => filled(rt.alloc(), Work::Fill),
             "pool_merge" => filled(rt.alloc(), Work::FillAndEmpty),
@@ -99,9 +108,9 @@ fn forced(alloc: Global) -> (u32, u32) {
     (calls, found)
 }
 
-/// The wedges of a rough grid of this level, where there is memory. Its heights are the numbers of a linear
-/// congruential generator.
-fn rough_wedges(alloc: Global) -> Option<Wedges> {
+/// A rough grid of this level, where there is memory. Its heights are the numbers of a linear congruential
+/// generator.
+fn rough_grid(alloc: Global) -> Option<Grid> {
     let mut grid = Grid::flat(alloc, LEVEL, 65535).ok()?;
     let mut number = 1u32;
     for y in 0..2049 {
@@ -114,7 +123,20 @@ fn rough_wedges(alloc: Global) -> Option<Wedges> {
             number = number.wrapping_mul(1664525).wrapping_add(1013904223);
         }
     }
-    Wedges::build(alloc, grid).ok()
+    Some(grid)
+}
+
+/// The wedges of a rough grid, where there is memory.
+fn rough_wedges(alloc: Global) -> Option<Wedges> {
+    Wedges::build(alloc, rough_grid(alloc)?).ok()
+}
+
+/// Makes a rough grid alone, and counts no call and its points.
+fn grid_alone(alloc: Global) -> (u32, u32) {
+    match rough_grid(alloc) {
+        Some(grid) => (0, grid.points() as u32),
+        None => (0, 0),
+    }
 }
 
 /// Builds the wedges of a rough grid, and counts the call and the thickness of a base triangle.
