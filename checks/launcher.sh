@@ -14,8 +14,9 @@ for name in low middle roam_cli unused; do
 done
 
 # The toolchain: notes when a command begins and ends, with its crate; `run` makes a program that tells its folder
-# and words. A crate whose text is 'beside NAME' waits until NAME has begun, for at most ten seconds; one whose text
-# is 'slow' says which process it is, and sleeps; 'pause' sleeps half a second.
+# and words. A crate whose text is 'beside NAME' waits until NAME has begun, for at most ten seconds; 'after NAME' until it
+# is refused, and then half a second in which the launcher can see it; 'slow' says which process it is, and sleeps; 'pause'
+# sleeps half a second; 'broken' is refused.
 cat >"$fake/bin/rt" <<'RT'
 #!/usr/bin/env bash
 notes=${0%/*}/commands
@@ -23,11 +24,13 @@ echo "$1 ${PWD##*/}" >>"$notes"
 read -r first other <src/text
 [ "$first" = pause ] && sleep 0.5
 [ "$first" = slow ] && echo $$ >>"${0%/*}/slow" && exec sleep 60
-if [ "$first" = beside ]; then
-  for ((k = 0; k < 1000; k++)); do grep -qx "lib $other" "$notes" && break; sleep 0.01; done
+await() { # LINE FILE: until it stands there
+  for ((k = 0; k < 1000; k++)); do grep -qsx "$1" "$2" && break; sleep 0.01; done
   [ $k -lt 1000 ] || exit 1
-fi
-[ "$first" = broken ] && exit 1
+}
+[ "$first" = beside ] && await "lib $other" "$notes"
+[ "$first" = after ] && await "$other" "${0%/*}/refused" && sleep 0.5
+[ "$first" = broken ] && echo "${PWD##*/}" >>"${0%/*}/refused" && exit 1
 # What was proved below is there, and what is proved here is left for the crates above.
 [ "${PWD##*/}" != middle ] || [ -f ../low/out/rlib/made ] || exit 1
 if [ "$1" = run ]; then
@@ -116,6 +119,7 @@ in_order() {
 wide_run() {
   why=()
   : >"$fake/bin/commands"
+  : >"$fake/bin/refused"
   ROAM_JOBS=$2 PATH=$fake/bin:$PATH "$fake/bin/roam" mesh >"$room/report" 2>"$room/said"
   status=$?
   [ $status -eq "$3" ] || why+=("exit status $status, not $3")
@@ -136,7 +140,7 @@ if [ "$(nproc)" -ge 2 ] && [ "${two:-0}" -eq 1 ] && [ $((BASH_VERSINFO[0] * 100 
   wide_run side_by_side 2 3 ' 0 left$'
   decide launcher_proves_side_by_side ${why[0]+"${why[@]}"}
 
-  wide chain1='beside left' left=broken
+  wide chain1='after left' left=broken
   wide_run refused 2 125 'the crate left is not proved'
   grep -q 'roam: chain1 is proved' "$room/said" || why+=("standard error: $(head -c 600 "$room/said")")
   grep -q -e 'lib chain2' -e 'lib right' "$fake/bin/commands" && why+=("commands: $(tr '\n' ' ' <"$fake/bin/commands")")
