@@ -1,18 +1,16 @@
 -- What a merge does, and what its answer and its readers say.
-use Rattle.std.proofs.Common.{◌≡◌, ◌≢◌, ◌↔◌, ◌-◌, ap, sym, ◌∙◌, ◌⊎◌, Bool, true, false, nat_lt, ℕ, ◌+◌, ◌*◌, ◌/◌, ◌%◌, ◌^◌, ◌<◌, ◌≤◌, refl, arith, inl, inr, ⊎_elim, subst, List, length, get_or, set, get_or-set_other, get_or-set_same}
-use Rattle.std.proofs.lemmas.Bool.{cases_eq, cases_lt, cases_Bool, true≢false, lt-ltb}
+use Rattle.std.proofs.Common.{◌≡◌, ◌≢◌, ap, sym, ◌∙◌, ◌⊎◌, true, false, ℕ, ◌+◌, ◌*◌, ◌/◌, ◌^◌, ◌<◌, ◌≤◌, ◌++◌, refl, arith, inl, inr, ⊎_elim, subst, List, [], ◌∷◌, length, get_or, set, get_or-set_other, get_or-set_same}
+use Rattle.std.proofs.lemmas.Bool.{cases_eq, cases_lt, true≢false}
 use Rattle.std.proofs.lemmas.List.{get_or_past, get_or_default}
 use Rattle.std.proofs.Math.ListN.{length-set}
-use Rattle.mesh_defs.specs.Triangle.{level_of}
 use Rattle.edge_laws.specs.Edge.{mate_of, owner}
 use Rattle.edge_laws.specs.Net.{nowhere}
 use Rattle.edge_laws.proofs.OwnerLemmas.{owner-split}
 use Rattle.edge_laws.proofs.MateLemmas.{mate_of-low, mate_of-other}
-use Rattle.edge_laws.proofs.IsMateLemmas.{IsMate-mate_of}
-use Rattle.edge_laws.specs.Slots.{address_at, has_children, IsLive, split_set, room_of, IsPool, HasTwoLeaves, IsMergeReady, IsUnder, IsMerge, diamond_size}
-use Rattle.triangle_pool.specs.Slots.{IsFree}
+use Rattle.edge_laws.specs.Slots.{address_at, has_children, IsLive, split_set, room_of, IsPool, HasTwoLeaves, IsMerge, diamond_size}
+use Rattle.triangle_pool.specs.Slots.{FreeState}
 use Rattle.triangle_pool.specs.Links.{HasPairs, AreChildrenAt, MayMerge}
-use Rattle.edge_laws.proofs.SlotLemmas.{has_children-removed, has_children_by, pair_of, has_children-set, set-has_children, set_kept, set_false, pair_in, child_at, member_mate, member_parent, pair_one, size_one, size_two}
+use Rattle.edge_laws.proofs.SlotLemmas.{has_children-removed, has_children_by, set_kept, set_false, pair_in, child_at, member_mate, member_parent, pair_one, size_one, size_two}
 use Rattle.triangle_pool.proofs.HalveLemmas.{address-old}
 use Rattle.triangle_pool.proofs.JoinLemmas.{gone_low}
 use Rattle.triangle_pool.proofs.PoolLemmas.{free_more, room-free}
@@ -140,22 +138,20 @@ IsMerge-both n pairs after s t k j a pool h some g is =
 
 -- ---- free pairs
 
-pub pairs_back : (n most m : ℕ) (pairs free : List ℕ) (spare k a : ℕ) → HasPairs n most pairs free spare → 2 ≤ a → get_or pairs k 0 ≡ a →
-    (spare < length free) × HasPairs m most (set pairs k 0) (set free spare k) (spare + 1)
-pairs_back n most m pairs free spare k a h low pair =
-    let more = free_more pairs free spare k h.vacancies (pair_in pairs k a low pair) (omega arith) in
+pub pairs_back : (most : ℕ) (pairs : List ℕ) (free after : FreeState) (k a : ℕ) → HasPairs most pairs free → 2 ≤ a → get_or pairs k 0 ≡ a → (length free.returned < free.unused)
+    × (after.returned ≡ free.returned ++ (k ∷ []) → after.unused ≡ free.unused → after.pairs ≡ free.pairs → HasPairs most (set pairs k 0) after)
+pairs_back most pairs free after k a h low pair =
+    let more = free_more pairs free after k h.vacancies (pair_in pairs k a low pair) (omega arith) in
     let count : length (set pairs k 0) ≡ length pairs = length-set pairs k 0 in let pair_count = h.pair_count in
-    (more.0, record { most_low = h.most_low; most_high = h.most_high; pair_count = omega arith; vacancies = more.1 })
+    (more.0, (λ is same all. record { most_low = h.most_low; most_high = h.most_high; pair_count = omega arith; vacancies = more.1 is same all }))
 
-pub pairs_back_two : (n most m : ℕ) (pairs free : List ℕ) (spare s t k j a : ℕ) → HasPairs n most pairs free spare → IsPool n pairs → MayMerge pairs s k a → 1 ≤ mate_of a → MayMerge pairs t j (mate_of a) →
-    (spare + 1 < length free) × HasPairs m most (set (set pairs k 0) j 0) (set (set free spare k) (spare + 1) j) (spare + 2)
-pairs_back_two n most m pairs free spare s t k j a h pool c some g =
-    let one = pairs_back n most n pairs free spare k a h c.low c.pair in
+pub pairs_back_two : (n most : ℕ) (pairs : List ℕ) (free mid after : FreeState) (s t k j a : ℕ) → HasPairs most pairs free → IsPool n pairs → MayMerge pairs s k a → 1 ≤ mate_of a → MayMerge pairs t j (mate_of a) →
+    mid.returned ≡ free.returned ++ (k ∷ []) → mid.unused ≡ free.unused → mid.pairs ≡ free.pairs → (length mid.returned < mid.unused)
+    × (after.returned ≡ mid.returned ++ (j ∷ []) → after.unused ≡ mid.unused → after.pairs ≡ mid.pairs → HasPairs most (set (set pairs k 0) j 0) after)
+pairs_back_two n most pairs free mid after s t k j a h pool c some g is same all =
+    let one = (pairs_back most pairs free mid k a h c.low c.pair).1 is same all in
     let second = second_once n pairs s t k j a pool c some g in
-    let two = pairs_back n most m (set pairs k 0) (set free spare k) (spare + 1) j (mate_of a) one.1 g.low second.0 in
-    let count : length (set free spare k) ≡ length free = length-set free spare k in
-    let sum : spare + 1 + 1 ≡ spare + 2 = omega arith in
-    ((let z = two.0 in omega arith), subst (HasPairs m most (set (set pairs k 0) j 0) (set (set free spare k) (spare + 1) j)) sum two.1)
+    pairs_back most (set pairs k 0) mid after j (mate_of a) one g.low second.0
 
 -- ---- sizes
 

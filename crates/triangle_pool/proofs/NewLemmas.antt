@@ -1,6 +1,6 @@
 -- The pool of the two halves of the square.
-use Rattle.std.proofs.Common.{◌≡◌, ◌≢◌, ◌-◌, ap, sym, ◌∙◌, ◌⊎◌, Bool, true, false, cond, nat_eq, nat_lt, ℕ, zero, suc, ◌+◌, ◌*◌, ◌/◌, ◌%◌, ◌^◌, ◌<◌, ◌≤◌, refl, arith, inl, inr, ⊎_elim, subst, List, length, get_or, set, get_or-set_other, get_or-set_same}
-use Rattle.std.proofs.lemmas.Bool.{cases_eq, cases_lt, cases_Bool, true≢false, ltb-true, and_parts}
+use Rattle.std.proofs.Common.{◌≡◌, ◌≢◌, ◌-◌, ap, sym, ◌∙◌, true, false, cond, nat_eq, nat_lt, ℕ, ◌+◌, ◌*◌, ◌/◌, ◌%◌, ◌^◌, ◌<◌, ◌≤◌, arith, inl, inr, ⊎_elim, List, [], length, get_or, set, get_or-set_other, get_or-set_same}
+use Rattle.std.proofs.lemmas.Bool.{cases_eq, cases_lt, cases_Bool, ltb-true, and_parts}
 use Rattle.std.proofs.lemmas.List.{get_or-replicate, get_or_past, length-replicate}
 use Rattle.std.proofs.Math.ListN.{length-set, replicate}
 use Rattle.std.specs.List.{sum_by}
@@ -9,13 +9,13 @@ use Rattle.std.proofs.lemmas.List.Folds.{sum_by-replicate}
 use Rattle.std.proofs.Common.{ext_get_or}
 use Rattle.mesh_defs.specs.ClosedSet.{IsClosed, among}
 use Rattle.edge_laws.specs.Edge.{mate_of, owner}
-use Rattle.edge_laws.specs.Net.{nowhere, IsTree, IsJoined, IsLinked}
+use Rattle.edge_laws.specs.Net.{nowhere}
 use Rattle.edge_laws.proofs.MateLemmas.{mate_of-root, mate_of-first}
 use Rattle.edge_laws.proofs.OwnerLemmas.{owner_cases, owner-split}
 use Rattle.triangle_pool.specs.declared.forest.Node.{Node}
 use Rattle.edge_laws.specs.Slots.{address_at, has_children, IsLive, split_set, room_of}
-use Rattle.triangle_pool.specs.Slots.{IsFree}
-use Rattle.triangle_pool.specs.Links.{blank, node_at, edge_link, net_of, ArePairs, IsForest, IsMesh, HasPairs}
+use Rattle.triangle_pool.specs.Slots.{FreeState, IsFree}
+use Rattle.triangle_pool.specs.Links.{blank, node_at, edge_link, IsForest, IsMesh, HasPairs}
 use Rattle.edge_laws.proofs.SlotLemmas.{has_children_by, pair_of, set-has_children}
 use Rattle.triangle_pool.proofs.RelinkLemmas.{edge-base, edge-left, edge-right}
 
@@ -162,22 +162,25 @@ first_room pairs how_many count some one rest =
     let same : room_of pairs ≡ room_of (set (replicate how_many 0) 0 1) = ap room_of is in
     omega arith
 
-pub first_free : (pairs free : List ℕ) (how_many spare : ℕ) → length pairs ≡ how_many → length free ≡ how_many → 1 ≤ how_many → spare + 1 ≡ how_many → get_or pairs 0 0 ≡ 1 →
-    ((i : ℕ) → i ≢ 0 → get_or pairs i 0 ≡ 0) → ((i : ℕ) → i < length free → get_or free i 0 ≡ i + 1) → IsFree pairs free spare
-first_free pairs free how_many spare count free_count some is one rest up =
+pub first_free : (pairs : List ℕ) (free : FreeState) (how_many : ℕ) → length pairs ≡ how_many → 1 ≤ how_many → get_or pairs 0 0 ≡ 1 → ((i : ℕ) → i ≢ 0 → get_or pairs i 0 ≡ 0) →
+    free.returned ≡ [] → free.unused ≡ 1 → free.pairs ≡ how_many → IsFree pairs free
+first_free pairs free how_many count some one rest none unused all =
     let room : room_of pairs + 1 ≡ how_many = first_room pairs how_many count some one rest in
+    let empty : length free.returned ≡ 0 = ap length none in
     record {
+      all = omega arith;
+      within = omega arith;
       count = omega arith;
-      spare_is = omega arith;
-      vacant = λ i less. let z = up i (omega arith) in (omega arith, rest (get_or free i 0) (λ w. omega arith));
-      distinct = λ i j p q e. let z = up i (omega arith) in let y = up j (omega arith) in omega arith;
+      fresh = λ i high. rest i (λ e. omega arith);
+      vacant = λ i less. absurd (omega arith);
+      distinct = λ i j p q e. absurd (omega arith);
     }
 
-pub first_pairs : (n most : ℕ) (pairs free : List ℕ) → 2 ≤ most → most ≤ 1048576 → length pairs ≡ most - 1 → length free ≡ most - 1 → get_or pairs 0 0 ≡ 1 →
-    ((i : ℕ) → i ≢ 0 → get_or pairs i 0 ≡ 0) → ((i : ℕ) → i < length free → get_or free i 0 ≡ i + 1) → HasPairs n most pairs free (most - 2)
-first_pairs n most pairs free low high count free_count one rest up = record {
+pub first_pairs : (most : ℕ) (pairs : List ℕ) (free : FreeState) → 2 ≤ most → most ≤ 1048576 → length pairs ≡ most - 1 → get_or pairs 0 0 ≡ 1 → ((i : ℕ) → i ≢ 0 → get_or pairs i 0 ≡ 0) →
+    free.returned ≡ [] → free.unused ≡ 1 → free.pairs ≡ most - 1 → HasPairs most pairs free
+first_pairs most pairs free low high count one rest none unused all = record {
   most_low = low;
   most_high = high;
   pair_count = omega arith;
-  vacancies = first_free pairs free (most - 1) (most - 2) count free_count (omega arith) (omega arith) one rest up;
+  vacancies = first_free pairs free (most - 1) count (omega arith) one rest none unused all;
 }

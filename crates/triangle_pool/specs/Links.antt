@@ -4,7 +4,7 @@ use Rattle.edge_laws.specs.Edge.{mate_of, owner}
 use Rattle.edge_laws.specs.Net.{nowhere, Net, IsLinked, IsTree}
 use Rattle.triangle_pool.specs.declared.forest.Node.{Node}
 use Rattle.edge_laws.specs.Slots.{address_at, has_children, IsLive, split_set}
-use Rattle.triangle_pool.specs.Slots.{IsFree}
+use Rattle.triangle_pool.specs.Slots.{FreeState, IsFree}
 use Rattle.mesh_defs.specs.ClosedSet.{IsClosed}
 use Rattle.mesh_defs.specs.Triangle.{level_of}
 
@@ -104,11 +104,11 @@ pub record IsMesh (n : ℕ) (pairs parents : List ℕ) (nodes : List Node) : Typ
   pub closed : IsClosed n (split_set pairs)
 
 -- the pool's pairs: as many as the greatest number of leaves asks for
-pub record HasPairs (n most : ℕ) (pairs free : List ℕ) (spare : ℕ) : Type 0 where
+pub record HasPairs (most : ℕ) (pairs : List ℕ) (free : FreeState) : Type 0 where
   pub most_low : 2 ≤ most
   pub most_high : most ≤ 1048576
   pub pair_count : length pairs + 1 ≡ most
-  pub vacancies : IsFree pairs free spare
+  pub vacancies : IsFree pairs free
 
 -- What is asked of a split: a leaf a at s, below the finest level, and a free pair k.
 pub record MaySplit (n : ℕ) (pairs : List ℕ) (s k a : ℕ) : Type 0 where

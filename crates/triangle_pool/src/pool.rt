@@ -11,6 +11,7 @@ ghost use Rattle.edge_laws.specs.Slots.{address_at, has_children, IsLive, split_
 ghost use Rattle.triangle_pool.specs.Answer.{triangle_at, corners_at, IsSlotAcross, numbers, AreChildren, IsBirth, children_of};
 
 use crate::forest::NOWHERE;
+use crate::free::FreePairs;
 use crate::nodes::Nodes;
 use arrayvec::ArrayVec;
 use bintree_addr::{Slot, Tri};
@@ -30,10 +31,8 @@ pub struct Pool {
     nodes: Nodes,
     /// The greatest number of leaves.
     most: u32,
-    /// The pairs of slots that are free, in the first `spare` places.
-    free: Vec<u32>,
-    /// How many pairs are free: so many leaves may still be added.
-    spare: u32,
+    /// The pairs of slots that are free: so many leaves may still be added.
+    free: FreePairs,
     splits: u64,
     merges: u64,
 }
@@ -46,7 +45,7 @@ impl Model for Pool {
 
     ghost view = { λ p. record { n = p.nodes.n; most = p.most; pairs = p.nodes.pairs; splits = p.splits; merges = p.merges } };
 
-    ghost invariant = { λ p. HasPairs p.nodes.n p.most p.nodes.pairs p.free.items p.spare };
+    ghost invariant = { λ p. HasPairs p.most p.nodes.pairs p.free };
 }
 
 /// The children that a split made.
@@ -85,15 +84,11 @@ impl Pool {
         ensures splits { IfOk result (λ p. p.splits ≡ 0) }
         ensures merges { IfOk result (λ p. p.merges ≡ 0) }
     {
-        let how_many = leaves as usize - 1;
-        let nodes = Nodes::new(alloc, n, how_many)?;
-        let mut free = vec![in alloc; 0; how_many]?;
-        number_up(&mut free);
+        let pairs = leaves - 1;
         Ok(Pool {
-            nodes,
+            nodes: Nodes::new(alloc, n, pairs as usize)?,
             most: leaves,
-            free,
-            spare: leaves - 2,
+            free: FreePairs::new(alloc, pairs)?,
             splits: 0,
             merges: 0,
         })
@@ -140,7 +135,7 @@ impl Pool {
     pub fn room(&self) -> u32
         ensures { result ≡ room_of self.now.pairs }
     {
-        self.spare
+        self.free.room()
     }
 
     /// Splits the leaf, and with it its mate, where it has one.
@@ -165,9 +160,8 @@ impl Pool {
         ensures valid { IsPool self.new.n self.new.pairs }
     {
         let base = self.nodes.base(s.0);
-        let k = self.free[self.spare as usize - 1];
+        let k = self.free.take();
         if base == NOWHERE {
-            self.spare -= 1;
             self.splits += 1;
             self.nodes.split_alone(s.0, k);
             let _n = self.nodes.n();
@@ -176,8 +170,7 @@ impl Pool {
                 second: None,
             }
         } else {
-            let j = self.free[self.spare as usize - 2];
-            self.spare -= 2;
+            let j = self.free.take();
             self.splits += 2;
             self.nodes.split_both(s.0, base, k, j);
             let _n = self.nodes.n();
@@ -218,8 +211,7 @@ impl Pool {
         if partner == NOWHERE {
             self.nodes.merge_alone(s.0, k);
             let _n = self.nodes.n();
-            self.free[self.spare as usize] = k;
-            self.spare += 1;
+            self.free.give_back(k);
             self.merges += 1;
             Gone {
                 kept: s,
@@ -231,9 +223,8 @@ impl Pool {
             push_pair(&mut freed, j);
             self.nodes.merge_both(s.0, partner, k, j);
             let _n = self.nodes.n();
-            self.free[self.spare as usize] = k;
-            self.free[self.spare as usize + 1] = j;
-            self.spare += 2;
+            self.free.give_back(k);
+            self.free.give_back(j);
             self.merges += 2;
             Gone {
                 kept: s,
@@ -299,7 +290,7 @@ impl Pool {
         ensures valid { IsPool self.now.n self.now.pairs }
     {
         let _n = self.nodes.n();
-        self.most - self.spare
+        self.most - self.free.room()
     }
 
     /// The slot of the leaf across the base.
@@ -373,16 +364,6 @@ fn push_pair(freed: &mut ArrayVec<Slot, 4>, k: u32)
 {
     freed.push(Slot(2 * k));
     freed.push(Slot(2 * k + 1));
-}
-
-/// Fills with 1, 2, 3 and so on.
-fn number_up(free: &mut [u32])
-    requires { length free.old < 2 ^ 20 }
-    ensures { (i : ℕ) → i < length free.new → slice_index free.new i ≡ i + 1 }
-{
-    for i in 0..free.len() {
-        free[i] = i as u32 + 1;
-    }
 }
 
 /// The two slots of a pair.

@@ -1,7 +1,7 @@
-use Rattle.std.proofs.Common.{◌≡◌, ◌≢◌, ◌∙◌, ap, sym, subst, ℕ, ◌+◌, ◌*◌, ◌<◌, ◌≤◌, arith, List, length, set, Bool, true, false, refl}
+use Rattle.std.proofs.Common.{◌≡◌, ◌≢◌, ap, sym, subst, ℕ, ◌+◌, ◌≤◌, arith, List}
 use Rattle.edge_laws.specs.Edge.{mate_of}
 use Rattle.edge_laws.specs.Net.{nowhere}
-use Rattle.edge_laws.specs.Slots.{address_at, has_children, IsLive, IsPool, HasTwoLeaves, IsMergeReady, IsMerge, room_of, diamond_size}
+use Rattle.edge_laws.specs.Slots.{address_at, IsLive, IsMergeReady, IsMerge, room_of, diamond_size}
 use Rattle.triangle_pool.specs.Links.{HasPairs, AreChildrenAt, MayMerge}
 use Rattle.edge_laws.proofs.SlotLemmas.{pair_in}
 use Rattle.triangle_pool.proofs.MergeLemmas.{partner_live, may_merge_of, may_merge_mate, IsMerge-alone, IsMerge-both, pairs_back, pairs_back_two, back_one, back_two}
@@ -27,18 +27,17 @@ both pairs seen s t k j e live ready children none some given =
 may_merge_one : (pairs seen : List ℕ) (s k : ℕ) → pairs ≡ seen → IsLive seen s → IsMergeReady seen (address_at seen s) → AreChildrenAt pairs (address_at pairs s) k → MayMerge pairs s k (address_at pairs s)
 may_merge_one pairs seen s k e live ready children = may_merge_of pairs s k (live_inside pairs seen s e live) children (ready_inside pairs seen s e ready).own
 
-pub index_mut-requires : goal.index_mut-requires
-index_mut-requires c =
+pub give_back-requires : goal.give_back-requires
+give_back-requires c =
     let one = may_merge_one c.self.inside.nodes.pairs c.args.self.now.pairs c.args.s.0 c.children-k.result (ap (λ p. p.pairs) c.self.view_is) c.requires.live c.requires.ready c.children-k.ensures in
-    let space = (pairs_back c.self.inside.nodes.n c.self.inside.most c.self.inside.nodes.n c.self.inside.nodes.pairs c.self.inside.free.items c.self.inside.spare c.children-k.result (address_at c.self.inside.nodes.pairs c.args.s.0) c.self.invariant one.low one.pair).0 in
-    let len = c.self.inside.free.ok.0 in omega arith
+    (pairs_back c.self.inside.most c.self.inside.nodes.pairs c.self.inside.free c.self.inside.free c.children-k.result (address_at c.self.inside.nodes.pairs c.args.s.0) c.self.invariant one.low one.pair).0
 
 pub invariant_of-self : goal.invariant_of-self
 invariant_of-self c =
     let one = may_merge_one c.self.inside.nodes.pairs c.args.self.now.pairs c.args.s.0 c.children-k.result (ap (λ p. p.pairs) c.self.view_is) c.requires.live c.requires.ready c.children-k.ensures in
-    let P : List ℕ → Type 0 = λ t. HasPairs c.merge_alone.new.self.n c.self.inside.most t (set c.self.inside.free.items c.self.inside.spare c.children-k.result) (c.self.inside.spare + 1) in
-    subst P (sym c.merge_alone.ensures.pairs)
-    (pairs_back c.self.inside.nodes.n c.self.inside.most c.merge_alone.new.self.n c.self.inside.nodes.pairs c.self.inside.free.items c.self.inside.spare c.children-k.result (address_at c.self.inside.nodes.pairs c.args.s.0) c.self.invariant one.low one.pair).1
+    subst (λ t. HasPairs c.self.inside.most t c.give_back.new.self) (sym c.merge_alone.ensures.pairs)
+    ((pairs_back c.self.inside.most c.self.inside.nodes.pairs c.self.inside.free c.give_back.new.self c.children-k.result (address_at c.self.inside.nodes.pairs c.args.s.0) c.self.invariant one.low one.pair).1
+    c.give_back.ensures.returned c.give_back.ensures.unused c.give_back.ensures.pairs)
 
 pub children-j-requires : goal.children-j-requires
 children-j-requires c =
@@ -60,28 +59,28 @@ merge_both-requires-clause-second c =
     (both c.self.inside.nodes.pairs c.args.self.now.pairs c.args.s.0 c.partner-partner.result c.children-k.result c.children-j.result (ap (λ p. p.pairs) c.self.view_is) c.requires.live c.requires.ready c.children-k.ensures
     c.partner-partner.ensures.none.1 c.partner-partner.ensures.some c.if-partner.false).3 c.children-j.ensures
 
-pub index_mut-requires-else-partner : goal.index_mut-requires-else-partner
-index_mut-requires-else-partner c =
+pub give_back-requires-else-partner : goal.give_back-requires-else-partner
+give_back-requires-else-partner c =
     let one = may_merge_one c.self.inside.nodes.pairs c.args.self.now.pairs c.args.s.0 c.children-k.result (ap (λ p. p.pairs) c.self.view_is) c.requires.live c.requires.ready c.children-k.ensures in
-    let space = (pairs_back c.self.inside.nodes.n c.self.inside.most c.self.inside.nodes.n c.self.inside.nodes.pairs c.self.inside.free.items c.self.inside.spare c.children-k.result (address_at c.self.inside.nodes.pairs c.args.s.0) c.self.invariant one.low one.pair).0 in
-    let len = c.self.inside.free.ok.0 in omega arith
+    (pairs_back c.self.inside.most c.self.inside.nodes.pairs c.self.inside.free c.self.inside.free c.children-k.result (address_at c.self.inside.nodes.pairs c.args.s.0) c.self.invariant one.low one.pair).0
 
-pub index_mut-requires-else-partner-2 : goal.index_mut-requires-else-partner-2
-index_mut-requires-else-partner-2 c =
+pub give_back-requires-else-partner-2 : goal.give_back-requires-else-partner-2
+give_back-requires-else-partner-2 c =
     let all = both c.self.inside.nodes.pairs c.args.self.now.pairs c.args.s.0 c.partner-partner.result c.children-k.result c.children-j.result (ap (λ p. p.pairs) c.self.view_is) c.requires.live c.requires.ready c.children-k.ensures
     c.partner-partner.ensures.none.1 c.partner-partner.ensures.some c.if-partner.false in
-    let space = (pairs_back_two c.self.inside.nodes.n c.self.inside.most c.self.inside.nodes.n c.self.inside.nodes.pairs c.self.inside.free.items c.self.inside.spare c.args.s.0 c.partner-partner.result c.children-k.result c.children-j.result
-    (address_at c.self.inside.nodes.pairs c.args.s.0) c.self.invariant c.n-n.ensures.valid all.2 all.1 (all.3 c.children-j.ensures)).0 in
-    let len = c.self.inside.free.ok.0 in omega arith
+    (pairs_back_two c.self.inside.nodes.n c.self.inside.most c.self.inside.nodes.pairs c.self.inside.free c.give_back-else-partner.new.self c.give_back-else-partner.new.self c.args.s.0 c.partner-partner.result c.children-k.result c.children-j.result
+    (address_at c.self.inside.nodes.pairs c.args.s.0) c.self.invariant c.n-n.ensures.valid all.2 all.1 (all.3 c.children-j.ensures)
+    c.give_back-else-partner.ensures.returned c.give_back-else-partner.ensures.unused c.give_back-else-partner.ensures.pairs).0
 
 pub invariant_of-self-else-partner : goal.invariant_of-self-else-partner
 invariant_of-self-else-partner c =
     let all = both c.self.inside.nodes.pairs c.args.self.now.pairs c.args.s.0 c.partner-partner.result c.children-k.result c.children-j.result (ap (λ p. p.pairs) c.self.view_is) c.requires.live c.requires.ready c.children-k.ensures
     c.partner-partner.ensures.none.1 c.partner-partner.ensures.some c.if-partner.false in
-    let P : List ℕ → Type 0 = λ t. HasPairs c.merge_both.new.self.n c.self.inside.most t (set (set c.self.inside.free.items c.self.inside.spare c.children-k.result) (c.self.inside.spare + 1) c.children-j.result) (c.self.inside.spare + 2) in
-    subst P (sym c.merge_both.ensures.pairs)
-    (pairs_back_two c.self.inside.nodes.n c.self.inside.most c.merge_both.new.self.n c.self.inside.nodes.pairs c.self.inside.free.items c.self.inside.spare c.args.s.0 c.partner-partner.result c.children-k.result c.children-j.result
-    (address_at c.self.inside.nodes.pairs c.args.s.0) c.self.invariant c.n-n.ensures.valid all.2 all.1 (all.3 c.children-j.ensures)).1
+    subst (λ t. HasPairs c.self.inside.most t c.give_back-else-partner-2.new.self) (sym c.merge_both.ensures.pairs)
+    ((pairs_back_two c.self.inside.nodes.n c.self.inside.most c.self.inside.nodes.pairs c.self.inside.free c.give_back-else-partner.new.self c.give_back-else-partner-2.new.self c.args.s.0 c.partner-partner.result c.children-k.result c.children-j.result
+    (address_at c.self.inside.nodes.pairs c.args.s.0) c.self.invariant c.n-n.ensures.valid all.2 all.1 (all.3 c.children-j.ensures)
+    c.give_back-else-partner.ensures.returned c.give_back-else-partner.ensures.unused c.give_back-else-partner.ensures.pairs).1
+    c.give_back-else-partner-2.ensures.returned c.give_back-else-partner-2.ensures.unused c.give_back-else-partner-2.ensures.pairs)
 
 pub returns-then-partner-clause-merge : goal.returns-then-partner-clause-merge
 returns-then-partner-clause-merge c =
