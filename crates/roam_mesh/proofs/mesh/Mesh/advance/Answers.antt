@@ -1,0 +1,32 @@
+use Rattle.std.proofs.Common.{◌+◌, sym, subst}
+use Rattle.frame_steps.specs.Stamps.{StampsHold}
+use Rattle.deferred_loop.specs.Promise.{IsAtMost, IsAtLeast, AreStampsGood}
+use Rattle.roam_mesh.specs.Mesh.{MeshState, stamp_of, seen_of}
+use Rattle.roam_mesh.specs.Parts.{mesh_of}
+use Rattle.roam_mesh.proofs.RoleLemmas.{members_closed}
+use Rattle.roam_mesh.proofs.MeshLemmas.{stamps_hold, at_most, at_least, stamps_good}
+use Rattle.roam_mesh.proofs.mesh.Mesh.advance.Goals as goal
+
+pub advance-steps-requires-clause-stamps : goal.advance-steps-requires-clause-stamps
+advance-steps-requires-clause-stamps g c = stamps_hold (g.G.Gauge.told c.args.gauge.now).of c.args.odometer c.self.inside.queued
+    (subst (λ (z : MeshState). StampsHold (g.G.Gauge.told c.args.gauge.now).of c.args.odometer (stamp_of z)) (sym c.self.view_is) c.requires.stamps)
+
+pub advance-steps-requires-clause-valid : goal.advance-steps-requires-clause-valid
+advance-steps-requires-clause-valid g c = members_closed c.self.inside.queued.pool c.pool-before.ensures.valid
+
+pub returns-clause-most : goal.returns-clause-most
+returns-clause-most g c =
+    subst (λ (z : MeshState). IsAtMost (g.G.Gauge.told c.args.gauge.now) (g.G.Gauge.readings c.args.gauge.now) c.args.odometer (seen_of z) c.args.budget
+    (c.advance-steps.result.splits + c.advance-steps.result.merges) (g.G.Gauge.count c.args.gauge.now) (g.G.Gauge.count c.advance-steps.new.gauge)) c.self.view_is
+    (at_most (g.G.Gauge.told c.args.gauge.now) (g.G.Gauge.readings c.args.gauge.now) c.args.odometer c.self.inside.queued c.args.budget
+    (c.advance-steps.result.splits + c.advance-steps.result.merges) (g.G.Gauge.count c.args.gauge.now) (g.G.Gauge.count c.advance-steps.new.gauge) c.advance-steps.ensures.most)
+
+pub returns-clause-least : goal.returns-clause-least
+returns-clause-least g c =
+    subst (λ (z : MeshState). IsAtLeast (seen_of z) (seen_of (mesh_of c.advance-steps.new.mesh)) (g.G.Gauge.count c.args.gauge.now) (g.G.Gauge.count c.advance-steps.new.gauge)) c.self.view_is
+    (at_least c.self.inside.queued c.advance-steps.new.mesh (g.G.Gauge.count c.args.gauge.now) (g.G.Gauge.count c.advance-steps.new.gauge) c.advance-steps.ensures.least)
+
+pub returns-clause-stamps : goal.returns-clause-stamps
+returns-clause-stamps g c =
+    subst (λ (z : MeshState). AreStampsGood (g.G.Gauge.readings c.args.gauge.now) c.args.odometer (seen_of z) (seen_of (mesh_of c.advance-steps.new.mesh))) c.self.view_is
+    (stamps_good (g.G.Gauge.readings c.args.gauge.now) c.args.odometer c.self.inside.queued c.advance-steps.new.mesh c.advance-steps.ensures.stamps)

@@ -1,0 +1,115 @@
+//! The mesh.
+
+ghost use Rattle.std.specs.Prelude.{◌≡◌, ℕ, ◌+◌, ◌-◌, ◌*◌, ◌^◌, ◌<◌, ◌≤◌, false, None, cond, nat_eq, option_map, slice_index, IfOk};
+ghost use Rattle.mesh_defs.specs.ClosedSet.{among};
+ghost use Rattle.mesh_defs.specs.Falling.{IsFalling};
+ghost use Rattle.edge_laws.specs.Slots.{split_set, IsPool};
+ghost use Rattle.closure_laws.specs.Frame.{IsFrame};
+ghost use Rattle.frame_steps.specs.Steps.{IsFrameRun};
+ghost use Rattle.frame_steps.specs.Stamps.{StampsHold, ReadingsHold};
+ghost use Rattle.deferred_loop.specs.Seen.{HasRoom, IsCountedBy};
+ghost use Rattle.deferred_loop.specs.Choice.{IsSparing};
+ghost use Rattle.deferred_loop.specs.Promise.{IsAtMost, IsAtLeast, AreStampsGood};
+ghost use Rattle.roam_mesh.specs.Mesh.{stamp_of, members_of, pool_set, seen_of, with_expired, OnlyEntriesStamped};
+
+use crate::queued::QueuedParts;
+use bintree_addr::Tri;
+use deferred_loop::{Gauge, Steps, advance};
+use roam_edge::NoMemory;
+use std::alloc::Global;
+use std::marker::Model;
+use triangle_pool::Pool;
+
+/// A mesh from frame to frame: seen as its pool, and a finite map from its triangles to stamps.
+#[derive(Drop)]
+pub struct Mesh {
+    queued: QueuedParts,
+}
+
+impl Model for Mesh {
+    ghost use Rattle.deferred_loop.specs.Seen.{IsQuiet};
+    ghost use Rattle.roam_mesh.specs.Mesh.{MeshState};
+    ghost use Rattle.roam_mesh.specs.Parts.{mesh_of, seen_parts};
+
+    ghost Value = { MeshState };
+
+    ghost view = { λ m. mesh_of m.queued };
+
+    ghost invariant = { λ m. IsQuiet (seen_parts m.queued) };
+}
+
+impl Mesh {
+    /// The two halves of the square, with room for as many leaves as asked; no triangle has a stamp.
+    pub fn make(alloc: Global, n: u32, leaves: u32) -> Result<Mesh, NoMemory>
+        requires n { (1 ≤ n) × (n ≤ 11) }
+        requires some { 2 ≤ leaves }
+        requires few { leaves ≤ 1048576 }
+        ensures n { IfOk result (λ m. m.pool.n ≡ n) }
+        ensures most { IfOk result (λ m. m.pool.most ≡ leaves) }
+        ensures base { IfOk result (λ m. (a : ℕ) → split_set m.pool.pairs a ≡ false) }
+        ensures splits { IfOk result (λ m. m.pool.splits ≡ 0) }
+        ensures merges { IfOk result (λ m. m.pool.merges ≡ 0) }
+        ensures stamps { IfOk result (λ m. (a : ℕ) → stamp_of m a ≡ None) }
+    {
+        Ok(Mesh {
+            queued: QueuedParts::make(alloc, n, leaves)?,
+        })
+    }
+
+    /// The pool of its triangles. The two halves of the square stand at the slots 0 and 1.
+    pub fn pool(&self) -> &Pool
+        ensures pool { result.now ≡ self.now.pool }
+        ensures valid { IsPool self.now.pool.n self.now.pool.pairs }
+        ensures root { slice_index self.now.pool.pairs 0 ≡ 1 }
+        ensures only { OnlyEntriesStamped self.now }
+    {
+        self.queued.pool()
+    }
+
+    /// The stamp of the triangle, if there is one, is expired from now on.
+    pub fn expire(&mut self, t: Tri)
+        ensures pool { self.new.pool ≡ self.old.pool }
+        ensures stamps { (a : ℕ) → stamp_of self.new a
+            ≡ cond (nat_eq t a) (option_map with_expired (stamp_of self.old a)) (stamp_of self.old a) }
+    {
+        self.queued.expire(t);
+    }
+
+    /// Makes the mesh of one frame from that of the frame before.
+    ///
+    /// `run` and `frame`: the set is the rank closure of the budget, reached by the steps of the frame. `sparing`: it changes no
+    /// more than it must. `most` and `least`: how often the gauge was asked. `stamps`: each entry has a stamp that is not due; `only`:
+    /// nothing else has one.
+    pub fn advance<G: Gauge>(&mut self, gauge: &mut G, budget: u32, odometer: u64) -> Steps
+        requires grid { (G.told gauge.old).n ≡ self.old.pool.n }
+        requires budget { 2 ≤ budget }
+        requires far { odometer ≤ 2 ^ 62 }
+        requires counted { G.count gauge.old < 2 ^ 61 }
+        requires room { HasRoom self.old.pool.n self.old.pool.most budget }
+        requires counters { (self.old.pool.splits < 2 ^ 61) × (self.old.pool.merges < 2 ^ 61) }
+        requires falls { IsFalling (G.told gauge.old).n (G.told gauge.old).of }
+        requires readings { ReadingsHold (G.told gauge.old).of odometer (G.readings gauge.old) }
+        requires stamps { StampsHold (G.told gauge.old).of odometer (stamp_of self.old) }
+        ensures told { G.told gauge.new ≡ G.told gauge.old }
+        ensures readings { G.readings gauge.new ≡ G.readings gauge.old }
+        ensures n { self.new.pool.n ≡ self.old.pool.n }
+        ensures counters { IsCountedBy (pool_set self.old.pool) (pool_set self.new.pool) result.splits result.merges }
+        ensures run { IsFrameRun self.old.pool.n budget (G.told gauge.old).of
+            (members_of self.old.pool) (members_of self.new.pool) result.splits result.merges }
+        ensures frame { IsFrame self.old.pool.n budget (G.told gauge.old).of
+            (among (members_of self.new.pool)) result.worst result.blocked }
+        ensures sparing { IsSparing self.old.pool.n budget (G.told gauge.old).of
+            (members_of self.old.pool) (members_of self.new.pool) result.splits result.merges }
+        ensures most { IsAtMost (G.told gauge.old) (G.readings gauge.old) odometer (seen_of self.old) budget
+            (result.splits + result.merges) (G.count gauge.old) (G.count gauge.new) }
+        ensures least { IsAtLeast (seen_of self.old) (seen_of self.new) (G.count gauge.old) (G.count gauge.new) }
+        ensures counted { G.count gauge.new < 2 ^ 64 - 1 }
+        ensures stamps { AreStampsGood (G.readings gauge.old) odometer (seen_of self.old) (seen_of self.new) }
+        ensures only { OnlyEntriesStamped self.new }
+    {
+        let _before = self.queued.pool();
+        let steps = advance(&mut self.queued, gauge, budget, odometer);
+        let _after = self.queued.pool();
+        steps
+    }
+}

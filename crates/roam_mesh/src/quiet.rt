@@ -1,0 +1,57 @@
+//! The parts between two frames, when nothing is known and nothing fresh.
+
+ghost use Rattle.std.specs.Prelude.{◌≡◌, ℕ, ◌≤◌, false, None, cond, nat_eq, option_map, slice_index, IfOk};
+ghost use Rattle.edge_laws.specs.Slots.{split_set, IsPool};
+ghost use Rattle.deferred_loop.specs.Seen.{IsQuiet};
+ghost use Rattle.roam_mesh.specs.Mesh.{stamp_of, with_expired, OnlyEntriesStamped};
+ghost use Rattle.roam_mesh.specs.Parts.{mesh_of, seen_parts};
+
+use crate::find::find;
+use crate::parts::Parts;
+use crate::queued::QueuedParts;
+use bintree_addr::Tri;
+use roam_edge::NoMemory;
+use std::alloc::Global;
+use triangle_pool::Pool;
+
+impl QueuedParts {
+    /// The two halves of the square, with room for as many leaves as asked; no triangle has a stamp.
+    pub fn make(alloc: Global, n: u32, leaves: u32) -> Result<QueuedParts, NoMemory>
+        requires n { (1 ≤ n) × (n ≤ 11) }
+        requires some { 2 ≤ leaves }
+        requires few { leaves ≤ 1048576 }
+        ensures n { IfOk result (λ m. m.pool.n ≡ n) }
+        ensures most { IfOk result (λ m. m.pool.most ≡ leaves) }
+        ensures base { IfOk result (λ m. (a : ℕ) → split_set m.pool.pairs a ≡ false) }
+        ensures splits { IfOk result (λ m. m.pool.splits ≡ 0) }
+        ensures merges { IfOk result (λ m. m.pool.merges ≡ 0) }
+        ensures stamps { IfOk result (λ m. (a : ℕ) → stamp_of (mesh_of m) a ≡ None) }
+        ensures quiet { IfOk result (λ m. IsQuiet (seen_parts m)) }
+    {
+        Ok(QueuedParts {
+            parts: Parts::new(alloc, n, leaves)?,
+        })
+    }
+
+    /// The pool of its triangles.
+    pub fn pool(&self) -> &Pool
+        ensures pool { result.now ≡ self.now.pool }
+        ensures valid { IsPool self.now.pool.n self.now.pool.pairs }
+        ensures root { slice_index self.now.pool.pairs 0 ≡ 1 }
+        ensures only { OnlyEntriesStamped (mesh_of self.now) }
+    {
+        &self.parts.pool
+    }
+
+    /// The stamp of the triangle, if there is one, is expired from now on.
+    pub fn expire(&mut self, t: Tri)
+        ensures pool { self.new.pool ≡ self.old.pool }
+        ensures stamps { (a : ℕ) → stamp_of (mesh_of self.new) a
+            ≡ cond (nat_eq t a) (option_map with_expired (stamp_of (mesh_of self.old) a)) (stamp_of (mesh_of self.old) a) }
+        ensures quiet { IsQuiet (seen_parts self.old) → IsQuiet (seen_parts self.new) }
+    {
+        if let Some(s) = find(&self.parts.pool, t) {
+            self.parts.expire(s);
+        }
+    }
+}
