@@ -202,6 +202,13 @@ if [ -x "$single" ]; then
   script_row raise_whole "$building" "$plain_building" '`raise` of that whole grid' "at most \`build\` alone, $(each "$building" "$(seconds_of rough_grid)" 1)"
   script_row gen_grid 0 0 '`gen_grid`, n = 11' 'under 1 s'
   script_row read_line 0 0 '`read_line` of lines of all kinds' ''
+  # Frames of the two queues over made heights: only the frame is timed.
+  for level in 9 11; do
+    for kind in first still moved; do
+      read -r _ _ calls _ found _ seconds <<<"$(fastest "frame_${kind}_$level")"
+      echo "| a $kind frame of the queues over made heights, n = $level, budget 20,000 | $calls evaluations, $found triangles split or merged | $(awk -v s="$seconds" 'BEGIN { printf "%.2f", 1000 * s }') ms | | |"
+    done
+  done
   # The pool of linked triangles: made; filled level by level, then emptied or planned over; refined by force.
   plain_pool=
   if command -v rustc >"$room/said" && rustc -O --edition 2021 "$top/bench/pool.rs" -o "$room/pool" 2>"$room/said"; then

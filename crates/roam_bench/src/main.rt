@@ -6,11 +6,14 @@
 
 #![tactic(auto)]
 
+mod frames;
+mod gauge;
 mod heaps;
 mod pools;
 mod reading;
 mod scripts;
 
+use crate::frames::{case_of, frame};
 use crate::heaps::heap_calls;
 use crate::pools::{Work, filled, made, refined};
 use crate::reading::{Kernel, kernels, plain_text, raw_text, readings, text_alone};
@@ -30,6 +33,15 @@ const LEVEL: u32 = 11;
 
 fn main(rt: HostRuntime) -> io::Result<()> {
     for word in env::args(&rt)? {
+        if let Some(case) = case_of(word.as_str()) {
+            if let Some(it) = frame(&rt, case)? {
+                println!(rt;
+                    "{word} calls {} found {} seconds {:.6}",
+                    it.evaluations, it.changes, it.seconds
+                )?;
+            }
+            continue;
+        }
         let start = Instant::now(&rt)?;
         let (calls, found) = match word.as_str() {
             "mates" => mates(),
