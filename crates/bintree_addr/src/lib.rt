@@ -22,5 +22,6 @@ pub use cuboid::Cuboid;
 pub use laws::{rank_laws, rank_order_laws};
 pub use mesh_defs::{Corners, Point};
 pub use rank::Rank;
+pub use shape::{child_corners, point_between};
 pub use slot::Slot;
 pub use tri::Tri;

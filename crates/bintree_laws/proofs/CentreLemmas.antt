@@ -12,7 +12,7 @@ use Rattle.bintree_laws.proofs.LatticeLemmas.{lattice, halved-half, step_of, ste
 use Rattle.bintree_laws.proofs.UnitLemmas.{frame, IsHalf, IsSomeHalf, IsHalf-frame, SameSum}
 use Rattle.bintree_laws.proofs.MateLemmas.{cancel, coordinates, parity, lattice-frame, AllTurned, AllTurned-frame, spread, same_sum_cases, IsMate-pair, pair-IsMate, IsReversed-mate, border_or_has_pair, no_pair-HasBorderBase}
 use Rattle.bintree_laws.proofs.PairLemmas.{pair_unique}
-use Rattle.bintree_laws.proofs.LevelLemmas.{level_of-below, level-le}
+use Rattle.bintree_laws.proofs.LevelLemmas.{level-le}
 
 -- ---- the midpoint as a power of 2 times a point with an odd coordinate
 

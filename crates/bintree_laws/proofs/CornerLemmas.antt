@@ -7,6 +7,18 @@ use Rattle.mesh_defs.specs.Triangle.{level_of, base_triangle, child, corners_at,
 use Rattle.bintree_laws.specs.Corners.{IsWithin}
 use Rattle.bintree_laws.proofs.LevelLemmas.{level_of-left, level_of-right}
 
+-- ---- the halves of the square
+
+-- the corners of the lower half
+pub corners_of-2 : (n : ℕ) → corners_of n 2 ≡ base_triangle (2 ^ n) 0
+unfolding corners_of level_of
+corners_of-2 n = refl
+
+-- the corners of the upper half
+pub corners_of-3 : (n : ℕ) → corners_of n 3 ≡ base_triangle (2 ^ n) 1
+unfolding corners_of level_of
+corners_of-3 n = refl
+
 -- ---- children
 
 -- a left child, one level down

@@ -1,5 +1,5 @@
 -- Levels of addresses: a level is a range between two powers of 2.
-use Rattle.std.proofs.Common.{◌≡◌, ℕ, zero, suc, ◌+◌, ◌*◌, ◌/◌, ◌^◌, ◌-◌, ◌<◌, ◌≤◌, ◌↔◌, Bool, true, false, nat_lt, refl, arith, ⊎_elim, add-one}
+use Rattle.std.proofs.Common.{◌≡◌, ℕ, zero, suc, ◌+◌, ◌*◌, ◌/◌, ◌%◌, ◌^◌, ◌-◌, ◌<◌, ◌≤◌, ◌⊎◌, inl, inr, ◌↔◌, Bool, true, false, nat_lt, refl, arith, ⊎_elim, add-one}
 use Rattle.std.proofs.Math.Nat.{pow-succ'}
 use Rattle.std.proofs.Math.Pow.{pow_mono}
 use Rattle.std.proofs.lemmas.Bool.{cases_lt, ltb-true, ltb-false, cases_order}
@@ -83,6 +83,26 @@ pub level_of-parent : (a : ℕ) → 4 ≤ a → level_of a ≡ level_of (a / 2) 
 level_of-parent a low =
     rw (add-one (level_of (a / 2))) (level_of-at (suc (level_of (a / 2))) a
     (IsAtLevel-half (level_of (a / 2)) a (IsAtLevel-level_of (a / 2) (omega arith))))
+
+-- a number is its half's left or right child
+pub left-or-right : (a : ℕ) → (a ≡ 2 * (a / 2)) ⊎ (a ≡ 2 * (a / 2) + 1)
+left-or-right a = ⊎_elim (λ even. inl (omega arith)) (λ odd. inr (omega arith)) (cases_lt (a % 2) 1)
+
+-- 2 and 3 are at level 0
+pub level_of-root : (a : ℕ) → 2 ≤ a → a < 4 → level_of a ≡ 0
+level_of-root a low high = level_of-at 0 a (record { low = low; high = high })
+
+-- their children are at level 1
+pub level_of-first : (a : ℕ) → 4 ≤ a → a < 8 → level_of a ≡ 1
+level_of-first a low high = level_of-at 1 a (record { low = low; high = high })
+
+-- the others are two levels deeper than their grandparents
+pub level_of-deep : (a : ℕ) → 8 ≤ a → level_of a ≡ suc (suc (level_of (a / 4)))
+level_of-deep a low =
+    let half : a / 2 / 2 ≡ a / 4 = omega arith in
+    let parent : level_of a ≡ level_of (a / 2) + 1 = level_of-parent a (omega arith) in
+    let above : level_of (a / 2) ≡ level_of (a / 4) + 1 = rw half at (level_of-parent (a / 2) (omega arith)) in
+    omega arith
 
 -- ---- bounds
 

@@ -5,7 +5,7 @@ use Rattle.std.proofs.Math.Pow.{pow_mono}
 use Rattle.mesh_defs.specs.declared.point.Corners.{Corners}
 use Rattle.mesh_defs.specs.Triangle.{level_of, base_triangle}
 use Rattle.bintree_laws.specs.Pair.{IsInner, IsOuter, IsPair}
-use Rattle.bintree_laws.proofs.LevelLemmas.{IsAtLevel, IsAtLevel-half, IsAtLevel-level_of, level_of-at, level_of-parent, level_of-below, pow_next, pow_after}
+use Rattle.bintree_laws.proofs.LevelLemmas.{IsAtLevel, IsAtLevel-half, IsAtLevel-level_of, level_of-below, level_of-root, level_of-first, level_of-deep, pow_next, pow_after}
 use Rattle.bintree_laws.proofs.LatticeLemmas.{grandchild}
 use Rattle.bintree_laws.proofs.UnitLemmas.{quarter, frame, IsHalf, IsSomeHalf, IsHalf-frame, SameSum, AreHalves, pivot, SamePivot, SamePivot-above}
 
@@ -244,19 +244,6 @@ same_base (suc (suc level)) a b p q same =
     (same_base level (a / 4) (b / 4) (IsAtLevel-quarter level a p) (IsAtLevel-quarter level b q) pivots.above)
 
 -- ---- the address across the base, as the code finds it
-
-level_of-deep : (a : ℕ) → 8 ≤ a → level_of a ≡ suc (suc (level_of (a / 4)))
-level_of-deep a low =
-    let half : a / 2 / 2 ≡ a / 4 = omega arith in
-    let parent : level_of a ≡ level_of (a / 2) + 1 = level_of-parent a (omega arith) in
-    let above : level_of (a / 2) ≡ level_of (a / 4) + 1 = rw half at (level_of-parent (a / 2) (omega arith)) in
-    omega arith
-
-level_of-root : (a : ℕ) → 2 ≤ a → a < 4 → level_of a ≡ 0
-level_of-root a low high = level_of-at 0 a (record { low = low; high = high })
-
-level_of-first : (a : ℕ) → 4 ≤ a → a < 8 → level_of a ≡ 1
-level_of-first a low high = level_of-at 1 a (record { low = low; high = high })
 
 -- 2 and 3 are a pair
 pub IsPair-root : (a : ℕ) → 2 ≤ a → a < 4 → IsPair (level_of a) a (5 - a)

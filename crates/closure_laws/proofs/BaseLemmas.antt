@@ -6,7 +6,7 @@ use Rattle.std.specs.List.{list_any}
 use Rattle.mesh_defs.specs.Triangle.{level_of, corners_of, IsAddress, IsMate}
 use Rattle.mesh_defs.specs.ClosedSet.{IsClosed, IsLeastClosed, leaves_under, leaves_of, among}
 use Rattle.mesh_defs.specs.Priority.{worst_of}
-use Rattle.mesh_defs.specs.Ranking.{IsFrontClosure, IsRankClosure}
+use Rattle.mesh_defs.specs.Ranking.{IsPrefixClosure, IsRankClosure}
 use Rattle.mesh_defs.specs.Tiling.{IsConforming}
 use Rattle.mesh_defs.specs.Greedy.{with_triangle, IsGreedyEnd}
 use Rattle.mesh_defs.specs.BestMesh.{IsBestMesh}
@@ -14,7 +14,7 @@ use Rattle.mesh_defs.proofs.ListLemmas.{IsIn, count-some, some-count, length-cou
 use Rattle.tiling_laws.specs.Ancestors.{ancestors_of}
 use Rattle.tiling_laws.proofs.ConformityLemmas.{IsConforming-leaves_of}
 use Rattle.tiling_laws.proofs.ConverseLemmas.{IsClosed-ancestors_of, AreLeaves-ancestors_of}
-use Rattle.closure_laws.proofs.ClosureLemmas.{nothing_closed, nothing_least, leaves_of-same}
+use Rattle.closure_laws.proofs.ClosureLemmas.{nothing_closed, nothing_least, leaves_under-some, leaves_of-same}
 use Rattle.closure_laws.proofs.RankingLemmas.{ranking_of, IsRanking-of}
 
 -- the two base triangles are mates
@@ -62,19 +62,6 @@ holds_both n has closed a is = ⊎_elim
 
 -- how many leaves there are
 
--- one leaf at least, whether a triangle is split or not
-length-split : (b : Bool) (left right : List ℕ) (a : ℕ) → 1 ≤ length left →
-    1 ≤ length (elim b as (λ _. List ℕ) [ true ↦ left ++ right | false ↦ a ∷ [] ])
-length-split true left right a h = omega (arith, length-append left right)
-length-split false left right a h = omega arith
-
--- below each triangle there is a leaf
-leaves-some : (levels : ℕ) (has : ℕ → Bool) (a : ℕ) → 1 ≤ length (leaves_under levels has a)
-leaves-some zero has a = omega arith
-leaves-some (suc levels) has a =
-    length-split (has a) (leaves_under levels has (2 * a)) (leaves_under levels has (2 * a + 1)) a
-    (leaves-some levels has (2 * a))
-
 -- two leaves at least where it is split
 length-split-two : (b : Bool) (left right : List ℕ) (a : ℕ) → b ≡ true → 1 ≤ length left → 1 ≤ length right →
     2 ≤ length (elim b as (λ _. List ℕ) [ true ↦ left ++ right | false ↦ a ∷ [] ])
@@ -87,7 +74,7 @@ leaves-two : (levels : ℕ) (has : ℕ → Bool) (a : ℕ) → 0 < levels → Is
 leaves-two zero has a h is = absurd (omega arith)
 leaves-two (suc levels) has a h is =
     length-split-two (has a) (leaves_under levels has (2 * a)) (leaves_under levels has (2 * a + 1)) a is
-    (leaves-some levels has (2 * a)) (leaves-some levels has (2 * a + 1))
+    (leaves_under-some levels has (2 * a)) (leaves_under-some levels has (2 * a + 1))
 
 -- a closed set that is not empty has more than two leaves
 leaves-many : (n : ℕ) (has : ℕ → Bool) (a : ℕ) → 1 ≤ n → IsClosed n has → IsTrue (has a) →
@@ -167,11 +154,11 @@ only_base n low others conforming short =
         let found : (t : ℕ) × IsIn t ys × (eqb t a ≡ true) = some-count (λ t. eqb t a) ys (omega arith) in
         subst (λ t. IsIn t ys) (eqb-true found.0 a found.2) found.1
 
--- it is the closure of the empty front
-IsFrontClosure-empty : (n : ℕ) (ranking : List ℕ) → IsFrontClosure n ranking 0 empty
-IsFrontClosure-empty n ranking = nothing_least n (among (take 0 ranking)) (λ a. refl)
+-- it is the closure of the empty prefix
+IsPrefixClosure-empty : (n : ℕ) (ranking : List ℕ) → IsPrefixClosure n ranking 0 empty
+IsPrefixClosure-empty n ranking = nothing_least n (among (take 0 ranking)) (λ a. refl)
 
--- a front that is not empty has a first triangle
+-- a prefix that is not empty has a first triangle
 among-first : (k : ℕ) (ranking : List ℕ) → 0 < k → k ≤ length ranking →
     (a : ℕ) × IsTrue (among (take k ranking) a)
 among-first zero ranking h fits = absurd (omega arith)
@@ -182,12 +169,12 @@ among-first (suc k) (a ∷ ranking) h fits =
 -- it is the rank closure for a budget of 2
 IsRankClosure-empty : (n : ℕ) (ranking : List ℕ) → 1 ≤ n → IsRankClosure n 2 ranking 0 empty
 IsRankClosure-empty n ranking low = record {
-  front = omega arith;
-  closure = IsFrontClosure-empty n ranking;
+  prefix = omega arith;
+  closure = IsPrefixClosure-empty n ranking;
   fits = omega (arith, ap length (leaves-empty n));
-  longest = λ k other more fits front.
+  longest = λ k other more fits prefix.
       let first = among-first k ranking more fits in
-      leaves-many n other first.0 low front.closed (front.holds first.0 first.1);
+      leaves-many n other first.0 low prefix.closed (prefix.holds first.0 first.1);
 }
 
 -- greedy refinement with a budget of 2 ends where it begins

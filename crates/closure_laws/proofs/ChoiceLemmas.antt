@@ -1,18 +1,18 @@
 -- What the rank closure of a budget leaves: the worst leaf, and what blocks.
-use Rattle.std.proofs.Common.{◌≡◌, ℕ, ◌+◌, ◌*◌, ◌<◌, ◌≤◌, inl, inr, Bool, List, [], ◌∷◌, length, take, All, refl, sym, ap, subst, arith, ⊎_elim}
+use Rattle.std.proofs.Common.{◌≡◌, ℕ, ◌+◌, ◌*◌, ◌<◌, ◌≤◌, inl, inr, Bool, List, length, take, All, sym, ap, subst, arith, ⊎_elim}
 use Rattle.std.proofs.Math.Seq.{take-length}
 use Rattle.std.proofs.lemmas.Bool.{cases_lt, cases_eq}
-use Rattle.std.proofs.lemmas.List.Elements.{All-head, All-tail, All-weaker}
+use Rattle.std.proofs.lemmas.List.Elements.{All-weaker}
 use Rattle.std.proofs.lemmas.Option.{slice_get_within, get_or_from_slice_get}
 use Rattle.mesh_defs.specs.Triangle.{level_of, IsAddress, IsSplittable}
 use Rattle.mesh_defs.specs.ClosedSet.{leaves_of}
 use Rattle.mesh_defs.specs.Priority.{worst_of}
-use Rattle.mesh_defs.specs.Ranking.{RanksBefore, IsRanking, IsFrontClosure, IsRankClosure, IsBlockedBy}
+use Rattle.mesh_defs.specs.Ranking.{RanksBefore, IsRanking, IsPrefixClosure, IsRankClosure, IsBlockedBy}
 use Rattle.mesh_defs.specs.Greedy.{IsFirstLeaf}
 use Rattle.bintree_laws.proofs.LevelLemmas.{level-le}
 use Rattle.mesh_defs.proofs.ListLemmas.{IsIn, IsIn-contains, Contains-in, among-in}
 use Rattle.mesh_defs.specs.Falling.{IsFalling}
-use Rattle.mesh_defs.proofs.WorstLemmas.{worst-le, le-worst, worst-zeros}
+use Rattle.mesh_defs.proofs.WorstLemmas.{worst-le, le-worst}
 use Rattle.closure_laws.proofs.ClosureLemmas.{IsOuter, IsOuter-leaves_of}
 use Rattle.closure_laws.proofs.RankLemmas.{IsGreedyEnd-closure, first_leaf-blocked}
 
@@ -38,8 +38,8 @@ module _ (n budget : ℕ) (priority : ℕ → ℕ) (ranking : List ℕ) (chosen 
   leaves-zero all =
       All-weaker (IsOuter n has) (λ a. priority a ≡ 0) zero_of (leaves_of n has) (IsOuter-leaves_of n has closure.closure.closed)
     where
-      whole : IsFrontClosure n ranking (length ranking) has
-      whole = subst (λ k. IsFrontClosure n ranking k has) all closure.closure
+      whole : IsPrefixClosure n ranking (length ranking) has
+      whole = subst (λ k. IsPrefixClosure n ranking k has) all closure.closure
 
       zero_of : (a : ℕ) → IsOuter n has a → priority a ≡ 0
       zero_of a outer = ⊎_elim

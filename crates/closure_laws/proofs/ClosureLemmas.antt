@@ -6,13 +6,13 @@ use Rattle.mesh_defs.specs.Triangle.{level_of, IsAddress, IsSplittable, IsMate}
 use Rattle.mesh_defs.specs.Tiling.{IsSample, is_inside}
 use Rattle.mesh_defs.specs.ClosedSet.{IsClosed, IsSubset, IsLeastClosed, leaves_under, leaves_of}
 use Rattle.mesh_defs.specs.Greedy.{with_triangle}
-use Rattle.bintree_laws.proofs.LevelLemmas.{level_of-parent}
+use Rattle.bintree_laws.proofs.LevelLemmas.{level_of-root, level_of-parent}
 use Rattle.bintree_laws.proofs.CentreLemmas.{border_or_mate, not_border_and_mate}
 use Rattle.closure_laws.specs.Forcing.{IsPrepared}
 use Rattle.tiling_laws.proofs.DescentLemmas.{IsDown-address, IsAddress-down, IsAddress-splittable, sample_of, All-leaves_of, Tiles-leaves_of}
 use Rattle.tiling_laws.proofs.ConformityLemmas.{IsUnder, self, below, member_above}
 use Rattle.mesh_defs.proofs.ListLemmas.{IsIn, Contains-in, some-count}
-use Rattle.tiling_laws.proofs.ConverseLemmas.{IsUnder-sample, is_inside-up, IsAddress-parent, level_of-first}
+use Rattle.tiling_laws.proofs.ConverseLemmas.{IsUnder-sample, is_inside-up, IsAddress-parent}
 use Rattle.closure_laws.proofs.ForcingLemmas.{IsLeastClosed-member, IsPrepared-base, IsPrepared-parent, IsLeastClosed-single, IsLeastClosed-pair}
 
 -- unique and monotone
@@ -153,7 +153,7 @@ step_some true m s a some = omega (arith, length-append m s)
 step_some false m s a some = omega arith
 
 -- there is a leaf below each triangle
-leaves_under-some : (levels : ℕ) (has : ℕ → Bool) (a : ℕ) → 1 ≤ length (leaves_under levels has a)
+pub leaves_under-some : (levels : ℕ) (has : ℕ → Bool) (a : ℕ) → 1 ≤ length (leaves_under levels has a)
 leaves_under-some zero has a = omega arith
 leaves_under-some (suc levels) has a =
     step_some (has a) (leaves_under levels has (2 * a)) (leaves_under levels has (2 * a + 1)) a (leaves_under-some levels has (2 * a))
@@ -241,7 +241,7 @@ leaf-outer n has a closed outer =
         is_inside n x y a ≡ true → is_inside n x y e ≡ true → ⊥
     under_leaf e leaf deeper x y s h k =
         let big : 4 ≤ e = ⊎_elim
-        (λ small. let z = level_of-first e leaf.address.low small in absurd (omega arith))
+        (λ small. let z = level_of-root e leaf.address.low small in absurd (omega arith))
         (λ large. large)
         (cases_lt e 4) in
         let l = level_of-parent e big in

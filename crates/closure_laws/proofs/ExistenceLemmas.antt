@@ -1,16 +1,16 @@
 -- What there is for every grid: the least closed set with any set of splittable triangles, a ranking, the rank closure of a
 -- budget, and the frame of a budget.
 use Rattle.std.proofs.Common.{◌≡◌, ℕ, zero, suc, ◌+◌, ◌<◌, ◌≤◌, inl, inr, Bool, false, List, [], ◌∷◌, Option, None, Some, IsTrue, length, take, get_or, refl, sym, subst, arith, ⊎_elim}
-use Rattle.std.proofs.lemmas.Bool.{cases_lt, false≢true}
+use Rattle.std.proofs.lemmas.Bool.{cases_lt}
 use Rattle.mesh_defs.specs.Triangle.{IsSplittable}
 use Rattle.mesh_defs.specs.ClosedSet.{IsClosed, IsLeastClosed, leaves_of, among}
 use Rattle.mesh_defs.specs.Greedy.{with_triangle}
-use Rattle.mesh_defs.specs.Ranking.{IsRanking, IsFrontClosure, IsRankClosure, IsBlockedBy}
+use Rattle.mesh_defs.specs.Ranking.{IsRanking, IsPrefixClosure, IsRankClosure, IsBlockedBy}
 use Rattle.mesh_defs.proofs.ListLemmas.{IsIn, IsIn-among, among-in}
 use Rattle.mesh_defs.specs.GridSet.{IsAscending, IsForced}
 use Rattle.closure_laws.proofs.ForcingLemmas.{with-cases, with-old, with-new}
 use Rattle.closure_laws.proofs.ClosureLemmas.{nothing_least, IsLeastClosed-unique, IsLeastClosed-same, closure_of, leaves_of-none, leaves_of-same}
-use Rattle.closure_laws.proofs.RankLemmas.{in_front, at_place, slice_get-at}
+use Rattle.closure_laws.proofs.RankLemmas.{in_prefix, at_place, slice_get-at}
 use Rattle.closure_laws.proofs.RankingLemmas.{ranking_of, IsRanking-of}
 use Rattle.bintree_addr.specs.declared.blocked.Blocked.{Blocked}
 use Rattle.closure_laws.specs.Frame.{IsFrame}
@@ -67,39 +67,39 @@ forced_list n before t closed splittable =
 -- rank closures
 
 module _ (n budget : ℕ) (priority : ℕ → ℕ) (ranking : List ℕ) (ranked : IsRanking n priority ranking) (low : 2 ≤ budget) where
-  -- each front has a closure
-  pub front_closure : (k : ℕ) → (has : ℕ → Bool) × IsFrontClosure n ranking k has
-  front_closure k = closure_of_list n (take k ranking) (λ a i.
-      let p = in_front k a ranking i in
+  -- each prefix has a closure
+  pub prefix_closure : (k : ℕ) → (has : ℕ → Bool) × IsPrefixClosure n ranking k has
+  prefix_closure k = closure_of_list n (take k ranking) (λ a i.
+      let p = in_prefix k a ranking i in
       subst (IsSplittable n) p.3 ((ranked.members (get_or ranking p.0 0)).0 (at_place p.0 ranking p.2)).0)
 
-  -- the longest front of at most so many entries whose closure is within the budget
+  -- the longest prefix of at most so many entries whose closure is within the budget
   record Longest (most : ℕ) : Type 0 where
     chosen : ℕ
-    front : chosen ≤ most
+    prefix : chosen ≤ most
     has : ℕ → Bool
-    closure : IsFrontClosure n ranking chosen has
+    closure : IsPrefixClosure n ranking chosen has
     fits : length (leaves_of n has) ≤ budget
-    longest : (k : ℕ) (other : ℕ → Bool) → chosen < k → k ≤ most → IsFrontClosure n ranking k other → budget < length (leaves_of n other)
+    longest : (k : ℕ) (other : ℕ → Bool) → chosen < k → k ≤ most → IsPrefixClosure n ranking k other → budget < length (leaves_of n other)
 
-  longest_front : (most : ℕ) → most ≤ length ranking → Longest most
-  longest_front zero le = record {
+  longest_prefix : (most : ℕ) → most ≤ length ranking → Longest most
+  longest_prefix zero le = record {
     chosen = 0;
-    front = omega arith;
+    prefix = omega arith;
     has = λ _. false;
     closure = nothing_least n (among []) (λ a. refl);
     fits = omega (arith, leaves_of-none n (λ _. false) (λ a. refl));
     longest = λ k other more within. absurd (omega arith);
   }
-  longest_front (suc most) le =
-      let top = front_closure (suc most) in
+  longest_prefix (suc most) le =
+      let top = prefix_closure (suc most) in
       ⊎_elim
       (λ (over : budget < length (leaves_of n top.0)).
-      let r : Longest most = longest_front most (omega arith) in
-      let front = r.front in
+      let r : Longest most = longest_prefix most (omega arith) in
+      let prefix = r.prefix in
       record {
         chosen = r.chosen;
-        front = omega arith;
+        prefix = omega arith;
         has = r.has;
         closure = r.closure;
         fits = r.fits;
@@ -107,19 +107,19 @@ module _ (n budget : ℕ) (priority : ℕ → ℕ) (ranking : List ℕ) (ranked 
             (λ less. r.longest k other more (omega arith) closure)
             (λ last.
             let same = IsLeastClosed-unique n (among (take (suc most) ranking)) top.0 other top.1
-            (subst (λ z. IsFrontClosure n ranking z other) (let e : k ≡ suc most = omega arith in e) closure) in
+            (subst (λ z. IsPrefixClosure n ranking z other) (let e : k ≡ suc most = omega arith in e) closure) in
             subst (λ (l : List ℕ). budget < length l) (leaves_of-same n top.0 other same) over)
             (cases_lt k (suc most));
       })
       (λ (fits : length (leaves_of n top.0) ≤ budget).
-      record { chosen = suc most; front = omega arith; has = top.0; closure = top.1; fits = fits; longest = λ k other more within. absurd (omega arith) })
+      record { chosen = suc most; prefix = omega arith; has = top.0; closure = top.1; fits = fits; longest = λ k other more within. absurd (omega arith) })
       (cases_lt budget (length (leaves_of n top.0)))
 
   -- there is a rank closure
   pub rank_closure_of : (chosen : ℕ) × (has : ℕ → Bool) × IsRankClosure n budget ranking chosen has
   rank_closure_of =
-      let r : Longest (length ranking) = longest_front (length ranking) (omega arith) in
-      (r.chosen, r.has, record { front = r.front; closure = r.closure; fits = r.fits; longest = r.longest })
+      let r : Longest (length ranking) = longest_prefix (length ranking) (omega arith) in
+      (r.chosen, r.has, record { prefix = r.prefix; closure = r.closure; fits = r.fits; longest = r.longest })
 
 -- the frame of a budget
 
@@ -131,7 +131,7 @@ frame_of_test n budget priority low =
     let best = rank_closure_of n budget priority ranking ranked low in
     ⊎_elim
     (λ (more : best.0 < length ranking).
-    let next = front_closure n budget priority ranking ranked low (best.0 + 1) in
+    let next = prefix_closure n budget priority ranking ranked low (best.0 + 1) in
     let block : Blocked = record { tri = get_or ranking best.0 0; need = length (leaves_of n next.0) } in (
       best.1,
       worst_of priority (leaves_of n best.1),
@@ -157,7 +157,7 @@ frame_of_test n budget priority low =
         ranked = ranked;
         closure = best.2;
         greatest = refl;
-        unblocked = λ none. let most = best.2.front in omega arith;
+        unblocked = λ none. let most = best.2.prefix in omega arith;
         blocking = λ b same. absurd (none-some b same);
       },
     ))

@@ -1,4 +1,4 @@
--- Closed sets against a ranking: the fronts that a set holds, and its first leaf in rank.
+-- Closed sets against a ranking: the prefixes that a set holds, and its first leaf in rank.
 use Rattle.std.proofs.Common.{◌≡◌, ℕ, ◌+◌, ◌*◌, ◌<◌, ◌≤◌, ◌⊎◌, inl, inr, Bool, IsTrue, List, length, take, get_or, All, Contains, refl, sym, ◌∙◌, ap, subst, arith, ⊎_elim}
 use Rattle.std.proofs.lemmas.Bool.{cases_lt, cases_eq}
 use Rattle.std.proofs.lemmas.List.Elements.{All-contains}
@@ -11,21 +11,21 @@ use Rattle.mesh_defs.proofs.ListLemmas.{Contains-in, IsIn-contains, IsIn-among, 
 use Rattle.bintree_laws.proofs.LevelLemmas.{level-le}
 use Rattle.closure_laws.specs.Order.{RanksNoLater}
 use Rattle.closure_laws.proofs.ClosureLemmas.{closure_of, leaves_of-more}
-use Rattle.closure_laws.proofs.RankLemmas.{in_front, front_in, front-next, HoldsBelow, HasMissing, first_missing, entry, place_of, missing_first}
+use Rattle.closure_laws.proofs.RankLemmas.{in_prefix, prefix_in, prefix-next, HoldsBelow, HasMissing, first_missing, entry, place_of, missing_first}
 use Rattle.closure_laws.proofs.OrderLemmas.{before-le, before_cases, before_trans, before-no_later, no_later_back, ranks_no_later, IsFirstOf, first_of}
 use Rattle.closure_laws.proofs.SetListLemmas.{All-in}
 use Rattle.closure_laws.proofs.DiamondLemmas.{leaf_outside}
 
--- fronts
+-- prefixes
 
--- a set that holds the first k entries holds the front of k
-pub front_subset : (has : ℕ → Bool) (xs : List ℕ) (k : ℕ) → HoldsBelow has xs k → IsSubset (among (take k xs)) has
-front_subset has xs k all a h =
-    let place = in_front k a xs (IsIn-among a (take k xs) h) in subst (λ z. IsTrue (has z)) place.3 (all place.0 place.1 place.2)
+-- a set that holds the first k entries holds the prefix of k
+pub prefix_subset : (has : ℕ → Bool) (xs : List ℕ) (k : ℕ) → HoldsBelow has xs k → IsSubset (among (take k xs)) has
+prefix_subset has xs k all a h =
+    let place = in_prefix k a xs (IsIn-among a (take k xs) h) in subst (λ z. IsTrue (has z)) place.3 (all place.0 place.1 place.2)
 
--- and a set that holds the front holds the first k entries
-pub subset_front : (has : ℕ → Bool) (xs : List ℕ) (k : ℕ) → IsSubset (among (take k xs)) has → HoldsBelow has xs k
-subset_front has xs k sub i less within = sub (get_or xs i 0) (among-in (get_or xs i 0) (take k xs) (front_in k i xs less within))
+-- and a set that holds the prefix holds the first k entries
+pub subset_prefix : (has : ℕ → Bool) (xs : List ℕ) (k : ℕ) → IsSubset (among (take k xs)) has → HoldsBelow has xs k
+subset_prefix has xs k sub i less within = sub (get_or xs i 0) (among-in (get_or xs i 0) (take k xs) (prefix_in k i xs less within))
 
 -- fewer members have no more leaves
 pub fewer_leaves : (n : ℕ) (has other : ℕ → Bool) (budget : ℕ) → IsSubset has other → length (leaves_of n other) ≤ budget → length (leaves_of n has) ≤ budget
@@ -151,6 +151,6 @@ module _ (n : ℕ) (priority : ℕ → ℕ) (ranking : List ℕ) (ranked : IsRan
   exceeds budget chosen best closure has closed within all =
       let e = entry n priority ranking ranked falling chosen within in
       let next = closure_of n best (get_or ranking chosen 0) closure.closure.closed e.0 in
-      let front = front-next n ranking best next.0 chosen within closure.closure next.1 in
-      let over = closure.longest (chosen + 1) next.0 (omega arith) (omega arith) front in
-      omega (arith, leaves_of-more n next.0 has (front.least has closed (front_subset has ranking (chosen + 1) all)))
+      let prefix = prefix-next n ranking best next.0 chosen within closure.closure next.1 in
+      let over = closure.longest (chosen + 1) next.0 (omega arith) (omega arith) prefix in
+      omega (arith, leaves_of-more n next.0 has (prefix.least has closed (prefix_subset has ranking (chosen + 1) all)))

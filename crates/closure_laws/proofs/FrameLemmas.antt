@@ -106,7 +106,7 @@ IsFrame-same n budget priority has other worst blocked same f =
       chosen = f.chosen;
       ranked = f.ranked;
       closure = record {
-        front = f.closure.front;
+        prefix = f.closure.prefix;
         closure = IsLeastClosed-same n (among (take f.chosen f.ranking)) has other same f.closure.closure;
         fits = subst (λ (l : List ℕ). length l ≤ budget) leaves f.closure.fits;
         longest = f.closure.longest;
@@ -172,7 +172,7 @@ IsFrame-done n budget priority has falling low end zeros =
           let first = first_leaf-blocked n priority (ranking_of n priority) ranked falling budget closure.0 has closure.1 less low end in
           let none = All-contains (λ a. priority a ≡ 0) (leaves_of n has) (get_or (ranking_of n priority) closure.0 0) zeros first.leaf in
           let some = first.positive in absurd (omega arith))
-          (λ (all : length (ranking_of n priority) ≤ closure.0). let front = closure.1.front in omega arith)
+          (λ (all : length (ranking_of n priority) ≤ closure.0). let prefix = closure.1.prefix in omega arith)
           (cases_lt closure.0 (length (ranking_of n priority)));
       blocking = λ b some. absurd (none-some b some);
     }

@@ -6,7 +6,7 @@ use Rattle.mesh_defs.specs.Triangle.{level_of, IsAddress, IsSplittable}
 use Rattle.mesh_defs.specs.Tiling.{IsConforming}
 use Rattle.mesh_defs.specs.ClosedSet.{IsClosed, IsSubset, IsLeastClosed, leaves_of, among}
 use Rattle.mesh_defs.specs.Priority.{worst_of}
-use Rattle.mesh_defs.specs.Ranking.{RanksBefore, IsRanking, IsFrontClosure, IsRankClosure, IsBlockedBy}
+use Rattle.mesh_defs.specs.Ranking.{RanksBefore, IsRanking, IsPrefixClosure, IsRankClosure, IsBlockedBy}
 use Rattle.mesh_defs.specs.Greedy.{IsFirstLeaf, with_triangle, IsReachedIn, IsGreedyEnd}
 use Rattle.mesh_defs.specs.BestMesh.{IsBestMesh}
 use Rattle.bintree_laws.proofs.LevelLemmas.{level-le}
@@ -29,8 +29,8 @@ chosen_unique : (n budget : ℕ) (ranking : List ℕ) (i j : ℕ) (has other : �
 chosen_unique n budget ranking i j has other p q = ⊎_elim
     (λ same. same)
     (λ differ. ⊎_elim
-    (λ less. let h = p.longest j other less q.front q.closure in let f = q.fits in absurd (omega arith))
-    (λ more. let h = q.longest i has more p.front p.closure in let f = p.fits in absurd (omega arith))
+    (λ less. let h = p.longest j other less q.prefix q.closure in let f = q.fits in absurd (omega arith))
+    (λ more. let h = q.longest i has more p.prefix p.closure in let f = p.fits in absurd (omega arith))
     differ)
     (cases_order i j)
 
@@ -40,26 +40,26 @@ pub IsRankClosure-unique : (n budget : ℕ) (ranking : List ℕ) (i j : ℕ) (ha
 IsRankClosure-unique n budget ranking i j has other p q =
     let same = chosen_unique n budget ranking i j has other p q in (
       same,
-      IsLeastClosed-unique n (among (take i ranking)) has other p.closure (subst (λ k. IsFrontClosure n ranking k other) (sym same) q.closure),
+      IsLeastClosed-unique n (among (take i ranking)) has other p.closure (subst (λ k. IsPrefixClosure n ranking k other) (sym same) q.closure),
     )
 
--- fronts of a ranking
+-- prefixes of a ranking
 
--- a front's entries by their places
-pub in_front : (k a : ℕ) (xs : List ℕ) → IsIn a (take k xs) → (i : ℕ) × (i < k) × (i < length xs) × (get_or xs i 0 ≡ a)
-in_front zero a xs h = absurd h
-in_front (suc k) a [] h = absurd h
-in_front (suc k) a (x ∷ xs) (inl e) = (zero, omega arith, omega arith, e)
-in_front (suc k) a (x ∷ xs) (inr h) =
-    let r : (i : ℕ) × (i < k) × (i < length xs) × (get_or xs i 0 ≡ a) = in_front k a xs h in
+-- a prefix's entries by their places
+pub in_prefix : (k a : ℕ) (xs : List ℕ) → IsIn a (take k xs) → (i : ℕ) × (i < k) × (i < length xs) × (get_or xs i 0 ≡ a)
+in_prefix zero a xs h = absurd h
+in_prefix (suc k) a [] h = absurd h
+in_prefix (suc k) a (x ∷ xs) (inl e) = (zero, omega arith, omega arith, e)
+in_prefix (suc k) a (x ∷ xs) (inr h) =
+    let r : (i : ℕ) × (i < k) × (i < length xs) × (get_or xs i 0 ≡ a) = in_prefix k a xs h in
     (suc r.0, (let b = r.1 in omega arith), (let b = r.2 in omega arith), r.3)
 
--- an early entry is in the front
-pub front_in : (k i : ℕ) (xs : List ℕ) → i < k → i < length xs → IsIn (get_or xs i 0) (take k xs)
-front_in zero i xs h b = absurd (omega arith)
-front_in (suc k) i [] h b = absurd (omega arith)
-front_in (suc k) zero (x ∷ xs) h b = inl refl
-front_in (suc k) (suc i) (x ∷ xs) h b = inr (front_in k i xs (omega arith) (omega arith))
+-- an early entry is in the prefix
+pub prefix_in : (k i : ℕ) (xs : List ℕ) → i < k → i < length xs → IsIn (get_or xs i 0) (take k xs)
+prefix_in zero i xs h b = absurd (omega arith)
+prefix_in (suc k) i [] h b = absurd (omega arith)
+prefix_in (suc k) zero (x ∷ xs) h b = inl refl
+prefix_in (suc k) (suc i) (x ∷ xs) h b = inr (prefix_in k i xs (omega arith) (omega arith))
 
 -- an entry by its place
 place_in : (a : ℕ) (xs : List ℕ) → Contains xs a → (i : ℕ) × (i < length xs) × (get_or xs i 0 ≡ a)
@@ -82,13 +82,13 @@ slice_get-at i [] b = absurd (omega arith)
 slice_get-at zero (x ∷ xs) b = refl
 slice_get-at (suc i) (x ∷ xs) b = slice_get-at i xs (omega arith)
 
--- a longer front holds more
-front-longer : (xs : List ℕ) (k j : ℕ) → k ≤ j → IsSubset (among (take k xs)) (among (take j xs))
-front-longer xs k j le a h =
-    let r = in_front k a xs (IsIn-among a (take k xs) h) in
-    among-in a (take j xs) (subst (λ z. IsIn z (take j xs)) r.3 (front_in j r.0 xs (let b = r.1 in omega arith) r.2))
+-- a longer prefix holds more
+pub prefix-longer : (xs : List ℕ) (k j : ℕ) → k ≤ j → IsSubset (among (take k xs)) (among (take j xs))
+prefix-longer xs k j le a h =
+    let r = in_prefix k a xs (IsIn-among a (take k xs) h) in
+    among-in a (take j xs) (subst (λ z. IsIn z (take j xs)) r.3 (prefix_in j r.0 xs (let b = r.1 in omega arith) r.2))
 
--- the front before the first entry that is no member
+-- the prefix before the first entry that is no member
 
 -- the first k entries are members
 abbrev pub HoldsBelow : (ℕ → Bool) → List ℕ → ℕ → Type 0
@@ -112,36 +112,36 @@ first_missing has xs (suc k) le = ⊎_elim
     (λ missing. inr missing)
     (first_missing has xs k (omega arith))
 
--- the closure of a front is that of each front between it and the first missing entry
-front-up : (n : ℕ) (xs : List ℕ) (has : ℕ → Bool) (k j : ℕ) → IsFrontClosure n xs k has → k ≤ j → HoldsBelow has xs j → IsFrontClosure n xs j has
-front-up n xs has k j p le all = record {
+-- the closure of a prefix is that of each prefix between it and the first missing entry
+prefix-up : (n : ℕ) (xs : List ℕ) (has : ℕ → Bool) (k j : ℕ) → IsPrefixClosure n xs k has → k ≤ j → HoldsBelow has xs j → IsPrefixClosure n xs j has
+prefix-up n xs has k j p le all = record {
   closed = p.closed;
-  holds = λ a h. let r = in_front j a xs (IsIn-among a (take j xs) h) in subst (λ z. IsTrue (has z)) r.3 (all r.0 r.1 r.2);
-  least = λ other c holds. p.least other c (λ a h. holds a (front-longer xs k j le a h));
+  holds = λ a h. let r = in_prefix j a xs (IsIn-among a (take j xs) h) in subst (λ z. IsTrue (has z)) r.3 (all r.0 r.1 r.2);
+  least = λ other c holds. p.least other c (λ a h. holds a (prefix-longer xs k j le a h));
 }
 
--- the front ends before the first missing entry
-front-le : (n : ℕ) (xs : List ℕ) (has : ℕ → Bool) (k : ℕ) → IsFrontClosure n xs k has → (m : HasMissing has xs) → k ≤ m.0
-front-le n xs has k p m = ⊎_elim
+-- the prefix ends before the first missing entry
+prefix-le : (n : ℕ) (xs : List ℕ) (has : ℕ → Bool) (k : ℕ) → IsPrefixClosure n xs k has → (m : HasMissing has xs) → k ≤ m.0
+prefix-le n xs has k p m = ⊎_elim
     (λ past. absurd (both_ways (has (get_or xs m.0 0)) m.2 (p.holds (get_or xs m.0 0)
-    (among-in (get_or xs m.0 0) (take k xs) (front_in k m.0 xs past m.1)))))
+    (among-in (get_or xs m.0 0) (take k xs) (prefix_in k m.0 xs past m.1)))))
     (λ within. within)
     (cases_lt m.0 k)
 
 -- one entry more
-pub front-next : (n : ℕ) (xs : List ℕ) (has next : ℕ → Bool) (j : ℕ) → j < length xs → IsFrontClosure n xs j has →
-    IsLeastClosed n (with_triangle has (get_or xs j 0)) next → IsFrontClosure n xs (j + 1) next
-front-next n xs has next j within p q = record {
+pub prefix-next : (n : ℕ) (xs : List ℕ) (has next : ℕ → Bool) (j : ℕ) → j < length xs → IsPrefixClosure n xs j has →
+    IsLeastClosed n (with_triangle has (get_or xs j 0)) next → IsPrefixClosure n xs (j + 1) next
+prefix-next n xs has next j within p q = record {
   closed = q.closed;
-  holds = λ a h. let r = in_front (j + 1) a xs (IsIn-among a (take (j + 1) xs) h) in ⊎_elim
-      (λ less. q.holds a (with-old has (get_or xs j 0) a (p.holds a (among-in a (take j xs) (subst (λ z. IsIn z (take j xs)) r.3 (front_in j r.0 xs less r.2))))))
+  holds = λ a h. let r = in_prefix (j + 1) a xs (IsIn-among a (take (j + 1) xs) h) in ⊎_elim
+      (λ less. q.holds a (with-old has (get_or xs j 0) a (p.holds a (among-in a (take j xs) (subst (λ z. IsIn z (take j xs)) r.3 (prefix_in j r.0 xs less r.2))))))
       (λ last. let e : j ≡ r.0 = (let b = r.1 in omega arith) in
       subst (λ z. IsTrue (next z)) (ap (λ i. get_or xs i 0) e ∙ r.3) (q.holds (get_or xs j 0) (with-new has (get_or xs j 0))))
       (cases_lt r.0 j);
   least = λ other c holds. q.least other c (λ a h. ⊎_elim
-      (λ old. p.least other c (λ b k. holds b (front-longer xs j (j + 1) (omega arith) b k)) a old)
+      (λ old. p.least other c (λ b k. holds b (prefix-longer xs j (j + 1) (omega arith) b k)) a old)
       (λ same. subst (λ z. IsTrue (other z)) same
-      (holds (get_or xs j 0) (among-in (get_or xs j 0) (take (j + 1) xs) (front_in (j + 1) j xs (omega arith) within))))
+      (holds (get_or xs j 0) (among-in (get_or xs j 0) (take (j + 1) xs) (prefix_in (j + 1) j xs (omega arith) within))))
       (with-cases has (get_or xs j 0) a h));
 }
 
@@ -229,9 +229,9 @@ module _ (n : ℕ) (priority : ℕ → ℕ) (ranking : List ℕ) (ranked : IsRan
       ))
       (first_missing has ranking (length ranking) (omega arith))
 
-  -- each set that is reached is the closure of a front
-  reached_front : (budget steps : ℕ) (has : ℕ → Bool) → IsReachedIn steps n priority budget has → (k : ℕ) × (k ≤ length ranking) × IsFrontClosure n ranking k has
-  reached_front budget zero has none = (
+  -- each set that is reached is the closure of a prefix
+  reached_prefix : (budget steps : ℕ) (has : ℕ → Bool) → IsReachedIn steps n priority budget has → (k : ℕ) × (k ≤ length ranking) × IsPrefixClosure n ranking k has
+  reached_prefix budget zero has none = (
     zero,
     omega arith,
     record {
@@ -244,16 +244,16 @@ module _ (n : ℕ) (priority : ℕ → ℕ) (ranking : List ℕ) (ranked : IsRan
       least = λ other c holds a h. absurd (both_ways (has a) (none a) h);
     },
   )
-  reached_front budget (suc steps) has r =
+  reached_prefix budget (suc steps) has r =
       let before : ℕ → Bool = r.0 in
-      let front = reached_front budget steps before r.1 in
+      let prefix = reached_prefix budget steps before r.1 in
       let f : ℕ = r.2.split.0 in
-      let found = first_is_missing before front.2.closed f r.2.split.1 in
+      let found = first_is_missing before prefix.2.closed f r.2.split.1 in
       let m : HasMissing before ranking = found.0 in
-      let up = front-up n ranking before front.0 m.0 front.2 (front-le n ranking before front.0 front.2 m) m.3 in (
+      let up = prefix-up n ranking before prefix.0 m.0 prefix.2 (prefix-le n ranking before prefix.0 prefix.2 m) m.3 in (
         m.0 + 1,
         (let b = m.1 in omega arith),
-        front-next n ranking before has m.0 m.1 up (subst (λ z. IsLeastClosed n (with_triangle before z) has) (sym found.1) r.2.split.2),
+        prefix-next n ranking before has m.0 m.1 up (subst (λ z. IsLeastClosed n (with_triangle before z) has) (sym found.1) r.2.split.2),
       )
 
   -- each set that is reached is within the budget
@@ -264,19 +264,19 @@ module _ (n : ℕ) (priority : ℕ → ℕ) (ranking : List ℕ) (ranked : IsRan
   -- the end by its first missing entry
   closure-missing : (budget : ℕ) (has : ℕ → Bool) → 2 ≤ budget → IsGreedyEnd n budget priority has → (m : HasMissing has ranking) → IsRankClosure n budget ranking m.0 has
   closure-missing budget has low end m =
-      let front = reached_front budget end.reached.0 has end.reached.1 in
-      let up = front-up n ranking has front.0 m.0 front.2 (front-le n ranking has front.0 front.2 m) m.3 in
+      let prefix = reached_prefix budget end.reached.0 has end.reached.1 in
+      let up = prefix-up n ranking has prefix.0 m.0 prefix.2 (prefix-le n ranking has prefix.0 prefix.2 m) m.3 in
       let t : ℕ = get_or ranking m.0 0 in
       let next = closure_of n has t up.closed (entry m.0 m.1).0 in
       record {
-        front = let b = m.1 in omega arith;
+        prefix = let b = m.1 in omega arith;
         closure = up;
         fits = reached_fits budget end.reached.0 has low end.reached.1;
         longest = λ k other more within closure.
             let over = end.stops next.0 record { split = (t, missing_first has up.closed m, next.1) } in
-            let least = front-next n ranking has next.0 m.0 m.1 up next.1 in
+            let least = prefix-next n ranking has next.0 m.0 m.1 up next.1 in
             let sub = IsSubset-closures n (among (take (m.0 + 1) ranking)) (among (take k ranking)) next.0 other
-            (front-longer ranking (m.0 + 1) k (omega arith)) least closure in
+            (prefix-longer ranking (m.0 + 1) k (omega arith)) least closure in
             let count = leaves_of-more n next.0 other sub in
             omega arith;
       }
@@ -285,10 +285,10 @@ module _ (n : ℕ) (priority : ℕ → ℕ) (ranking : List ℕ) (ranked : IsRan
   closure-whole : (budget : ℕ) (has : ℕ → Bool) → 2 ≤ budget → IsGreedyEnd n budget priority has → HoldsBelow has ranking (length ranking) →
       IsRankClosure n budget ranking (length ranking) has
   closure-whole budget has low end all =
-      let front = reached_front budget end.reached.0 has end.reached.1 in
+      let prefix = reached_prefix budget end.reached.0 has end.reached.1 in
       record {
-        front = omega arith;
-        closure = front-up n ranking has front.0 (length ranking) front.2 front.1 all;
+        prefix = omega arith;
+        closure = prefix-up n ranking has prefix.0 (length ranking) prefix.2 prefix.1 all;
         fits = reached_fits budget end.reached.0 has low end.reached.1;
         longest = λ k other more within. absurd (omega arith);
       }
@@ -309,10 +309,10 @@ module _ (n : ℕ) (priority : ℕ → ℕ) (ranking : List ℕ) (ranked : IsRan
       let m : HasMissing has ranking = found.0 in
       let at : IsRankClosure n budget ranking m.0 has = closure-missing budget has low end m in
       let same : m.0 ≡ chosen = (IsRankClosure-unique n budget ranking m.0 chosen has has at closure).0 in
-      let step = front-next n ranking has next m.0 m.1 at.closure (subst (λ z. IsLeastClosed n (with_triangle has z) next) (sym found.1) least) in
+      let step = prefix-next n ranking has next m.0 m.1 at.closure (subst (λ z. IsLeastClosed n (with_triangle has z) next) (sym found.1) least) in
       record {
         next = ap (λ i. slice_get ranking i) (sym same) ∙ slice_get-at m.0 ranking m.1 ∙ ap (λ z. Some z) found.1;
-        counted = (next, subst (λ i. IsFrontClosure n ranking (i + 1) next) same step, refl);
+        counted = (next, subst (λ i. IsPrefixClosure n ranking (i + 1) next) same step, refl);
       }
 
   -- where a triangle blocks, there is a first leaf
@@ -328,50 +328,50 @@ module _ (n : ℕ) (priority : ℕ → ℕ) (ranking : List ℕ) (ranked : IsRan
 
   -- from the rank closure
 
-  -- the empty set is the closure of the empty front
-  nothing_front : IsFrontClosure n ranking 0 (λ _. false)
-  nothing_front = nothing_least n (among (take 0 ranking)) (λ a. refl)
+  -- the empty set is the closure of the empty prefix
+  nothing_prefix : IsPrefixClosure n ranking 0 (λ _. false)
+  nothing_prefix = nothing_least n (among (take 0 ranking)) (λ a. refl)
 
-  -- a front's entries are members of its closure
-  front_holds : (k : ℕ) (has : ℕ → Bool) → IsFrontClosure n ranking k has → HoldsBelow has ranking k
-  front_holds k has p i less within = p.holds (get_or ranking i 0) (among-in (get_or ranking i 0) (take k ranking) (front_in k i ranking less within))
+  -- a prefix's entries are members of its closure
+  prefix_holds : (k : ℕ) (has : ℕ → Bool) → IsPrefixClosure n ranking k has → HoldsBelow has ranking k
+  prefix_holds k has p i less within = p.holds (get_or ranking i 0) (among-in (get_or ranking i 0) (take k ranking) (prefix_in k i ranking less within))
 
   -- a set that is reached and is the closure of the first k
   record IsReachedFront (budget k : ℕ) : Type 0 where
     set : ℕ → Bool
     steps : ℕ
     reached : IsReachedIn steps n priority budget set
-    front : IsFrontClosure n ranking k set
+    prefix : IsPrefixClosure n ranking k set
 
-  -- each front within the budget is reached
-  reached_fronts : (budget chosen : ℕ) (has : ℕ → Bool) → IsFrontClosure n ranking chosen has → chosen ≤ length ranking → length (leaves_of n has) ≤ budget →
+  -- each prefix within the budget is reached
+  reached_prefixes : (budget chosen : ℕ) (has : ℕ → Bool) → IsPrefixClosure n ranking chosen has → chosen ≤ length ranking → length (leaves_of n has) ≤ budget →
       (k : ℕ) → k ≤ chosen → IsReachedFront budget k
-  reached_fronts budget chosen has p within fits zero le =
-      record { set = λ _. false; steps = zero; reached = λ a. refl; front = nothing_front }
-  reached_fronts budget chosen has p within fits (suc k) le =
-      let r : IsReachedFront budget k = reached_fronts budget chosen has p within fits k (omega arith) in
+  reached_prefixes budget chosen has p within fits zero le =
+      record { set = λ _. false; steps = zero; reached = λ a. refl; prefix = nothing_prefix }
+  reached_prefixes budget chosen has p within fits (suc k) le =
+      let r : IsReachedFront budget k = reached_prefixes budget chosen has p within fits k (omega arith) in
       ⊎_elim
       (λ member. record {
         set = r.set;
         steps = r.steps;
         reached = r.reached;
-        front = front-up n ranking r.set k (suc k) r.front (omega arith) (λ i less b. ⊎_elim
-            (λ early. front_holds k r.set r.front i early b)
+        prefix = prefix-up n ranking r.set k (suc k) r.prefix (omega arith) (λ i less b. ⊎_elim
+            (λ early. prefix_holds k r.set r.prefix i early b)
             (λ last. subst (λ z. IsTrue (r.set (get_or ranking z 0))) (let e : k ≡ i = omega arith in e) member)
             (cases_lt i k));
       })
       (λ other.
-      let m : HasMissing r.set ranking = (k, omega arith, other, front_holds k r.set r.front) in
-      let next = closure_of n r.set (get_or ranking k 0) r.front.closed (entry k (omega arith)).0 in
-      let step : IsFrontClosure n ranking (k + 1) next.0 = front-next n ranking r.set next.0 k (omega arith) r.front next.1 in
+      let m : HasMissing r.set ranking = (k, omega arith, other, prefix_holds k r.set r.prefix) in
+      let next = closure_of n r.set (get_or ranking k 0) r.prefix.closed (entry k (omega arith)).0 in
+      let step : IsPrefixClosure n ranking (k + 1) next.0 = prefix-next n ranking r.set next.0 k (omega arith) r.prefix next.1 in
       let sub = IsSubset-closures n (among (take (k + 1) ranking)) (among (take chosen ranking)) next.0 has
-      (front-longer ranking (k + 1) chosen (omega arith)) step p in
+      (prefix-longer ranking (k + 1) chosen (omega arith)) step p in
       let count = leaves_of-more n next.0 has sub in
       record {
         set = next.0;
         steps = suc r.steps;
-        reached = (r.set, r.reached, record { split = (get_or ranking k 0, missing_first r.set r.front.closed m, next.1) }, omega arith);
-        front = subst (λ z. IsFrontClosure n ranking z next.0) (let e : k + 1 ≡ suc k = omega arith in e) step;
+        reached = (r.set, r.reached, record { split = (get_or ranking k 0, missing_first r.set r.prefix.closed m, next.1) }, omega arith);
+        prefix = subst (λ z. IsPrefixClosure n ranking z next.0) (let e : k + 1 ≡ suc k = omega arith in e) step;
       })
       (cases_Bool (r.set (get_or ranking k 0)))
 
@@ -389,16 +389,16 @@ module _ (n : ℕ) (priority : ℕ → ℕ) (ranking : List ℕ) (ranked : IsRan
   -- the rank closure is where greedy refinement ends
   pub IsGreedyEnd-closure : (budget chosen : ℕ) (has : ℕ → Bool) → IsRankClosure n budget ranking chosen has → IsGreedyEnd n budget priority has
   IsGreedyEnd-closure budget chosen has p =
-      let r = reached_fronts budget chosen has p.closure p.front p.fits chosen (omega arith) in
-      let same = IsLeastClosed-unique n (among (take chosen ranking)) r.set has r.front p.closure in
+      let r = reached_prefixes budget chosen has p.closure p.prefix p.fits chosen (omega arith) in
+      let same = IsLeastClosed-unique n (among (take chosen ranking)) r.set has r.prefix p.closure in
       record {
         reached = (r.steps, reached-same budget r.steps r.set has same r.reached);
         stops = λ next step.
             let found = first_is_missing has p.closure.closed step.split.0 step.split.1 in
             let m : HasMissing has ranking = found.0 in
-            let le = front-le n ranking has chosen p.closure m in
-            let up = front-up n ranking has chosen m.0 p.closure le m.3 in
-            let least = front-next n ranking has next m.0 m.1 up (subst (λ z. IsLeastClosed n (with_triangle has z) next) (sym found.1) step.split.2) in
+            let le = prefix-le n ranking has chosen p.closure m in
+            let up = prefix-up n ranking has chosen m.0 p.closure le m.3 in
+            let least = prefix-next n ranking has next m.0 m.1 up (subst (λ z. IsLeastClosed n (with_triangle has z) next) (sym found.1) step.split.2) in
             p.longest (m.0 + 1) next (omega arith) (let b = m.1 in omega arith) least;
       }
 
@@ -435,10 +435,10 @@ module _ (n : ℕ) (priority : ℕ → ℕ) (ranking : List ℕ) (ranked : IsRan
       (cases_lt (priority a) 1)
 
   -- a conforming list whose worst is less than an entry has all up to it split
-  front_split : (others : List ℕ) → IsConforming n others → (j : ℕ) → j < length ranking → worst_of priority others < priority (get_or ranking j 0) →
+  prefix_split : (others : List ℕ) → IsConforming n others → (j : ℕ) → j < length ranking → worst_of priority others < priority (get_or ranking j 0) →
       IsSubset (among (take (j + 1) ranking)) (ancestors_of others)
-  front_split others conforming j within better a h =
-      let r = in_front (j + 1) a ranking (IsIn-among a (take (j + 1) ranking) h) in
+  prefix_split others conforming j within better a h =
+      let r = in_prefix (j + 1) a ranking (IsIn-among a (take (j + 1) ranking) h) in
       let e = entry r.0 r.2 in
       let u : ℕ = get_or ranking r.0 0 in
       let high : priority (get_or ranking j 0) ≤ priority (get_or ranking r.0 0) = ⊎_elim
@@ -472,8 +472,8 @@ module _ (n : ℕ) (priority : ℕ → ℕ) (ranking : List ℕ) (ranked : IsRan
       let at = closure-missing budget has low end m in
       let next = closure_of n has (get_or ranking m.0 0) closed (entry m.0 m.1).0 in
       let over = end.stops next.0 record { split = (get_or ranking m.0 0, missing_first has closed m, next.1) } in
-      let step = front-next n ranking has next.0 m.0 m.1 at.closure next.1 in
-      let sub = step.least (ancestors_of others) (IsClosed-ancestors_of n others conforming) (front_split others conforming m.0 m.1 better) in
+      let step = prefix-next n ranking has next.0 m.0 m.1 at.closure next.1 in
+      let sub = step.least (ancestors_of others) (IsClosed-ancestors_of n others conforming) (prefix_split others conforming m.0 m.1 better) in
       let count = leaves_of-more n next.0 (ancestors_of others) sub in
       let same = length-counts (leaves_of n (ancestors_of others)) others (AreLeaves-ancestors_of n others conforming).counts in
       absurd (omega arith))

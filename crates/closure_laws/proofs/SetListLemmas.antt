@@ -162,27 +162,31 @@ count-less p q a (x ∷ xs) narrow (inr i) fails passes =
     (λ no. let none = count-no p x xs no in let second = count-cons q x xs in omega arith)
     (cases_Bool (p x))
 
--- closed sets as lists
+-- ranges of numbers
 
--- the numbers from low on, so many of them
-in-range : (low count a : ℕ) → low ≤ a → a < low + count → IsIn a (range_with_len low count)
+-- the numbers from low on, so many of them, are in their range
+pub in-range : (low count a : ℕ) → low ≤ a → a < low + count → IsIn a (range_with_len low count)
 in-range low zero a first last = absurd (omega arith)
 in-range low (suc count) a first last = ⊎_elim
     (λ more. inr (in-range (low + 1) count a (omega arith) (omega arith)))
     (λ (less : a ≤ low). inl (let e : low ≡ a = omega arith in e))
     (cases_lt low a)
 
-range-low : (low count a : ℕ) → IsIn a (range_with_len low count) → low ≤ a
+-- what is in a range is no less than its first number
+pub range-low : (low count a : ℕ) → IsIn a (range_with_len low count) → low ≤ a
 range-low low zero a h = absurd h
 range-low low (suc count) a (inl e) = omega arith
 range-low low (suc count) a (inr h) = let r = range-low (low + 1) count a h in omega arith
 
-ascending-range : (low count : ℕ) → IsAscending (range_with_len low count)
+-- a range is ascending
+pub ascending-range : (low count : ℕ) → IsAscending (range_with_len low count)
 ascending-range low zero = tt
 ascending-range low (suc count) = (
   All-in (λ y. low < y) (range_with_len (low + 1) count) (λ a h. let r = range-low (low + 1) count a h in omega arith),
   ascending-range (low + 1) count,
 )
+
+-- closed sets as lists
 
 -- the members of a closed set, in ascending order
 pub list_of : ℕ → (ℕ → Bool) → List ℕ

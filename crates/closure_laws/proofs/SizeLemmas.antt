@@ -5,15 +5,14 @@ use Rattle.std.proofs.lemmas.List.Elements.{All-contains}
 use Rattle.mesh_defs.specs.Triangle.{level_of, IsAddress}
 use Rattle.mesh_defs.specs.ClosedSet.{IsClosed, IsLeastClosed, leaves_under, leaves_of, among}
 use Rattle.mesh_defs.specs.Tiling.{is_inside}
-use Rattle.bintree_laws.proofs.LevelLemmas.{splittable-below}
-use Rattle.bintree_laws.proofs.LevelLemmas.{level_of-left, level_of-right}
+use Rattle.bintree_laws.proofs.LevelLemmas.{splittable-below, level_of-root, level_of-left, level_of-right}
 use Rattle.tiling_laws.specs.Ancestors.{is_above}
 use Rattle.mesh_defs.specs.GridSet.{IsAscending, IsGridSet}
 use Rattle.mesh_defs.proofs.ListLemmas.{one_if}
 use Rattle.tiling_laws.proofs.DescentLemmas.{IsDown, IsDown-left, IsDown-right, IsDown-2, IsDown-3, IsDown-address, IsAddress-down, IsAddress-splittable, one_base, sample_of}
 use Rattle.tiling_laws.proofs.ConformityLemmas.{IsUnder, self, below, IsUnder-left, IsUnder-right, member_above}
 use Rattle.mesh_defs.proofs.ListLemmas.{IsIn, IsIn-among, among-in, Contains-in, count-cons, count-yes, some-count}
-use Rattle.tiling_laws.proofs.ConverseLemmas.{under-above, above-under, level-under, not_below_both, is_inside-under, IsUnder-sample, level_of-first}
+use Rattle.tiling_laws.proofs.ConverseLemmas.{under-above, above-under, level-under, not_below_both, is_inside-under, IsUnder-sample}
 
 -- how long an ascending list can be
 
@@ -202,11 +201,11 @@ module _ (n : ℕ) (members : List ℕ) (each : (a : ℕ) → IsIn a members →
       let one = one_base n s.0 s.1 s.2 in
       let to_2 = same_test (is_inside n s.0 s.1 2) (is_under 2 m)
       (λ i. true-under 2 m (omega arith) (IsUnder-sample n s.0 s.1 (level_of m) 2 m s.2 (IsAddress-down n (2 * n) 2 (IsDown-2 n)) address
-      (let e = level_of-first 2 (omega arith) (omega arith) in omega arith) i s.3))
+      (let e = level_of-root 2 (omega arith) (omega arith) in omega arith) i s.3))
       (λ u. is_inside-under n 2 m s.0 s.1 address s.2 (under-true 2 m u) s.3) in
       let to_3 = same_test (is_inside n s.0 s.1 3) (is_under 3 m)
       (λ i. true-under 3 m (omega arith) (IsUnder-sample n s.0 s.1 (level_of m) 3 m s.2 (IsAddress-down n (2 * n) 3 (IsDown-3 n)) address
-      (let e = level_of-first 3 (omega arith) (omega arith) in omega arith) i s.3))
+      (let e = level_of-root 3 (omega arith) (omega arith) in omega arith) i s.3))
       (λ u. is_inside-under n 3 m s.0 s.1 address s.2 (under-true 3 m u) s.3) in
       omega arith
     where

@@ -1,4 +1,5 @@
-//! A mesh as the loop sees it: the pool, the two queues, the stamps, and what is known in this frame.
+//! A mesh as the loop sees it: its set, with the room and the counts of its pool, the heads of its queues, the stamps of its
+//! entries, the priorities that were told in this frame, and the entries that are still fresh.
 
 ghost use Rattle.std.specs.Prelude.{◌≡◌, ℕ, ◌+◌, ◌<◌, ◌≤◌, ◌∷◌, ◌^◌, List, [], false, Contains, MatchOption};
 ghost use Rattle.mesh_defs.specs.Triangle.{IsSplittable};

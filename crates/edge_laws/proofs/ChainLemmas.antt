@@ -1,18 +1,18 @@
 -- What the split of one leaf forces: the least closed set with it, and the chain of leaves that must be split first.
-use Rattle.std.proofs.Common.{◌≡◌, ◌≢◌, ap, sym, ◌∙◌, ◌⊎◌, Bool, true, false, ◌||◌, nat_eq, ℕ, ◌+◌, ◌*◌, ◌/◌, ◌%◌, ◌<◌, ◌≤◌, refl, arith, inl, inr, ⊎_elim, subst, List, [], ◌∷◌, length}
-use Rattle.std.proofs.lemmas.Bool.{cases_eq, cases_lt, cases_Bool, true≢false, or_cases, or_left, or_right, eq-eqb, eqb-true}
+use Rattle.std.proofs.Common.{◌≡◌, ap, sym, ◌∙◌, ◌⊎◌, Bool, true, false, ℕ, ◌+◌, ◌*◌, ◌/◌, ◌<◌, ◌≤◌, refl, arith, inl, inr, ⊎_elim, subst, List, [], ◌∷◌, length}
+use Rattle.std.proofs.lemmas.Bool.{cases_lt, cases_Bool}
 use Rattle.mesh_defs.specs.Triangle.{level_of, IsSplittable, IsMate}
 use Rattle.mesh_defs.specs.ClosedSet.{IsClosed, IsSubset, IsLeastClosed}
 use Rattle.mesh_defs.specs.Greedy.{with_triangle}
 use Rattle.bintree_laws.proofs.LevelLemmas.{level_of-parent}
 use Rattle.closure_laws.proofs.ForcingLemmas.{with-old, with-new, with-cases}
-use Rattle.edge_laws.specs.Edge.{mate_of, owner, with_square}
+use Rattle.edge_laws.specs.Edge.{mate_of, with_square}
 use Rattle.edge_laws.specs.LeafAcross.{IsLeafOf, IsGrown}
 use Rattle.edge_laws.specs.Chain.{IsForcedFirst, IsForcedChain}
-use Rattle.edge_laws.proofs.MateLemmas.{mate_of-back, mate_of-low, mate_of-level, level_of-root}
+use Rattle.edge_laws.proofs.MateLemmas.{mate_of-back, mate_of-low, mate_of-level}
 use Rattle.edge_laws.proofs.IsMateLemmas.{IsMate-mate_of, mate_of-IsMate}
 use Rattle.edge_laws.proofs.OwnerLemmas.{never, owner-whole}
-use Rattle.edge_laws.proofs.LeafLemmas.{with_square-deep, with_square-root, leaf-up, leaf-shut, leaf-level, IsLeafOf-shut, across-shut, owner-leaf}
+use Rattle.edge_laws.proofs.LeafLemmas.{with_square-deep, with_square-root, leaf-up, leaf-shut, IsLeafOf-shut, across-shut, owner-leaf}
 
 -- ---- a closed set with one diamond more
 

@@ -1,14 +1,14 @@
 -- What stands across the edges after the diamond of a triangle is split, and after it is merged.
-use Rattle.std.proofs.Common.{◌≡◌, ◌≢◌, ap, sym, ◌∙◌, ◌⊎◌, Bool, true, false, ℕ, zero, suc, ◌+◌, ◌*◌, ◌/◌, ◌%◌, ◌<◌, ◌≤◌, refl, arith, inl, inr, ⊎_elim}
-use Rattle.std.proofs.lemmas.Bool.{cases_eq, cases_lt, cases_Bool, true≢false}
+use Rattle.std.proofs.Common.{◌≡◌, ◌≢◌, ap, sym, ◌∙◌, ◌⊎◌, Bool, true, false, ℕ, zero, suc, ◌+◌, ◌*◌, ◌/◌, ◌%◌, ◌≤◌, arith, inl, inr, ⊎_elim}
+use Rattle.std.proofs.lemmas.Bool.{cases_lt, cases_Bool}
 use Rattle.mesh_defs.specs.Triangle.{level_of}
 use Rattle.mesh_defs.specs.ClosedSet.{IsClosed}
 use Rattle.bintree_laws.proofs.LevelLemmas.{level_of-parent}
 use Rattle.edge_laws.specs.Edge.{mate_of, owner, with_square}
 use Rattle.edge_laws.specs.LeafAcross.{IsLeafOf, IsGrown, AreAcrossChildren, AreAcrossMerged}
-use Rattle.edge_laws.proofs.MateLemmas.{IsStep-mate_of, four_cases, mate_of-root, mate_of-first, mate_of-back, mate_of-low, mate_of-level, no_sibling, mate_of-no_child, mate_of-0, mate_of-1, mate_of-2, mate_of-3}
+use Rattle.edge_laws.proofs.MateLemmas.{IsStep-mate_of, mate_of-root, mate_of-first, mate_of-low, mate_of-level, no_sibling, mate_of-0, mate_of-1, mate_of-2, mate_of-3}
 use Rattle.edge_laws.proofs.OwnerLemmas.{owner-split, owner-whole, owner-same, never}
-use Rattle.edge_laws.proofs.LeafLemmas.{with_square-root, with_square-deep, IsSplitSet-closed}
+use Rattle.edge_laws.proofs.LeafLemmas.{with_square-root, with_square-deep}
 
 -- ---- no triangle has its mate across a leg
 

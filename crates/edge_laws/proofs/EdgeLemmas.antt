@@ -1,23 +1,21 @@
 -- The ends of an edge, and the two triangles that have them.
-use Rattle.std.proofs.Common.{◌≡◌, ◌≢◌, ◌↔◌, ◌-◌, ap, sym, ◌∙◌, ◌⊎◌, ℕ, zero, suc, ◌+◌, ◌*◌, ◌/◌, ◌%◌, ◌^◌, ◌<◌, ◌≤◌, refl, arith, inl, inr, ⊎_elim, subst}
-use Rattle.std.proofs.lemmas.Bool.{cases_eq, cases_lt}
-use Rattle.std.proofs.Math.Nat.{pow-succ'}
+use Rattle.std.proofs.Common.{◌≡◌, ◌≢◌, ◌-◌, ap, sym, ◌∙◌, ◌⊎◌, ℕ, ◌+◌, ◌*◌, ◌/◌, ◌%◌, ◌^◌, ◌<◌, ◌≤◌, refl, arith, inl, inr, ⊎_elim, subst}
+use Rattle.std.proofs.lemmas.Bool.{cases_lt}
 use Rattle.mesh_defs.specs.declared.point.Point.{Point}
 use Rattle.mesh_defs.specs.declared.point.Corners.{Corners}
-use Rattle.mesh_defs.specs.Triangle.{level_of, corners_of, child, IsCorner, SameEnds, IsMate, IsAddress, IsSplittable, midpoint, HasBorderBase, OnOneSide}
-use Rattle.bintree_laws.proofs.LevelLemmas.{level_of-parent, pow_next}
+use Rattle.mesh_defs.specs.Triangle.{level_of, corners_of, child, IsCorner, SameEnds, IsMate, midpoint, HasBorderBase, OnOneSide}
+use Rattle.bintree_laws.proofs.LevelLemmas.{level_of-root, level_of-parent, pow_next}
 use Rattle.bintree_laws.proofs.CornerLemmas.{corners_of-left, corners_of-right}
-use Rattle.bintree_laws.proofs.LatticeLemmas.{at, three, scaled, multiple, lattice, halved, halved-half, step_of, step_of-power, step_pos, corners_of-lattice, same_by_coordinates}
+use Rattle.bintree_laws.proofs.LatticeLemmas.{three, scaled, multiple, lattice, halved, halved-half, step_of, step_of-power, corners_of-lattice, same_by_coordinates}
 use Rattle.bintree_laws.proofs.CentreLemmas.{same_centre}
-use Rattle.bintree_laws.proofs.UnitLemmas.{frame, IsHalf-frame}
-use Rattle.bintree_laws.proofs.MateLemmas.{coordinates, HasBorderBase-no_pair, no_pair-HasBorderBase, border_or_has_pair, IsMate-pair, pair-IsMate, IsReversed-mate, lattice-frame, AllTurned-frame, parity, cancel}
+use Rattle.bintree_laws.proofs.MateLemmas.{coordinates, no_pair-HasBorderBase, border_or_has_pair, IsMate-pair, pair-IsMate, IsReversed-mate}
 use Rattle.edge_laws.specs.Edge.{mate_of, owner}
 use Rattle.bintree_laws.specs.Corners.{IsReversed}
 use Rattle.tiling_laws.proofs.OrientationLemmas.{apart}
 use Rattle.tiling_laws.proofs.DescentLemmas.{IsAddress-splittable}
 use Rattle.edge_laws.proofs.OwnerLemmas.{owner_cases, owner-low, owner-split, owner-whole}
-use Rattle.std.proofs.Common.{Bool, true, false, nat_lt, ◌||◌}
-use Rattle.edge_laws.proofs.MateLemmas.{mate_of-low, mate_of-level, mate_of-root, mate_of-first, IsStep-mate_of, four_cases, level_of-root, no_sibling}
+use Rattle.std.proofs.Common.{Bool, true, false}
+use Rattle.edge_laws.proofs.MateLemmas.{mate_of-low, mate_of-level}
 use Rattle.edge_laws.proofs.IsMateLemmas.{IsMate-mate_of, mate_of-IsMate}
 
 step_of-double : (n level : ℕ) → level ≤ 2 * n → step_of (n + 1) level ≡ 2 * step_of n level

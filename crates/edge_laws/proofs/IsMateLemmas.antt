@@ -1,10 +1,10 @@
 -- `mate_of` is the mate.
-use Rattle.std.proofs.Common.{◌≡◌, ◌≢◌, ◌↔◌, ◌-◌, ap, sym, ◌∙◌, ◌⊎◌, ℕ, zero, suc, ◌+◌, ◌*◌, ◌/◌, ◌%◌, ◌^◌, ◌<◌, ◌≤◌, refl, arith, inl, inr, ⊎_elim, subst}
-use Rattle.std.proofs.lemmas.Bool.{cases_eq, cases_lt}
+use Rattle.std.proofs.Common.{◌≡◌, ◌-◌, sym, ◌⊎◌, ℕ, zero, suc, ◌+◌, ◌*◌, ◌/◌, ◌%◌, ◌^◌, ◌<◌, ◌≤◌, refl, arith, inl, inr, ⊎_elim, subst}
+use Rattle.std.proofs.lemmas.Bool.{cases_lt}
 use Rattle.std.proofs.Math.Pow.{pow_mono}
-use Rattle.mesh_defs.specs.Triangle.{level_of, IsAddress, IsMate}
+use Rattle.mesh_defs.specs.Triangle.{level_of, IsMate}
 use Rattle.bintree_laws.specs.Pair.{IsInner, IsOuter, IsPair}
-use Rattle.bintree_laws.proofs.LevelLemmas.{IsAtLevel, IsAtLevel-level_of, level_of-below}
+use Rattle.bintree_laws.proofs.LevelLemmas.{IsAtLevel, IsAtLevel-level_of}
 use Rattle.bintree_laws.proofs.PairLemmas.{IsAtLevel-quarter, IsAtLevel-pair}
 use Rattle.bintree_laws.proofs.MateLemmas.{IsMate-pair, pair-IsMate}
 use Rattle.edge_laws.specs.Edge.{grandchild_mate, mate_at, mate_of}

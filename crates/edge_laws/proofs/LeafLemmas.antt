@@ -1,15 +1,14 @@
 -- The leaves of a closed set, their edges, and the leaf across each of them.
-use Rattle.std.proofs.Common.{◌≡◌, ◌≢◌, ◌↔◌, ap, sym, ◌∙◌, ◌⊎◌, Bool, true, false, nat_lt, ◌||◌, ℕ, ◌+◌, ◌*◌, ◌/◌, ◌%◌, ◌^◌, ◌<◌, ◌≤◌, refl, arith, inl, inr, ⊎_elim, subst}
-use Rattle.std.proofs.lemmas.Bool.{cases_lt, cases_Bool, true≢false, ltb-true}
+use Rattle.std.proofs.Common.{◌≡◌, ◌≢◌, ◌↔◌, ap, sym, ◌∙◌, ◌⊎◌, Bool, true, false, nat_lt, ℕ, ◌+◌, ◌*◌, ◌/◌, ◌%◌, ◌^◌, ◌≤◌, refl, arith, inl, inr, ⊎_elim, subst}
+use Rattle.std.proofs.lemmas.Bool.{cases_lt, cases_Bool, ltb-true}
 use Rattle.mesh_defs.specs.declared.point.Point.{Point}
-use Rattle.mesh_defs.specs.declared.point.Corners.{Corners}
-use Rattle.mesh_defs.specs.Triangle.{level_of, corners_of, child, IsCorner, IsEdge, OnOneSide}
+use Rattle.mesh_defs.specs.Triangle.{level_of, corners_of, child, IsEdge, OnOneSide}
 use Rattle.mesh_defs.specs.ClosedSet.{IsClosed}
-use Rattle.bintree_laws.proofs.LevelLemmas.{level_of-parent}
+use Rattle.bintree_laws.proofs.LevelLemmas.{level_of-root, level_of-parent}
 use Rattle.bintree_laws.proofs.CornerLemmas.{corners_of-left, corners_of-right}
 use Rattle.edge_laws.specs.Edge.{mate_of, owner, with_square, IsEdgeOf}
 use Rattle.edge_laws.specs.LeafAcross.{IsLeafOf, IsLeafAcross, IsAcrossEdge}
-use Rattle.edge_laws.proofs.MateLemmas.{mate_of-back, mate_of-low, mate_of-level, mate_of-other, level_of-root, no_sibling}
+use Rattle.edge_laws.proofs.MateLemmas.{mate_of-back, mate_of-low, mate_of-level, mate_of-other, no_sibling}
 use Rattle.edge_laws.proofs.IsMateLemmas.{IsMate-mate_of}
 use Rattle.edge_laws.proofs.OwnerLemmas.{owner-split, owner-whole, owner_cases, owner-low, never, IsSplitSet, owner-live}
 use Rattle.edge_laws.proofs.EdgeLemmas.{reversed, same_ends, ends_across, only_across, ends_apart, border_ends}

@@ -1,22 +1,8 @@
-use Rattle.std.proofs.Common.{◌≡◌, ◌≢◌, ◌↔◌, ◌-◌, ap, sym, ◌∙◌, ◌⊎◌, ℕ, zero, suc, ◌+◌, ◌*◌, ◌/◌, ◌%◌, ◌^◌, ◌<◌, ◌≤◌, refl, arith, inl, inr, ⊎_elim, add-one}
+use Rattle.std.proofs.Common.{◌≡◌, ◌≢◌, ◌-◌, ap, sym, ◌∙◌, ◌⊎◌, ℕ, zero, suc, ◌+◌, ◌*◌, ◌/◌, ◌%◌, ◌<◌, ◌≤◌, refl, arith, inl, inr, ⊎_elim}
 use Rattle.std.proofs.lemmas.Bool.{cases_eq, cases_lt}
 use Rattle.mesh_defs.specs.Triangle.{level_of}
-use Rattle.bintree_laws.specs.Pair.{IsPair}
-use Rattle.bintree_laws.proofs.LevelLemmas.{IsAtLevel, level_of-at, level_of-parent, level_of-below, level_of-left, level_of-right}
-use Rattle.edge_laws.specs.Edge.{grandchild_mate, mate_at, mate_of}
-
-level_of-deep : (e : ℕ) → 8 ≤ e → level_of e ≡ suc (suc (level_of (e / 4)))
-level_of-deep e low =
-    let half : e / 2 / 2 ≡ e / 4 = omega arith in
-    let parent : level_of e ≡ level_of (e / 2) + 1 = level_of-parent e (omega arith) in
-    let above : level_of (e / 2) ≡ level_of (e / 4) + 1 = rw half at (level_of-parent (e / 2) (omega arith)) in
-    omega arith
-
-pub level_of-root : (e : ℕ) → 2 ≤ e → e < 4 → level_of e ≡ 0
-level_of-root e low high = level_of-at 0 e (record { low = low; high = high })
-
-level_of-first : (e : ℕ) → 4 ≤ e → e < 8 → level_of e ≡ 1
-level_of-first e low high = level_of-at 1 e (record { low = low; high = high })
+use Rattle.bintree_laws.proofs.LevelLemmas.{level_of-root, level_of-first, level_of-deep, level_of-left, level_of-right}
+use Rattle.edge_laws.specs.Edge.{grandchild_mate, mate_of}
 
 -- ---- the laws by which the pool knows `mate_of`
 

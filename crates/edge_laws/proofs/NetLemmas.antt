@@ -1,12 +1,12 @@
 -- Links stay right when a triangle is halved, and when two children are joined; what a right link names.
-use Rattle.std.proofs.Common.{◌≡◌, ◌≢◌, ◌-◌, ap, sym, ◌∙◌, ◌⊎◌, Bool, true, false, ℕ, zero, suc, ◌+◌, ◌*◌, ◌/◌, ◌%◌, ◌<◌, ◌≤◌, refl, arith, inl, inr, ⊎_elim}
-use Rattle.std.proofs.lemmas.Bool.{cases_eq, cases_lt, cases_Bool, true≢false}
+use Rattle.std.proofs.Common.{◌≡◌, ◌≢◌, ◌-◌, ap, sym, ◌∙◌, ◌⊎◌, true, false, ℕ, ◌+◌, ◌*◌, ◌/◌, ◌%◌, ◌<◌, ◌≤◌, arith, inl, inr, ⊎_elim}
+use Rattle.std.proofs.lemmas.Bool.{cases_eq, cases_lt, cases_Bool}
 use Rattle.mesh_defs.specs.Triangle.{level_of}
 use Rattle.bintree_laws.proofs.LevelLemmas.{level_of-parent}
 use Rattle.edge_laws.specs.Edge.{mate_of, owner}
 use Rattle.edge_laws.specs.Net.{nowhere, Net, IsJoined, IsLinked, IsTree, IsHalving, IsJoining}
-use Rattle.edge_laws.proofs.OwnerLemmas.{owner-split, owner-whole, owner_cases, owner-same, owner-low, never, IsSplitSet, owner-live}
-use Rattle.edge_laws.proofs.MateLemmas.{mate_of-root, mate_of-first, mate_of-back, mate_of-low, mate_of-level, no_sibling, mate_of-parity, mate_of-0, mate_of-1, mate_of-2, mate_of-3, mate_of-other, mate_of-no_child, IsStep-mate_of, four_cases}
+use Rattle.edge_laws.proofs.OwnerLemmas.{owner-split, owner-whole, owner_cases, owner-same, owner-low, never, owner-live}
+use Rattle.edge_laws.proofs.MateLemmas.{mate_of-back, mate_of-low, mate_of-level, no_sibling, mate_of-0, mate_of-1, mate_of-2, mate_of-3, mate_of-other, mate_of-no_child}
 
 -- a live triangle's parent is split, so nothing below a leaf is live
 not_live_below : (m : Net) (r a : ℕ) → IsTree m → 2 ≤ m.at r → m.split a ≡ false → m.at r / 2 ≡ a → ⊥

@@ -1,13 +1,11 @@
 -- Pairs of slots: which triangles have children there, the set of split triangles, and how many they are.
-use Rattle.std.proofs.Common.{◌≡◌, ◌≢◌, ◌-◌, ap, sym, ◌∙◌, ◌⊎◌, Bool, true, false, ◌||◌, ◌&&◌, cond, not, nat_eq, nat_lt, ℕ, zero, suc, ◌+◌, ◌*◌, ◌/◌, ◌%◌, ◌^◌, ◌<◌, ◌≤◌, refl, arith, inl, inr, ⊎_elim, subst, List, [], ◌∷◌, length, get_or, set, get_or-set_other, get_or-set_same}
-use Rattle.std.specs.Bool.{IsTrue}
+use Rattle.std.proofs.Common.{◌≡◌, ◌≢◌, ◌-◌, ap, sym, ◌∙◌, ◌⊎◌, Bool, true, false, ◌&&◌, cond, nat_eq, nat_lt, ℕ, zero, suc, ◌+◌, ◌*◌, ◌/◌, ◌%◌, ◌<◌, ◌≤◌, refl, arith, inl, inr, ⊎_elim, List, [], ◌∷◌, length, get_or, set, get_or-set_other, get_or-set_same}
 use Rattle.std.specs.List.{count_by, filter, list_any}
 use Rattle.std.proofs.lemmas.Bool.{cases_eq, cases_lt, cases_Bool, true≢false, eq-eqb, eqb-true, ne_eqb, or_cases, or_left, or_right, and_parts, and_from, lt-ltb, le-ltb, ltb-true}
 use Rattle.std.proofs.lemmas.List.{get_or_past}
 use Rattle.std.proofs.lemmas.List.Folds.{list_any_at}
 use Rattle.std.proofs.lemmas.List.Sums.{sum_by-set, sum_by-cons, length-filter}
 use Rattle.std.proofs.lemmas.Map.Views.{any-filter_same}
-use Rattle.std.proofs.Math.ListN.{length-set}
 use Rattle.mesh_defs.specs.Triangle.{level_of}
 use Rattle.mesh_defs.specs.ClosedSet.{IsClosed, leaves_of, among}
 use Rattle.mesh_defs.proofs.ListLemmas.{among-in}
@@ -16,7 +14,7 @@ use Rattle.closure_laws.proofs.SizeLemmas.{length-leaves_once}
 use Rattle.edge_laws.specs.Edge.{mate_of, owner, with_square}
 use Rattle.edge_laws.specs.LeafAcross.{IsLeafOf, IsGrown}
 use Rattle.edge_laws.specs.Slots.{address_at, has_children, IsLive, split_set, room_of, IsPool, diamond_size, HasLeaf, IsSplit, IsMerge}
-use Rattle.edge_laws.proofs.MateLemmas.{mate_of-low, mate_of-back, mate_of-level}
+use Rattle.edge_laws.proofs.MateLemmas.{mate_of-low, mate_of-level}
 use Rattle.edge_laws.proofs.OwnerLemmas.{owner_cases}
 use Rattle.bintree_laws.proofs.LevelLemmas.{level_of-parent}
 use Rattle.edge_laws.proofs.IsMateLemmas.{IsMate-mate_of}
@@ -157,6 +155,11 @@ pub member_parent : (n : ℕ) (pairs : List ℕ) (a : ℕ) → IsPool n pairs �
 member_parent n pairs a pool low is_split = ⊎_elim
     (λ top. ap (has_children pairs) (let z : a / 2 ≡ 1 = omega arith in z) ∙ pool.root)
     (λ deep. set-has_children pairs (a / 2) (pool.closed.parent a (has_children-set pairs a low is_split) deep)) (cases_lt a 4)
+
+-- the pair of a live slot is in the list
+pub live_within : (pairs : List ℕ) (s : ℕ) → IsLive pairs s → s / 2 < length pairs
+live_within pairs s live = ⊎_elim (λ yes. yes)
+    (λ past. absurd (let z : get_or pairs (s / 2) 0 ≡ 0 = get_or_past pairs (s / 2) 0 past in omega arith)) (cases_lt (s / 2) (length pairs))
 
 -- the slots of a pair have the children of its triangle
 pub child_at : (pairs : List ℕ) (k a side : ℕ) → side < 2 → get_or pairs k 0 ≡ a → address_at pairs (2 * k + side) ≡ 2 * a + side

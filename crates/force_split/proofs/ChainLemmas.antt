@@ -1,19 +1,17 @@
 -- The set after the splits of a chain is the least closed one.
-use Rattle.std.proofs.Common.{◌≡◌, ◌≢◌, ap, sym, ◌∙◌, ◌⊎◌, Bool, true, false, ℕ, ◌+◌, ◌*◌, ◌/◌, ◌%◌, ◌<◌, ◌≤◌, refl, arith, inl, inr, ⊎_elim, subst, List, [], ◌∷◌, get_or}
-use Rattle.std.proofs.lemmas.Bool.{cases_eq, cases_lt, cases_Bool, true≢false}
-use Rattle.mesh_defs.specs.Triangle.{level_of, IsSplittable, IsMate}
-use Rattle.mesh_defs.specs.ClosedSet.{IsClosed, IsSubset, IsLeastClosed}
-use Rattle.mesh_defs.specs.Greedy.{with_triangle}
+use Rattle.std.proofs.Common.{◌≡◌, ◌≢◌, ap, sym, ◌∙◌, ◌⊎◌, Bool, true, false, ℕ, ◌+◌, ◌*◌, ◌/◌, ◌<◌, ◌≤◌, refl, arith, inl, inr, ⊎_elim, List, [], ◌∷◌}
+use Rattle.std.proofs.lemmas.Bool.{cases_Bool, true≢false}
+use Rattle.mesh_defs.specs.Triangle.{level_of}
+use Rattle.mesh_defs.specs.ClosedSet.{IsClosed, IsSubset}
 use Rattle.bintree_laws.proofs.LevelLemmas.{level_of-parent}
-use Rattle.edge_laws.specs.Edge.{mate_of, owner}
+use Rattle.edge_laws.specs.Edge.{mate_of}
 use Rattle.edge_laws.proofs.MateLemmas.{mate_of-back, mate_of-low, mate_of-level}
-use Rattle.edge_laws.proofs.IsMateLemmas.{IsMate-mate_of, mate_of-IsMate}
-use Rattle.edge_laws.specs.Slots.{address_at, has_children, IsLive, split_set, IsPool, IsSplit, HasLeaf}
-use Rattle.edge_laws.proofs.SlotLemmas.{parent_has_children, set-has_children, has_children-set, set_false, member_mate, same_closed}
+use Rattle.edge_laws.specs.Slots.{address_at, has_children, split_set, IsPool, HasLeaf}
+use Rattle.edge_laws.proofs.SlotLemmas.{parent_has_children, has_children-set, set_false, member_mate, same_closed}
 use Rattle.edge_laws.specs.LeafAcross.{IsGrown}
 use Rattle.edge_laws.proofs.ChainLemmas.{least_step}
 use Rattle.closure_laws.proofs.ForcingLemmas.{with-old, with-new, with-cases}
-use Rattle.force_split.specs.Chain.{IsNext, IsChain, IsForcedBy, IsLow, IsChained}
+use Rattle.force_split.specs.Chain.{IsNext, IsChain, IsLow, IsChained}
 
 -- ---- the sets along a chain
 

@@ -1,5 +1,5 @@
 -- The gain of a chain is its size.
-use Rattle.std.proofs.Common.{◌≡◌, ◌≢◌, ap, sym, ◌∙◌, ◌⊎◌, Bool, true, false, ◌||◌, cond, nat_eq, ℕ, ◌+◌, ◌*◌, ◌/◌, ◌<◌, ◌≤◌, refl, arith, inl, inr, ⊎_elim, subst, List, [], ◌∷◌, length}
+use Rattle.std.proofs.Common.{◌≡◌, ◌≢◌, ap, sym, ◌∙◌, ◌⊎◌, true, false, ◌||◌, cond, nat_eq, ℕ, ◌+◌, ◌*◌, ◌<◌, ◌≤◌, refl, arith, inl, inr, ⊎_elim, List, [], ◌∷◌, length}
 use Rattle.std.specs.List.{count_by}
 use Rattle.std.proofs.lemmas.Bool.{cases_eq, cases_lt, cases_Bool, true≢false, or_cases, or_left, or_right, eq-eqb, eqb-true, ne_eqb}
 use Rattle.mesh_defs.specs.Triangle.{level_of}
@@ -11,8 +11,8 @@ use Rattle.edge_laws.specs.LeafAcross.{IsGrown}
 use Rattle.mesh_defs.proofs.ListLemmas.{among-in}
 use Rattle.closure_laws.proofs.ClosureLemmas.{leaves_of-same, IsLeastClosed-unique}
 use Rattle.closure_laws.proofs.SizeLemmas.{length-leaves_once, length-leaves_of}
-use Rattle.edge_laws.proofs.MateLemmas.{mate_of-low, mate_of-other}
-use Rattle.edge_laws.specs.Slots.{address_at, split_set, IsPool, diamond_size}
+use Rattle.edge_laws.proofs.MateLemmas.{mate_of-other}
+use Rattle.edge_laws.specs.Slots.{address_at, split_set, IsPool}
 use Rattle.edge_laws.proofs.SlotLemmas.{size_one, size_two, members_of, among-members, members_once, same_closed, counted_cons, none_counted}
 use Rattle.force_split.specs.Chain.{IsChain, IsChained, IsGainOf, chain_size}
 use Rattle.force_split.proofs.ChainLemmas.{chained_step, chained_shut, next_coarse}

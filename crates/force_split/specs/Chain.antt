@@ -1,11 +1,11 @@
 -- The chain of splits that the split of one triangle forces.
-use Rattle.std.specs.Prelude.{◌≡◌, ℕ, ◌+◌, ◌*◌, ◌/◌, ◌<◌, ◌≤◌, ◌⊎◌, Bool, true, false, List, [], ◌∷◌, ◌++◌, length, IsNone, IfSome}
+use Rattle.std.specs.Prelude.{◌≡◌, ℕ, ◌+◌, ◌/◌, ◌≤◌, ◌⊎◌, Bool, true, List, [], ◌∷◌, ◌++◌, length, IsNone, IfSome}
 use Rattle.mesh_defs.specs.Triangle.{level_of}
 use Rattle.mesh_defs.specs.ClosedSet.{IsLeastClosed, leaves_of}
 use Rattle.mesh_defs.specs.Greedy.{with_triangle}
 use Rattle.edge_laws.specs.Edge.{mate_of}
 use Rattle.triangle_pool.specs.declared.pool.Born.{Born}
-use Rattle.edge_laws.specs.Slots.{address_at, has_children, IsLive, split_set, diamond_size, HasLeaf, IsMateLive}
+use Rattle.edge_laws.specs.Slots.{address_at, split_set, diamond_size, HasLeaf, IsMateLive}
 use Rattle.triangle_pool.specs.Answer.{AreChildren, IsBorn}
 
 -- What follows a leaf in its chain: the coarser leaf across its base, and nothing where the leaf across is as fine as

@@ -10,11 +10,11 @@ use Rattle.mesh_defs.proofs.ListLemmas.{IsIn-among, among-in}
 use Rattle.mesh_defs.specs.GridSet.{IsAscending, IsGridSet}
 use Rattle.mesh_defs.specs.Falling.{IsFalling}
 use Rattle.closure_laws.proofs.ForcingLemmas.{with-old, with-new}
-use Rattle.closure_laws.proofs.RankLemmas.{in_front, front_in, HoldsBelow, HasMissing, entry, first_is_missing}
+use Rattle.closure_laws.proofs.RankLemmas.{in_prefix, prefix_in, HoldsBelow, HasMissing, entry, first_is_missing}
 use Rattle.closure_laws.specs.Order.{RanksNoLater}
 use Rattle.closure_laws.specs.Diamond.{IsInDiamond, CanMerge}
 use Rattle.frame_steps.specs.Lead.{IsLead}
-use Rattle.closure_laws.proofs.FirstLeafLemmas.{front_subset, fewer_leaves, zeros_hold, earlier_place, exceeds}
+use Rattle.closure_laws.proofs.FirstLeafLemmas.{prefix_subset, fewer_leaves, zeros_hold, earlier_place, exceeds}
 use Rattle.frame_steps.specs.Steps.{IsSplitStep, MustMerge, too_many, makes_room, needless, IsMergeStep, HoldsChosen, AreLoose}
 use Rattle.closure_laws.proofs.DiamondLemmas.{mate_or_none, without_diamond, without_diamond-closed}
 use Rattle.closure_laws.proofs.ChangeLemmas.{forced_subset, union_closed}
@@ -40,8 +40,8 @@ holds_chosen n ranking chosen a address = ⊎_elim
     (cases_Bool (among (take chosen ranking) a))
   where
     by_case : (c : ℕ) → IsTrue (among (take chosen ranking) c) → (c ≡ a → ⊥) → (IsMate n a c → ⊥) → IsInDiamond n a c → ⊥
-    by_case c front first second (inl same) = first same
-    by_case c front first second (inr mate) = second mate
+    by_case c prefix first second (inl same) = first same
+    by_case c prefix first second (inr mate) = second mate
 
 -- the members of a closed set whose diamond holds no chosen triangle are a list
 pub loose_of : (n : ℕ) (ranking : List ℕ) (chosen : ℕ) (members : List ℕ) → IsGridSet n members → (loose : List ℕ) × AreLoose n ranking chosen members loose
@@ -66,11 +66,11 @@ module _ (n budget : ℕ) (priority : ℕ → ℕ) (ranking : List ℕ) (chosen 
 
   -- a chosen triangle by its place
   chosen_place : (c : ℕ) → IsChosen c → (i : ℕ) × (i < chosen) × (i < length ranking) × (get_or ranking i 0 ≡ c)
-  chosen_place c h = in_front chosen c ranking (IsIn-among c (take chosen ranking) h)
+  chosen_place c h = in_prefix chosen c ranking (IsIn-among c (take chosen ranking) h)
 
   -- and what stands at an early place is chosen
   place_chosen : (i c : ℕ) → i < chosen → i < length ranking → get_or ranking i 0 ≡ c → IsChosen c
-  place_chosen i c less within is = subst IsChosen is (among-in (get_or ranking i 0) (take chosen ranking) (front_in chosen i ranking less within))
+  place_chosen i c less within is = subst IsChosen is (among-in (get_or ranking i 0) (take chosen ranking) (prefix_in chosen i ranking less within))
 
   -- a chosen triangle has a positive priority
   chosen_positive : (c : ℕ) → IsChosen c → 0 < priority c
@@ -106,7 +106,7 @@ module _ (n budget : ℕ) (priority : ℕ → ℕ) (ranking : List ℕ) (chosen 
 
   -- then the chosen ones are members
   behind_hold : (has : ℕ → Bool) (f : ℕ) → IsBehind has f → IsSubset (among (take chosen ranking)) has
-  behind_hold has f b = front_subset has ranking chosen (λ i less within. let late = b.late in b.early i (omega arith) within)
+  behind_hold has f b = prefix_subset has ranking chosen (λ i less within. let late = b.late in b.early i (omega arith) within)
 
   -- and rank before it
   behind_before : (has : ℕ → Bool) (f c : ℕ) → IsBehind has f → IsChosen c → RanksBefore priority c f
@@ -195,7 +195,7 @@ module _ (n budget : ℕ) (priority : ℕ → ℕ) (ranking : List ℕ) (chosen 
           (first_leaf_cases (among before) f closed no_room.first)
       by_case (needless within zeros none) =
           let all = zeros_hold n priority ranking ranked falling (among before) closed zeros in
-          let h = held (front_subset (among before) ranking chosen (λ i less inside. all i inside inside)) in
+          let h = held (prefix_subset (among before) ranking chosen (λ i less inside. all i inside inside)) in
           let some = chosen_positive h.triangle h.is_chosen in
           let high = no_later-le (no_later h) in
           omega arith

@@ -1,14 +1,14 @@
 -- Where a frame ends, the set is the rank closure.
 use Rattle.std.proofs.Common.{◌≡◌, ℕ, ◌<◌, ◌≤◌, IsTrue, List, length, All, sym, subst, arith, ⊎_elim}
 use Rattle.mesh_defs.specs.ClosedSet.{IsClosed, leaves_of, among}
-use Rattle.mesh_defs.specs.Ranking.{RanksBefore, IsRanking, IsFrontClosure, IsRankClosure}
+use Rattle.mesh_defs.specs.Ranking.{RanksBefore, IsRanking, IsPrefixClosure, IsRankClosure}
 use Rattle.tiling_laws.proofs.DescentLemmas.{IsAddress-splittable}
 use Rattle.mesh_defs.specs.Falling.{IsFalling}
 use Rattle.closure_laws.proofs.ForcingLemmas.{with-cases}
 use Rattle.closure_laws.proofs.ClosureLemmas.{leaves_of-more}
 use Rattle.closure_laws.proofs.RankLemmas.{HasMissing, place_of, first_is_missing}
 use Rattle.frame_steps.specs.Lead.{IsLead}
-use Rattle.closure_laws.proofs.FirstLeafLemmas.{front_subset, subset_front, zeros_hold, earlier_place}
+use Rattle.closure_laws.proofs.FirstLeafLemmas.{prefix_subset, subset_prefix, zeros_hold, earlier_place}
 use Rattle.frame_steps.specs.Steps.{leaf_count, DoesNotFit, IsFinished, blocked, all_split}
 use Rattle.frame_steps.proofs.LeadLemmas.{leads_hold}
 
@@ -19,22 +19,22 @@ module _ (n : ℕ) (priority : ℕ → ℕ) (ranking : List ℕ) (ranked : IsRan
   blocked_closure budget members f closed within no_room leads =
       let found = first_is_missing n priority ranking ranked falling (among members) closed f no_room.first in
       let m : HasMissing (among members) ranking = found.0 in
-      let front : IsFrontClosure n ranking m.0 (among members) = record {
+      let prefix : IsPrefixClosure n ranking m.0 (among members) = record {
         closed = closed;
-        holds = front_subset (among members) ranking m.0 m.3;
+        holds = prefix_subset (among members) ranking m.0 m.3;
         least = λ other shut holds. leads_hold n priority (among members) closed other shut (λ d lead.
             let address = IsAddress-splittable n d (closed.splittable d lead.mergeable.member) in
             let p = earlier_place n priority ranking ranked falling m.0 d m.1 address (subst (λ z. RanksBefore priority d z) (sym found.1) (leads d lead)) in
-            subst (λ z. IsTrue (other z)) p.3 (subset_front other ranking m.0 holds p.0 p.1 p.2));
+            subst (λ z. IsTrue (other z)) p.3 (subset_prefix other ranking m.0 holds p.0 p.1 p.2));
       } in (
         m.0,
         record {
-          front = let b = m.1 in omega arith;
-          closure = front;
+          prefix = let b = m.1 in omega arith;
+          closure = prefix;
           fits = within;
           longest = λ k other more inside closure.
-              let holds = subset_front other ranking k closure.holds in
-              let old = front.least other closure.closed (front_subset other ranking m.0 (λ i less b. holds i (omega arith) b)) in
+              let holds = subset_prefix other ranking k closure.holds in
+              let old = prefix.least other closure.closed (prefix_subset other ranking m.0 (λ i less b. holds i (omega arith) b)) in
               let new : IsTrue (other f) = subst (λ z. IsTrue (other z)) found.1 (holds m.0 more m.1) in
               let sub = no_room.forced.least.least other closure.closed (λ a h. ⊎_elim
               (λ was. old a was)
@@ -51,14 +51,14 @@ module _ (n : ℕ) (priority : ℕ → ℕ) (ranking : List ℕ) (ranked : IsRan
   split_closure budget members closed within zeros leads = (
     length ranking,
     record {
-      front = omega arith;
+      prefix = omega arith;
       closure = record {
         closed = closed;
-        holds = front_subset (among members) ranking (length ranking) (zeros_hold n priority ranking ranked falling (among members) closed zeros);
+        holds = prefix_subset (among members) ranking (length ranking) (zeros_hold n priority ranking ranked falling (among members) closed zeros);
         least = λ other shut holds. leads_hold n priority (among members) closed other shut (λ d lead.
             let address = IsAddress-splittable n d (closed.splittable d lead.mergeable.member) in
             let p = place_of n priority ranking ranked falling d address (leads d lead) in
-            subst (λ z. IsTrue (other z)) p.2 (subset_front other ranking (length ranking) holds p.0 p.1 p.1));
+            subst (λ z. IsTrue (other z)) p.2 (subset_prefix other ranking (length ranking) holds p.0 p.1 p.1));
       };
       fits = within;
       longest = λ k other more inside closure. absurd (omega arith);

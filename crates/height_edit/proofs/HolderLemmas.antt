@@ -3,7 +3,7 @@
 use Rattle.std.proofs.Common.{◌≡◌, ℕ, zero, suc, ◌+◌, ◌-◌, ◌*◌, ◌^◌, ◌<◌, ◌≤◌, ◌↔◌, Bool, true, false, cond, ◌||◌, List, [], ◌∷◌, ◌++◌, length, take, All, get_or, slice_index_or, refl, sym, ap, ◌∙◌, arith, subst}
 use Rattle.std.proofs.lemmas.List.{append_assoc, append-nil, length-append}
 use Rattle.mesh_defs.specs.declared.point.Point.{Point}
-use Rattle.mesh_defs.specs.Triangle.{level_of, corners_of, child, base_triangle, IsSplittable}
+use Rattle.mesh_defs.specs.Triangle.{level_of, corners_of, child, IsSplittable}
 use Rattle.mesh_defs.specs.BoundingBox.{holds_point}
 use Rattle.bintree_laws.specs.Corners.{HasEvenBase, IsCounterclockwise}
 use Rattle.tiling_laws.proofs.OrientationLemmas.{counterclockwise}
@@ -14,16 +14,7 @@ use Rattle.std.proofs.Math.Nat.{pow-succ'}
 use Rattle.std.proofs.lemmas.Nat.{pow_pos}
 use Rattle.std.proofs.lemmas.Bool.{or_parts}
 use Rattle.bintree_laws.proofs.LevelLemmas.{pow_next}
-
--- ---- the halves of the square
-
-corners_of-2 : (n : ℕ) → corners_of n 2 ≡ base_triangle (2 ^ n) 0
-unfolding corners_of level_of
-corners_of-2 n = refl
-
-corners_of-3 : (n : ℕ) → corners_of n 3 ≡ base_triangle (2 ^ n) 1
-unfolding corners_of level_of
-corners_of-3 n = refl
+use Rattle.bintree_laws.proofs.CornerLemmas.{corners_of-2, corners_of-3}
 
 -- ---- ranges of addresses
 

@@ -1,11 +1,12 @@
 -- Triangles that an edit does not reach: all heights that they hold are as they were.
-use Rattle.std.proofs.Common.{◌≡◌, ℕ, ◌+◌, ◌*◌, ◌^◌, ◌<◌, ◌≤◌, ◌↔◌, true, false, List, ap, ◌∙◌, arith, subst}
+use Rattle.std.proofs.Common.{◌≡◌, ℕ, ◌+◌, ◌*◌, ◌^◌, ◌<◌, ◌≤◌, ◌↔◌, true, false, List, arith, subst}
 use Rattle.mesh_defs.specs.declared.point.Point.{Point}
 use Rattle.mesh_defs.specs.HeightField.{height_at}
 use Rattle.mesh_defs.specs.State.{Area, is_in_area}
 use Rattle.mesh_defs.specs.Triangle.{level_of, corners_of, IsAddress}
 use Rattle.mesh_defs.specs.BoundingBox.{holds_point, point}
 use Rattle.bintree_laws.specs.Corners.{IsWithin}
+use Rattle.bintree_laws.proofs.LatticeLemmas.{same_point}
 use Rattle.wedgie_tree.specs.Edits.{AgreesOn, IsInRectangle, MeetsArea}
 
 -- what the law functions say that is used here
@@ -31,9 +32,6 @@ AgreesOn-area laws n new old area others a address apart = λ r held.
     others r.x r.y (omega (arith, inside.right, w.apex_x, w.v0_x, w.v1_x)) (omega (arith, inside.top, w.apex_y, w.v0_y, w.v1_y))
     (λ in_area. apart (r, record { in_rectangle = inside; in_area = in_area }))
 
-same-point : (r : Point) (x y : ℕ) → r.x ≡ x → r.y ≡ y → r ≡ point x y
-same-point r x y at_x at_y = ap (λ i. point i r.y) at_x ∙ ap (λ j. point x j) at_y
-
 -- heights that changed at a point alone agree on a triangle that does not hold the point
 pub AgreesOn-point : HeldLaws → (n : ℕ) (new old : List ℕ) (x y : ℕ) →
     ((i j : ℕ) → i ≤ 2 ^ n → j ≤ 2 ^ n → (i ≡ x → j ≡ y → ⊥) → height_at n new i j ≡ height_at n old i j) →
@@ -43,4 +41,4 @@ AgreesOn-point laws n new old x y others a address apart = λ r held.
     let w : IsWithin (2 ^ n) (corners_of n a) = laws.within n a in
     others r.x r.y (omega (arith, inside.right, w.apex_x, w.v0_x, w.v1_x)) (omega (arith, inside.top, w.apex_y, w.v0_y, w.v1_y))
     (λ at_x at_y. let P : Point → Type 0 = λ q. holds_point n a q ≡ true in
-    let here : holds_point n a (point x y) ≡ true = subst P (same-point r x y at_x at_y) held in absurd (cc (here, apart)))
+    let here : holds_point n a (point x y) ≡ true = subst P (same_point r.x r.y x y at_x at_y) held in absurd (cc (here, apart)))

@@ -21,19 +21,19 @@ pub record IsRanking (n : ℕ) (priority : ℕ → ℕ) (ranking : List ℕ) : T
   pub members : (a : ℕ) → Contains ranking a ↔ (IsSplittable n a × (0 < priority a))
 
 -- the least closed set that holds the first k of the ranking
-abbrev pub IsFrontClosure : ℕ → List ℕ → ℕ → (ℕ → Bool) → Type 0
-IsFrontClosure n ranking k has = IsLeastClosed n (among (take k ranking)) has
+abbrev pub IsPrefixClosure : ℕ → List ℕ → ℕ → (ℕ → Bool) → Type 0
+IsPrefixClosure n ranking k has = IsLeastClosed n (among (take k ranking)) has
 
--- The rank closure for a budget: the closure of the longest front of the ranking whose closure has at
--- most as many leaves as the budget. The front's triangles are the chosen ones, chosen is their number.
+-- The rank closure for a budget: the closure of the longest prefix of the ranking whose closure has at
+-- most as many leaves as the budget. The prefix's triangles are the chosen ones, chosen is their number.
 pub record IsRankClosure (n budget : ℕ) (ranking : List ℕ) (chosen : ℕ) (has : ℕ → Bool) : Type 0 where
-  pub front : chosen ≤ length ranking
-  pub closure : IsFrontClosure n ranking chosen has
+  pub prefix : chosen ≤ length ranking
+  pub closure : IsPrefixClosure n ranking chosen has
   pub fits : length (leaves_of n has) ≤ budget
   pub longest : (k : ℕ) (other : ℕ → Bool) → chosen < k → k ≤ length ranking →
-      IsFrontClosure n ranking k other → budget < length (leaves_of n other)
+      IsPrefixClosure n ranking k other → budget < length (leaves_of n other)
 
 -- The first triangle that is not chosen blocks; its need is the number of leaves with it too.
 pub record IsBlockedBy (n : ℕ) (ranking : List ℕ) (chosen triangle need : ℕ) : Type 0 where
   pub next : slice_get ranking chosen ≡ Some triangle
-  pub counted : (has : ℕ → Bool) × IsFrontClosure n ranking (chosen + 1) has × (need ≡ length (leaves_of n has))
+  pub counted : (has : ℕ → Bool) × IsPrefixClosure n ranking (chosen + 1) has × (need ≡ length (leaves_of n has))

@@ -1,7 +1,7 @@
 -- Text that goes through a page: one after another, cut short, and the whole mesh.
 use Rattle.std.proofs.Common.{◌≡◌, ℕ, true, false, List, [], ◌∷◌, ◌++◌, Option, Some, refl, sym, ◌∙◌, ap, inr, append_assoc, append-nil}
 use Rattle.roam_edge.specs.MeshSink.{Mesh, begun, longer, closed}
-use Rattle.roam_edge.specs.Told.{IsFront}
+use Rattle.roam_edge.specs.Told.{IsPrefix}
 use Rattle.obj_write.specs.Page.{Passed, Broken}
 use Rattle.obj_write.specs.Written.{mesh_with, Grows, GrowsByPart, IsPartOfMesh}
 
@@ -40,7 +40,7 @@ broken-longer before now text more cut = record {
       );
 }
 
--- a front of the whole text was cut short
+-- a prefix of the whole text was cut short
 pub broken-front : (before now : Option (List Mesh)) (page text rest whole : List ℕ)
     → Broken before now (page ++ text) → text ++ rest ≡ whole → Broken before now (page ++ whole)
 broken-front before now page text rest whole cut is =
@@ -95,13 +95,13 @@ module _ (before started later : Option (List Mesh)) (prefix : List ℕ) (number
   module _ (written : Option (List Mesh)) (page : List ℕ) (lines : Passed started written [] page text) where
     -- a mesh was begun and its text passed to the page, and the rest was cut short
     pub begun-rest : ((all : List Mesh) (mesh : Mesh) → written ≡ Some (all ++ mesh ∷ [])
-        → (front : List ℕ) × IsFront front page × (later ≡ Some (all ++ longer mesh front ∷ [])))
+        → (front : List ℕ) × IsPrefix front page × (later ≡ Some (all ++ longer mesh front ∷ [])))
         → GrowsByPart before later prefix number text
     begun-rest rest = begun-cut (broken-page started written later [] page text [] text lines
         (record { meshes = rest }) (sym (append-nil text)))
 
     pub part-rest : ((all : List Mesh) (mesh : Mesh) → written ≡ Some (all ++ mesh ∷ [])
-        → (front : List ℕ) × IsFront front page × (later ≡ Some (all ++ longer mesh front ∷ [])))
+        → (front : List ℕ) × IsPrefix front page × (later ≡ Some (all ++ longer mesh front ∷ [])))
         → (all : List Mesh) → before ≡ Some all
         → (part : List Mesh) × IsPartOfMesh prefix number text part × (later ≡ Some (all ++ part))
     part-rest rest = part-cut (broken-page started written later [] page text [] text lines

@@ -156,7 +156,7 @@ fn a_mesh_is_written_as_its_text(rt: HostRuntime) -> Result<(), Fail> {
 }
 
 #[test]
-fn a_failed_call_leaves_a_front_of_the_text(rt: HostRuntime) -> Result<(), Fail> {
+fn a_failed_call_leaves_a_prefix_of_the_text(rt: HostRuntime) -> Result<(), Fail> {
     let wedges = wedges_of(rt.alloc(), &MIDDLE)?;
     let cases = [
         (MeshCall::Begin(1), 0, ""),

@@ -321,7 +321,7 @@ module _ (texts : head.TextsAreRead) (read : head.ReadTextsAreHeaders) where
   raster-place : (bytes : List ℕ) (h : Header) (at : ℕ) (rest : List ℕ) → HasHeader bytes h at rest → at ≤ 268435456
   raster-place bytes h at rest has = omega (arith, has.place, has.short)
 
-  pub law-truncated : head.PartsAreFronts → laws.CutRastersAreRefused → CutTextsAreRefused
+  pub law-truncated : head.PartsArePrefixes → laws.CutRastersAreRefused → CutTextsAreRefused
   law-truncated parts cut bytes all = truncated-law texts read bytes _
       (λ h at rest. IsCutShort (form_of h.plain h.maxval) (points_of h.n) h.maxval rest × laws.IsWithin (form_of h.plain h.maxval) (at + length rest)) (parts bytes)
       (λ h at rest has. cut (form_of h.plain h.maxval) (points_of h.n) h.maxval at rest (raster-place bytes h at rest has) (has-bytes bytes h at rest has all))

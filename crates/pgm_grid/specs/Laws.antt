@@ -6,7 +6,7 @@ use Rattle.pgm_header.specs.declared.reader.TheConstants.{MOST_HEADER_BYTES}
 use Rattle.mesh_defs.specs.HeightField.{HeightField, IsHeightField, side_of}
 use Rattle.pgm_header.specs.declared.accepted.Header.{Header}
 use Rattle.pgm_header.specs.declared.machine.HeaderValues.{HeaderValues}
-use Rattle.pgm_header.specs.HeaderText.{IsProperFront, IsUnfitAt, BeginsWithHeader}
+use Rattle.pgm_header.specs.HeaderText.{IsProperPrefix, IsUnfitAt, BeginsWithHeader}
 use Rattle.pgm_header.specs.Accepted.{IsLevel, IsMaxval}
 use Rattle.pgm_raster.specs.RasterText.{IsCutShort, IsTrailingAt, IsBadSampleAt}
 use Rattle.pgm_raster.specs.Laws.{IsWithin, IsAboveWithin, NoneIsRefused}
@@ -41,7 +41,7 @@ BadHeadersAreRefused = (bytes : List ℕ) (place : ℕ) → (grid_of bytes ≡ E
 
 -- a header is too long exactly where 65,536 bytes are a part of one
 abbrev pub LongHeadersAreRefused : Type 0
-LongHeadersAreRefused = (bytes : List ℕ) → (grid_of bytes ≡ Err HeaderTooLong) ↔ ((MOST_HEADER_BYTES ≤ length bytes) × IsProperFront (take MOST_HEADER_BYTES bytes))
+LongHeadersAreRefused = (bytes : List ℕ) → (grid_of bytes ≡ Err HeaderTooLong) ↔ ((MOST_HEADER_BYTES ≤ length bytes) × IsProperPrefix (take MOST_HEADER_BYTES bytes))
 
 -- a bad maxval exactly where a whole header has one
 abbrev pub BadMaxvalsAreRefused : Type 0
@@ -61,7 +61,7 @@ BadSidesAreRefused = (bytes : List ℕ) → (grid_of bytes ≡ Err BadSide)
 -- truncated exactly where the bytes end before their header does, or before their samples do
 abbrev pub CutTextsAreRefused : Type 0
 CutTextsAreRefused = (bytes : List ℕ) → AreBytes bytes → (grid_of bytes ≡ Err Truncated)
-    ↔ ((IsProperFront bytes × (length bytes < MOST_HEADER_BYTES))
+    ↔ ((IsProperPrefix bytes × (length bytes < MOST_HEADER_BYTES))
     ⊎ ((header : Header) × (at : ℕ) × (rest : List ℕ) × HasHeader bytes header at rest
     × (IsCutShort (form_of header.plain header.maxval) (points_of header.n) header.maxval rest × IsWithin (form_of header.plain header.maxval) (at + length rest))))
 

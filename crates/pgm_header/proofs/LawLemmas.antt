@@ -12,11 +12,11 @@ use Rattle.pgm_header.specs.declared.machine.State.{State}
 use Rattle.pgm_header.specs.declared.machine.State.TheVariants.{Start}
 use Rattle.pgm_header.specs.declared.machine.Step.{Step}
 use Rattle.pgm_header.specs.declared.machine.Step.TheVariants.{Goes, Ends, Fails}
-use Rattle.pgm_header.specs.HeaderText.{IsHeaderText, IsFront, IsProperFront, IsUnfitAt, BeginsWithHeader}
+use Rattle.pgm_header.specs.HeaderText.{IsHeaderText, IsPrefix, IsProperPrefix, IsUnfitAt, BeginsWithHeader}
 use Rattle.pgm_header.specs.Accepted.{IsLevel, IsMaxval, Accepts, judged, HeaderAnswer, Part, Whole, Bad}
 use Rattle.pgm_header.specs.Machine.{step_of}
 use Rattle.pgm_header.specs.Reading.{unfit, whole_answer, after_step, run, header_of}
-use Rattle.pgm_header.specs.Laws.{TextsAreRead, ReadTextsAreHeaders, NoTextGoesOn, PartsAreFronts, BadMagicsAreRefused, BadHeadersAreRefused, LongHeadersAreRefused, BadMaxvalsAreRefused, OblongsAreRefused, BadSidesAreRefused, ReadHeadersStand, RefusalsStand}
+use Rattle.pgm_header.specs.Laws.{TextsAreRead, ReadTextsAreHeaders, NoTextGoesOn, PartsArePrefixes, BadMagicsAreRefused, BadHeadersAreRefused, LongHeadersAreRefused, BadMaxvalsAreRefused, OblongsAreRefused, BadSidesAreRefused, ReadHeadersStand, RefusalsStand}
 use Rattle.pgm_header.proofs.MachineLemmas.{walk, walk_step, walk-append, walk_split, walked_text, walked_front, complete, front_walked}
 use Rattle.pgm_header.proofs.ReadingLemmas.{run_goes, run_long, run_ends, run_fails}
 use Rattle.pgm_header.proofs.AcceptedLemmas.{JudgedAs, judges, accepted_as, maxval_as, oblong_as, side_as}
@@ -55,7 +55,7 @@ run_over : (a : List ℕ) (s t : State) (place : ℕ) (more : List ℕ) → walk
 run_over [] s t place more w low high = absurd (omega arith)
 run_over (x ∷ a) s t place more w low high = over_on x a s t place more (step_of s x) refl (λ u e next. run_over a u t (place + 1) more e next (omega arith)) w low
 
--- From the beginning: the front of the bytes is walked over, and then comes a byte.
+-- From the beginning: the prefix of the bytes is walked over, and then comes a byte.
 
 -- the bytes, and nothing more
 of_front : (bytes : List ℕ) (t : State) → walk bytes Start ≡ Some t → length bytes < 65536 → header_of bytes ≡ Part
@@ -120,11 +120,11 @@ parse (b ∷ more) s = parse_on b more s (step_of s b) refl (λ u. parse more u)
 -- What an answer means.
 
 abbrev Means : List ℕ → HeaderAnswer → Type 0
-Means bytes Part = IsProperFront bytes × (length bytes < 65536)
+Means bytes Part = IsProperPrefix bytes × (length bytes < 65536)
 Means bytes (Whole header rest) = (text : List ℕ) × (values : HeaderValues) × IsHeaderText text values × (length text ≤ 65536) × Accepts values header × (bytes ≡ text ++ rest)
 Means bytes (Bad BadMagic) = (place : ℕ) × (place < 2) × IsUnfitAt bytes place
 Means bytes (Bad (BadHeader place)) = (2 ≤ place) × (place < 65536) × IsUnfitAt bytes place
-Means bytes (Bad HeaderTooLong) = (65536 ≤ length bytes) × IsProperFront (take 65536 bytes)
+Means bytes (Bad HeaderTooLong) = (65536 ≤ length bytes) × IsProperPrefix (take 65536 bytes)
 Means bytes (Bad BadMaxval) = (values : HeaderValues) × BeginsWithHeader bytes values × ¬ IsMaxval values.maxval
 Means bytes (Bad NotSquare) = (values : HeaderValues) × BeginsWithHeader bytes values × IsMaxval values.maxval × (values.width ≢ values.height)
 Means bytes (Bad BadSide) = (values : HeaderValues) × BeginsWithHeader bytes values × IsMaxval values.maxval × (values.width ≡ values.height)
@@ -140,14 +140,14 @@ means_whole bytes text rest v is short e (Err BadMagic) j = absurd j
 means_whole bytes text rest v is short e (Err (BadHeader at)) j = absurd j
 means_whole bytes text rest v is short e (Err HeaderTooLong) j = absurd j
 
--- a longer front of bytes that are walked over to their end, or to a stop
+-- a longer prefix of bytes that are walked over to their end, or to a stop
 means_long : (bytes front rest : List ℕ) (t : State) → bytes ≡ front ++ rest → walk front Start ≡ Some t → 65536 ≤ length front → Means bytes (header_of bytes)
 means_long bytes front rest t e w long =
     let cut : take 65536 bytes ≡ take 65536 front = ap (take 65536) e ∙ take-append-le 65536 front rest long in
     let parts = walk_split (take 65536 front) (drop 65536 front) Start t (ap (λ (x : List ℕ). walk x Start) (take-append-drop 65536 front) ∙ w) in
     let size : length bytes ≡ length front + length rest = ap length e ∙ length-append front rest in
     subst (Means bytes) (sym (of_long bytes front rest t e w long))
-    (omega arith, subst IsProperFront (sym cut) (walked_front (take 65536 front) parts.0 parts.1))
+    (omega arith, subst IsProperPrefix (sym cut) (walked_front (take 65536 front) parts.0 parts.1))
 
 -- Where a walk stops.
 
@@ -200,7 +200,7 @@ means_stop bytes front rest b t Fails e cut w short stops =
     subst (Means bytes) (sym (of_unfit bytes front rest b t cut w short e))
     (means_unfit bytes (length front) short (record {
       within = omega (arith, ap length cut, length-append front (b ∷ rest));
-      good = subst IsProperFront (sym before) (walked_front front t w);
+      good = subst IsProperPrefix (sym before) (walked_front front t w);
       bad = λ is. no_front front b t is.0 is.1 w e (subst (λ (x : List ℕ). IsHeaderText (x ++ is.0) is.1) upto is.2);
     }))
 
@@ -234,9 +234,9 @@ back_unfit_on : (bytes : List ℕ) (k b : ℕ) (rest : List ℕ) (t : State) (r 
 back_unfit_on bytes k b rest t (Goes u) e cut upto w short wrong =
     let more : walk (take k bytes ++ b ∷ []) Start ≡ Some u = walk-append (take k bytes) (b ∷ []) Start t w ∙ walk_step t u b [] e in
     let proper = walked_front (take k bytes ++ b ∷ []) u more in
-    absurd (wrong.bad (subst IsFront (sym upto) (proper.0, proper.1, proper.3)))
+    absurd (wrong.bad (subst IsPrefix (sym upto) (proper.0, proper.1, proper.3)))
 back_unfit_on bytes k b rest t (Ends v) e cut upto w short wrong =
-    absurd (wrong.bad (subst IsFront (sym upto)
+    absurd (wrong.bad (subst IsPrefix (sym upto)
     ([], v, subst (λ (x : List ℕ). IsHeaderText x v) (sym (append-nil (take k bytes ++ b ∷ []))) (walked_text (take k bytes) t b v w e))))
 back_unfit_on bytes k b rest t Fails e cut upto w short wrong =
     let size : length (take k bytes) ≡ k = length-take-le k bytes (omega (arith, wrong.within)) in
@@ -269,7 +269,7 @@ no_more text (x ∷ more) v o is other =
 pub prefix_free : NoTextGoesOn
 prefix_free = no_more
 
-pub parts : PartsAreFronts
+pub parts : PartsArePrefixes
 parts = λ bytes. (λ e. subst (Means bytes) e (means bytes), λ w. let t = front_walked bytes w.0 in of_front bytes t.0 t.1 w.1)
 
 pub bad_magics : BadMagicsAreRefused

@@ -19,7 +19,7 @@ use Rattle.pgm_header.specs.declared.machine.State.TheVariants.{Start, Letter, N
 use Rattle.pgm_header.specs.declared.machine.Step.{Step}
 use Rattle.pgm_header.specs.declared.machine.Step.TheVariants.{Goes, Ends, Fails}
 use Rattle.pgm_header.specs.HeaderText as text
-use Rattle.pgm_header.specs.HeaderText.{GapItem, item_bytes, is_comment_text, is_item, IsGap, IsNumberText, magic_text, IsHeaderText, IsFront, IsProperFront}
+use Rattle.pgm_header.specs.HeaderText.{GapItem, item_bytes, is_comment_text, is_item, IsGap, IsNumberText, magic_text, IsHeaderText, IsPrefix, IsProperPrefix}
 use Rattle.pgm_header.specs.Machine.{number_ended, step_of}
 
 -- Gaps.
@@ -194,7 +194,7 @@ pub walk-append : (a b : List ℕ) (s t : State) → walk a s ≡ Some t → wal
 walk-append [] b s t e = let same : s ≡ t = cc in ap (walk b) same
 walk-append (x ∷ a) b s t e = append_on (step_of s x) a b t (λ u. walk-append a b u t) e
 
--- a walk over a front
+-- a walk over a prefix
 split_on : (r : Step) (a b : List ℕ) (u : State) → ((s : State) → walk (a ++ b) s ≡ Some u → (t : State) × (walk a s ≡ Some t) × (walk b t ≡ Some u)) → walk_on r (λ s. walk (a ++ b) s) ≡ Some u
     → (t : State) × (walk_on r (λ s. walk a s) ≡ Some t) × (walk b t ≡ Some u)
 split_on (Goes s) a b u again e = again s e
@@ -239,8 +239,8 @@ finish (Gap f) = let r = finish_number f 1 1 in (49 ∷ r.0, r.1, r.2, r.3, r.4)
 finish (Comment f) = let r = finish_number f 1 1 in (10 ∷ 49 ∷ r.0, r.1, r.2, r.3, r.4)
 finish (Number f k v) = finish_number f k v
 
--- the bytes of a walk from the start are a proper front of a header's text
-pub walked_front : (bytes : List ℕ) (t : State) → walk bytes Start ≡ Some t → IsProperFront bytes
+-- the bytes of a walk from the start are a proper prefix of a header's text
+pub walked_front : (bytes : List ℕ) (t : State) → walk bytes Start ≡ Some t → IsProperPrefix bytes
 walked_front bytes t e =
     let r = finish t in
     let whole : walk (bytes ++ r.0) Start ≡ Some r.1 = walk-append bytes r.0 Start t e ∙ r.3 in
@@ -352,8 +352,8 @@ complete bytes v t =
       ends = white_after height (length t.maxval_text) v.maxval t.last t.is_last;
     }
 
--- a proper front of a header's text is walked over
-pub front_walked : (bytes : List ℕ) → IsProperFront bytes → (t : State) × (walk bytes Start ≡ Some t)
+-- a proper prefix of a header's text is walked over
+pub front_walked : (bytes : List ℕ) → IsProperPrefix bytes → (t : State) × (walk bytes Start ≡ Some t)
 front_walked bytes w =
     let c = complete (bytes ++ w.0) w.1 w.3 in
     let size : length bytes + length w.0 ≡ length c.front + 1 = sym (length-append bytes w.0) ∙ ap length c.text ∙ length_push c.front c.last in

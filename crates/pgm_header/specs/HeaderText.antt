@@ -3,7 +3,7 @@
 -- a number has at most nine digits are this project's own.
 --
 -- Words: GapItem, item_bytes, is_comment_text, is_item, IsGap,
--- IsNumberText, magic_text, IsHeaderText, comment_line, written_header, IsFront, IsProperFront, IsUnfitAt,
+-- IsNumberText, magic_text, IsHeaderText, comment_line, written_header, IsPrefix, IsProperPrefix, IsUnfitAt,
 -- BeginsWithHeader.
 use Rattle.std.specs.Prelude.{◌≡◌, ℕ, ◌+◌, ◌<◌, ◌≤◌, Bool, true, false, ◌&&◌, not, IsTrue, List, [], ◌∷◌, ◌++◌, length, take}
 use Rattle.std.specs.Char.{is_ascii_digit}
@@ -83,19 +83,19 @@ written_header values comments =
     magic_text values.plain
     ++ ((10 ∷ flat_map comment_line comments) ++ (decimal values.width ++ (32 ∷ [] ++ (decimal values.height ++ (10 ∷ [] ++ (decimal values.maxval ++ 10 ∷ []))))))
 
--- the bytes are a front of the text of a header, or the whole of it
-abbrev pub IsFront : List ℕ → Type 0
-IsFront bytes = (rest : List ℕ) × (values : HeaderValues) × IsHeaderText (bytes ++ rest) values
+-- the bytes are a prefix of the text of a header, or the whole of it
+abbrev pub IsPrefix : List ℕ → Type 0
+IsPrefix bytes = (rest : List ℕ) × (values : HeaderValues) × IsHeaderText (bytes ++ rest) values
 
--- the bytes are a front of the text of a header, and not the whole of it
-abbrev pub IsProperFront : List ℕ → Type 0
-IsProperFront bytes = (rest : List ℕ) × (values : HeaderValues) × (0 < length rest) × IsHeaderText (bytes ++ rest) values
+-- the bytes are a prefix of the text of a header, and not the whole of it
+abbrev pub IsProperPrefix : List ℕ → Type 0
+IsProperPrefix bytes = (rest : List ℕ) × (values : HeaderValues) × (0 < length rest) × IsHeaderText (bytes ++ rest) values
 
 -- the byte at this place is the first that continues no header
 pub record IsUnfitAt (bytes : List ℕ) (place : ℕ) : Type 0 where
   pub within : place < length bytes
-  pub good : IsProperFront (take place bytes)
-  pub bad : IsFront (take (place + 1) bytes) → ⊥
+  pub good : IsProperPrefix (take place bytes)
+  pub bad : IsPrefix (take (place + 1) bytes) → ⊥
 
 -- the bytes begin with a header's text of at most `MOST_HEADER_BYTES`, which has these values
 pub record BeginsWithHeader (bytes : List ℕ) (values : HeaderValues) : Type 0 where

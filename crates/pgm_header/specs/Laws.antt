@@ -7,7 +7,7 @@ use Rattle.pgm_header.specs.declared.machine.HeaderValues.{HeaderValues}
 use Rattle.pgm_header.specs.declared.accepted.Header.{Header}
 use Rattle.pgm_header.specs.declared.fault.HeaderFault.{HeaderFault}
 use Rattle.pgm_header.specs.declared.fault.HeaderFault.TheVariants.{BadMagic, BadHeader, HeaderTooLong, BadMaxval, NotSquare, BadSide}
-use Rattle.pgm_header.specs.HeaderText.{is_comment_text, IsHeaderText, written_header, IsProperFront, IsUnfitAt, BeginsWithHeader}
+use Rattle.pgm_header.specs.HeaderText.{is_comment_text, IsHeaderText, written_header, IsProperPrefix, IsUnfitAt, BeginsWithHeader}
 use Rattle.pgm_header.specs.Accepted.{IsLevel, IsMaxval, Accepts, Part, Whole, Bad}
 use Rattle.pgm_header.specs.Reading.{header_of}
 
@@ -31,9 +31,9 @@ abbrev pub NoTextGoesOn : Type 0
 NoTextGoesOn = (text more : List ℕ) (values others : HeaderValues) → IsHeaderText text values → IsHeaderText (text ++ more) others
     → (more ≡ []) × (others ≡ values)
 
--- bytes are a part of a header exactly where they are a proper front of one, and fewer than `MOST_HEADER_BYTES`
-abbrev pub PartsAreFronts : Type 0
-PartsAreFronts = (bytes : List ℕ) → (header_of bytes ≡ Part) ↔ (IsProperFront bytes × (length bytes < MOST_HEADER_BYTES))
+-- bytes are a part of a header exactly where they are a proper prefix of one, and fewer than `MOST_HEADER_BYTES`
+abbrev pub PartsArePrefixes : Type 0
+PartsArePrefixes = (bytes : List ℕ) → (header_of bytes ≡ Part) ↔ (IsProperPrefix bytes × (length bytes < MOST_HEADER_BYTES))
 
 -- a bad magic is answered exactly where the first or the second byte continues no header
 abbrev pub BadMagicsAreRefused : Type 0
@@ -43,9 +43,9 @@ BadMagicsAreRefused = (bytes : List ℕ) → (header_of bytes ≡ Bad BadMagic) 
 abbrev pub BadHeadersAreRefused : Type 0
 BadHeadersAreRefused = (bytes : List ℕ) (place : ℕ) → (header_of bytes ≡ Bad (BadHeader place)) ↔ ((2 ≤ place) × (place < MOST_HEADER_BYTES) × IsUnfitAt bytes place)
 
--- a header is too long exactly where as many bytes as it may have are a proper front of one
+-- a header is too long exactly where as many bytes as it may have are a proper prefix of one
 abbrev pub LongHeadersAreRefused : Type 0
-LongHeadersAreRefused = (bytes : List ℕ) → (header_of bytes ≡ Bad HeaderTooLong) ↔ ((MOST_HEADER_BYTES ≤ length bytes) × IsProperFront (take MOST_HEADER_BYTES bytes))
+LongHeadersAreRefused = (bytes : List ℕ) → (header_of bytes ≡ Bad HeaderTooLong) ↔ ((MOST_HEADER_BYTES ≤ length bytes) × IsProperPrefix (take MOST_HEADER_BYTES bytes))
 
 -- the maxval is tested first
 abbrev pub BadMaxvalsAreRefused : Type 0

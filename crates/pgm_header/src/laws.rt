@@ -1,6 +1,6 @@
 //! What the bytes mean that a reader takes.
 
-ghost use Rattle.pgm_header.specs.Laws.{TextsAreRead, ReadTextsAreHeaders, WrittenHeadersAreTexts, NoTextGoesOn, PartsAreFronts, BadMagicsAreRefused, BadHeadersAreRefused, LongHeadersAreRefused, BadMaxvalsAreRefused, OblongsAreRefused, BadSidesAreRefused, ReadHeadersStand, RefusalsStand, PartsAreRefusable};
+ghost use Rattle.pgm_header.specs.Laws.{TextsAreRead, ReadTextsAreHeaders, WrittenHeadersAreTexts, NoTextGoesOn, PartsArePrefixes, BadMagicsAreRefused, BadHeadersAreRefused, LongHeadersAreRefused, BadMaxvalsAreRefused, OblongsAreRefused, BadSidesAreRefused, ReadHeadersStand, RefusalsStand, PartsAreRefusable};
 
 /// States what `header_of` answers, in the words of the format. It does nothing.
 pub fn header_laws()
@@ -8,7 +8,7 @@ pub fn header_laws()
     ensures read { ReadTextsAreHeaders }
     ensures written { WrittenHeadersAreTexts }
     ensures prefix_free { NoTextGoesOn }
-    ensures part { PartsAreFronts }
+    ensures part { PartsArePrefixes }
     ensures part_refusable { PartsAreRefusable }
     ensures bad_magic { BadMagicsAreRefused }
     ensures bad_header { BadHeadersAreRefused }

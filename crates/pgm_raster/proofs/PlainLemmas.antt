@@ -32,7 +32,7 @@ plain-long l index digits at (byte ∷ bytes) here some = cond-true _ _ _ (eq-eq
 
 -- ---- a piece that goes beyond the most bytes that a file has
 
--- its front is refused
+-- its prefix is refused
 pub front-refused : (l : Limits) (old : List ℕ) (index : ℕ) (digits : Digits) (at n : ℕ) (piece : List ℕ) (fault : RasterFault) → ((more : List ℕ) → after old (plain_from l index digits at (take n piece ++ more)) ≡ Err fault)
     → (more : List ℕ) → after old (plain_from l index digits at (piece ++ more)) ≡ Err fault
 front-refused l old index digits at n piece fault front more =
@@ -40,7 +40,7 @@ front-refused l old index digits at n piece fault front more =
     ∙ ap (λ (s : List ℕ). after old (plain_from l index digits at s)) (append_assoc (take n piece) (drop n piece) more)
     ∙ front (drop n piece ++ more)
 
--- its front is accepted
+-- its prefix is accepted
 pub front-long : (l : Limits) (old new : List ℕ) (index i : ℕ) (digits next : Digits) (at n : ℕ) (piece : List ℕ) → n < length piece → at + n ≡ most_bytes
     → ((more : List ℕ) → after old (plain_from l index digits at (take n piece ++ more)) ≡ after new (plain_from l i next (at + length (take n piece)) more))
     → (more : List ℕ) → after old (plain_from l index digits at (piece ++ more)) ≡ Err TooLong

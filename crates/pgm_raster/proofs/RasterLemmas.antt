@@ -104,7 +104,7 @@ pub bytes-full : (l : Limits) (index at : ℕ) (bytes more : List ℕ) → l.cou
 bytes-full l index at [] more full some = absurd (omega arith)
 bytes-full l index at (byte ∷ bytes) more full some = cond-false _ _ _ (le-ltb index l.count full)
 
--- a front of a piece was added
+-- a prefix of a piece was added
 pub bytes-front : (l : Limits) (old new piece : List ℕ) (at n : ℕ) → n ≤ length piece → length old + n ≤ l.count → Pushes l old (take n piece) new → length new ≡ length old + n → (more : List ℕ)
     → after old (bytes_from l (length old) at (piece ++ more)) ≡ after new (bytes_from l (length new) (at + n) (drop n piece ++ more))
 bytes-front l old new piece at n short room step long more =

@@ -1,3 +1,3 @@
-mod FrontLemmas
+mod PrefixLemmas
 mod PickLemmas
 mod StopLemmas

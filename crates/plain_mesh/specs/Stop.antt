@@ -15,7 +15,7 @@ pub record IsOver (n budget : ℕ) (before : List ℕ) (t need : ℕ) : Type 0 w
   pub counted : need ≡ length (leaves_of n (among after))
   pub over : budget < need
 
--- the closure of the longest front that fits, the priority of the next entry or 0, and that entry or none
+-- the closure of the longest prefix that fits, the priority of the next entry or 0, and that entry or none
 pub record IsStop (n budget : ℕ) (ranks : List Rank) (members : List ℕ) (worst : ℕ) (blocked : Option Blocked) : Type 0 where
   pub chosen : ℕ
   pub closure : IsRankClosure n budget (triangles_of ranks) chosen (among members)

@@ -1,6 +1,6 @@
 -- What a sink of meshes tells, and what its calls do. This project's own words.
 use Rattle.std.specs.Prelude.{◌≡◌, ℕ, Bool, true, false, List, [], ◌∷◌, ◌++◌, Option, Some, Result, OnOk, OnErr}
-use Rattle.roam_edge.specs.Told.{StaysTold, IsFront}
+use Rattle.roam_edge.specs.Told.{StaysTold, IsPrefix}
 
 -- a mesh of a sink: the prefix of its name, its number, its bytes so far, and whether it is finished
 pub record Mesh : Type 0 where
@@ -27,12 +27,12 @@ pub record Begins {T E : Type 0} (before now : Option (List Mesh)) (name : List 
   pub failed : OnErr answer (now ≡ before)
   pub told : StaysTold before now
 
--- writing appends the piece to the last mesh, and failing appends a front of it
+-- writing appends the piece to the last mesh, and failing appends a prefix of it
 pub record Writes {T E : Type 0} (before now : Option (List Mesh)) (piece : List ℕ) (answer : Result T E) : Type 0 where
   pub ok : OnOk answer ((all : List Mesh) (mesh : Mesh) → before ≡ Some (all ++ mesh ∷ [])
       → now ≡ Some (all ++ longer mesh piece ∷ []))
   pub failed : OnErr answer ((all : List Mesh) (mesh : Mesh) → before ≡ Some (all ++ mesh ∷ [])
-      → (front : List ℕ) × IsFront front piece × (now ≡ Some (all ++ longer mesh front ∷ [])))
+      → (front : List ℕ) × IsPrefix front piece × (now ≡ Some (all ++ longer mesh front ∷ [])))
   pub told : StaysTold before now
 
 -- finishing marks the last mesh as finished, and failing leaves all as before

@@ -6,7 +6,7 @@ use Rattle.std.specs.Prelude.{◌≡◌, List, ℕ, ◌++◌, Option, is_some}
 abbrev pub StaysTold : {A : Type 0} → Option A → Option A → Type 0
 StaysTold before now = is_some now ≡ is_some before
 
--- the bytes of `front` are the first of `whole`
-pub record IsFront (front whole : List ℕ) : Type 0 where
+-- the bytes of `prefix` are the first of `whole`
+pub record IsPrefix (prefix whole : List ℕ) : Type 0 where
   pub back : List ℕ
-  pub joined : whole ≡ front ++ back
+  pub joined : whole ≡ prefix ++ back

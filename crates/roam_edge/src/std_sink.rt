@@ -58,7 +58,7 @@ pub(crate) fn write_all<W: Write>(
     Ok(())
 }
 
-/// Hands a front of the piece to the writer, and answers its length, which is not 0.
+/// Hands a prefix of the piece to the writer, and answers its length, which is not 0.
 fn write_some<W: Write>(writer: &mut W, piece: &[u8]) -> Result<usize, Failed>
     ensures size { IfOk result (λ k. (0 < k) × (k ≤ length piece.now)) }
     ensures bytes { AppendsSome (W.contents writer.old) (W.contents writer.new) piece.now result }

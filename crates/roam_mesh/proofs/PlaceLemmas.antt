@@ -1,31 +1,23 @@
 -- The slot of an address, the address of a slot, and what is kept of either.
-use Rattle.std.proofs.Common.{◌≡◌, ℕ, ◌*◌, ◌/◌, ◌%◌, ◌<◌, ◌≤◌, true, cond, nat_eq, eqb, eq-eqb, List, length, get_or, slice_index_or, slice_set, refl, sym, ◌∙◌, ap, subst, arith, inl, inr, ⊎_elim, set, get_or-set_other, get_or-set_same}
+use Rattle.std.proofs.Common.{◌≡◌, ℕ, ◌*◌, ◌/◌, ◌%◌, ◌<◌, ◌≤◌, true, cond, nat_eq, eqb, eq-eqb, List, length, get_or, slice_index_or, slice_set, refl, sym, ◌∙◌, ap, subst, arith, inl, inr, set, get_or-set_other, get_or-set_same}
 use Rattle.std.specs.List.{position_or_len}
-use Rattle.std.proofs.lemmas.Bool.{cases_lt, cases_eq, eqb-true, ne_eqb, false_from_ne_true}
+use Rattle.std.proofs.lemmas.Bool.{cases_eq, eqb-true, ne_eqb, false_from_ne_true}
 use Rattle.std.proofs.lemmas.List.Sums.{position_or_len_is, passes_at_first}
-use Rattle.std.proofs.lemmas.List.{get_or_past}
 use Rattle.edge_laws.specs.Slots.{address_at, has_children, IsLive, IsPool}
-use Rattle.edge_laws.proofs.SlotLemmas.{pair_one, slot_of as pair_slot, member_parent, parent_has_children}
+use Rattle.edge_laws.proofs.SlotLemmas.{live_within, pair_one, slot_of as pair_slot, member_parent, parent_has_children}
 use Rattle.closure_laws.proofs.ClosureLemmas.{same_tests}
 use Rattle.roam_mesh.specs.Mesh.{slot_of}
 use Rattle.roam_mesh.specs.Parts.{blank}
 use Rattle.roam_mesh.specs.declared.entry.Entry.{Entry}
 
--- the pair of a live slot is in the list
-live_pair : (pairs : List ℕ) (s : ℕ) → IsLive pairs s → s / 2 < length pairs
-live_pair pairs s live = ⊎_elim
-    (λ (below : s / 2 < length pairs). below)
-    (λ (past : length pairs ≤ s / 2). absurd (let none : get_or pairs (s / 2) 0 ≡ 0 = get_or_past pairs (s / 2) 0 past in omega arith))
-    (cases_lt (s / 2) (length pairs))
-
--- so there is a place for it
+-- there is a place for a live slot
 pub live_below : (pairs : List ℕ) (s : ℕ) → IsLive pairs s → s < 2 * length pairs
-live_below pairs s live = let within = live_pair pairs s live in omega arith
+live_below pairs s live = let within = live_within pairs s live in omega arith
 
 -- the slot of the address of a live slot is that slot
 pub slot_of-at : (n : ℕ) (pairs : List ℕ) (s : ℕ) → IsPool n pairs → IsLive pairs s → slot_of pairs (address_at pairs s) ≡ s
 slot_of-at n pairs s pool live =
-    let within = live_pair pairs s live in
+    let within = live_within pairs s live in
     let half : address_at pairs s / 2 ≡ get_or pairs (s / 2) 0 = omega arith in
     let place : position_or_len (λ p. eqb p (address_at pairs s / 2)) pairs ≡ s / 2 = position_or_len_is (λ p. eqb p (address_at pairs s / 2)) pairs (s / 2) 0 (omega arith)
     (λ k less. false_from_ne_true (eqb (get_or pairs k 0) (address_at pairs s / 2)) (λ same.
@@ -42,7 +34,7 @@ pub at-slot_of : (pairs : List ℕ) (s a : ℕ) → IsLive pairs s → slot_of p
 at-slot_of pairs s a live at =
     let at_half : position_or_len (λ p. eqb p (a / 2)) pairs ≡ s / 2 = omega arith in
     let same_side : s % 2 ≡ a % 2 = omega arith in
-    let within = live_pair pairs s live in
+    let within = live_within pairs s live in
     let passes : eqb (get_or pairs (position_or_len (λ p. eqb p (a / 2)) pairs) 0) (a / 2) ≡ true =
     passes_at_first (λ p. eqb p (a / 2)) pairs 0 (subst (λ z. z < length pairs) (sym at_half) within) in
     let parent : get_or pairs (s / 2) 0 ≡ a / 2 =

@@ -1,16 +1,16 @@
 -- The roles of slots, and the leaves and diamonds of the pool's set.
-use Rattle.std.proofs.Common.{◌≡◌, ℕ, zero, suc, ◌+◌, ◌*◌, ◌/◌, ◌^◌, ◌<◌, ◌≤◌, ◌⊎◌, ◌||◌, ◌&&◌, true, false, not, nat_eq, nat_le, inl, inr, List, Contains, length, get_or, min, refl, sym, ◌∙◌, ap, subst, arith, ⊎_elim, Bool, eqb, nat_lt}
+use Rattle.std.proofs.Common.{◌≡◌, ℕ, zero, suc, ◌+◌, ◌*◌, ◌/◌, ◌^◌, ◌≤◌, ◌⊎◌, ◌||◌, ◌&&◌, true, false, not, nat_eq, nat_le, inl, inr, List, Contains, length, get_or, min, refl, sym, ◌∙◌, ap, subst, arith, ⊎_elim, Bool, eqb, nat_lt}
 use Rattle.std.specs.List.{range_with_len}
 use Rattle.std.proofs.lemmas.Bool.{cases_lt, both_ways, and_parts, and_from, or_cases, or_left, or_right, leb-true, le-leb, not-true, not_from_false, not_from_true, and_right, eqb-true, eq-eqb, lt-ltb, false_from_ne_true, or_parts, or_from}
 use Rattle.mesh_defs.specs.Triangle.{IsMate, level_of}
 use Rattle.mesh_defs.specs.ClosedSet.{leaves_of, among}
-use Rattle.mesh_defs.specs.GridSet.{IsGridSet, IsAscending}
-use Rattle.mesh_defs.proofs.ListLemmas.{IsIn, among-in}
+use Rattle.mesh_defs.specs.GridSet.{IsGridSet}
+use Rattle.mesh_defs.proofs.ListLemmas.{among-in}
 use Rattle.bintree_laws.proofs.LevelLemmas.{splittable-below}
 use Rattle.tiling_laws.proofs.DescentLemmas.{IsAddress-level}
 use Rattle.closure_laws.specs.Diamond.{IsInDiamond, CanMerge}
 use Rattle.closure_laws.proofs.ClosureLemmas.{same_tests, leaves_of-same}
-use Rattle.closure_laws.proofs.SetListLemmas.{All-in, among-filter, filter-among, ascending-filter}
+use Rattle.closure_laws.proofs.SetListLemmas.{among-filter, filter-among, ascending-filter, in-range, ascending-range}
 use Rattle.closure_laws.proofs.LeafLemmas.{leaf-where}
 use Rattle.closure_laws.proofs.RankLemmas.{at_place}
 use Rattle.edge_laws.specs.Edge.{mate_of}
@@ -27,26 +27,6 @@ use Rattle.roam_mesh.specs.Mesh.{slot_of, members_of}
 use Rattle.roam_mesh.specs.Parts.{is_leaf_at, is_bare, is_ready, is_ready_at, is_chief_at, is_entry_at, is_out}
 use Rattle.roam_mesh.specs.Change.{chief_slot}
 use Rattle.roam_mesh.proofs.PlaceLemmas.{address-slot_of}
-
--- the numbers from low on, so many of them
-in-range : (low count a : ℕ) → low ≤ a → a < low + count → IsIn a (range_with_len low count)
-in-range low zero a first last = absurd (omega arith)
-in-range low (suc count) a first last = ⊎_elim
-    (λ more. inr (in-range (low + 1) count a (omega arith) (omega arith)))
-    (λ (less : a ≤ low). inl (let e : low ≡ a = omega arith in e))
-    (cases_lt low a)
-
-range-low : (low count a : ℕ) → IsIn a (range_with_len low count) → low ≤ a
-range-low low zero a h = absurd h
-range-low low (suc count) a (inl e) = omega arith
-range-low low (suc count) a (inr h) = let r = range-low (low + 1) count a h in omega arith
-
-ascending-range : (low count : ℕ) → IsAscending (range_with_len low count)
-ascending-range low zero = tt
-ascending-range low (suc count) = (
-  All-in (λ y. low < y) (range_with_len (low + 1) count) (λ a h. let r = range-low (low + 1) count a h in omega arith),
-  ascending-range (low + 1) count,
-)
 
 -- the listed members are the pool's set
 pub among-members : (pool : PoolState) (a : ℕ) → IsPool pool.n pool.pairs → among (members_of pool) a ≡ split_set pool.pairs a

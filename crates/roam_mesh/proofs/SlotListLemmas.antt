@@ -89,12 +89,12 @@ pub all_after : (P : ℕ → Type 0) (xs ys : List ℕ) → AllByRecursion P (xs
 all_after P [] ys all = all
 all_after P (x ∷ xs) ys all = all_after P xs ys all.1
 
--- what holds of a list holds of its front and of its last
+-- what holds of a list holds of its prefix and of its last
 all_front : (P : ℕ → Type 0) (xs : List ℕ) (y : ℕ) → AllByRecursion P (xs ++ (y ∷ [])) → AllByRecursion P xs × P y
 all_front P [] y all = (tt, all.0)
 all_front P (x ∷ xs) y all = let rest = all_front P xs y all.1 in ((all.0, rest.0), rest.1)
 
--- the front of a distinct list is distinct, and does not have the last
+-- the prefix of a distinct list is distinct, and does not have the last
 pub distinct_front : (rest : List ℕ) (s : ℕ) → IsDistinct nat_eq (rest ++ (s ∷ [])) → IsDistinct nat_eq rest × (among rest s ≡ false)
 unfolding IsDistinct
 distinct_front [] s distinct = (tt, refl)

@@ -28,7 +28,7 @@ not_digits bs i h refused all = let r = digit_at bs i (own.to bs all) h in grind
 pub digit-value : (c : ℕ) → is_ascii_digit c ≡ true → (digit_value c ≡ c - 48) × (digit_value c < 10)
 digit-value c h = grind arith
 
--- the number of a front of at most 19 digits leaves room for one more digit in 64 bits
+-- the number of a prefix of at most 19 digits leaves room for one more digit in 64 bits
 pub small_front : (bs : List ℕ) (i : ℕ) → i < length bs → length bs ≤ 19 → AllDigits 10 (take i bs) → digits_value 10 (take i bs) < 10 ^ 18
 small_front bs i h short all =
     let below = digits_value-lt 10 (take i bs) all in

@@ -2,7 +2,7 @@
 use Rattle.std.proofs.Common.{◌≡◌, ℕ, ◌+◌, true, List, [], ◌∷◌, ◌++◌, Option, Some, Ok, Err, ◌∙◌, ap, subst, length}
 use Rattle.mesh_defs.specs.State.{State, text_in}
 use Rattle.roam_edge.specs.MeshSink.{Mesh}
-use Rattle.roam_edge.specs.Told.{IsFront}
+use Rattle.roam_edge.specs.Told.{IsPrefix}
 use Rattle.obj_write.specs.Written.{mesh_with, Grows, IsPartOfMesh}
 use Rattle.run_laws.specs.Words.{AsMeshes}
 use Rattle.run_laws.specs.Picture.{Picture, triangles_of}
@@ -29,7 +29,7 @@ module _ (meshes meshes' : Option (List Mesh)) (report : Option (List ℕ)) (pre
 module _ (meshes meshes' : Option (List Mesh)) (report report' : Option (List ℕ)) (prefix : List ℕ) (number : ℕ) (picture : Picture) (text : List ℕ)
     (is : text ≡ text_in picture.state (triangles_of picture)) (whole : Grows meshes meshes' (mesh_with prefix number text true ∷ [])) where
   -- the line of a frame was cut short
-  pub cut-frame-line : ((all : List ℕ) → report ≡ Some all → (front : List ℕ) × IsFront front (frame_line number picture) × (report' ≡ Some (all ++ front)))
+  pub cut-frame-line : ((all : List ℕ) → report ≡ Some all → (front : List ℕ) × IsPrefix front (frame_line number picture) × (report' ≡ Some (all ++ front)))
       → IsCutShort (told meshes report) (told meshes' report') (picture_acts (AsMeshes prefix) number picture)
   cut-frame-line part =
       let P : List ℕ → Type 0 = λ t. Grows meshes meshes' (mesh_with prefix number t true ∷ []) in

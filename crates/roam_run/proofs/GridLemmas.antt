@@ -7,7 +7,7 @@ use Rattle.mesh_defs.specs.State.{State, start_state}
 use Rattle.roam_edge.specs.Fault.{next_count}
 use Rattle.roam_edge.specs.MeshSink.{Mesh}
 use Rattle.roam_edge.specs.Shelf.{NamedFile, bytes_of}
-use Rattle.roam_edge.specs.Told.{IsFront}
+use Rattle.roam_edge.specs.Told.{IsPrefix}
 use Rattle.pgm_grid.specs.declared.fault.PgmFault.{PgmFault}
 use Rattle.pgm_grid.specs.Progress.{grid_of}
 use Rattle.run_laws.specs.declared.status.Status.{Status}
@@ -40,7 +40,7 @@ next_count-two before middle now low is more =
 
 -- the last text of a run was cut short
 pub text-cut : (meshes : Option (List Mesh)) (report report' : Option (List ℕ)) (text : List ℕ) (status : Status) (files : ℕ)
-    → ((all : List ℕ) → report ≡ Some all → (front : List ℕ) × IsFront front text × (report' ≡ Some (all ++ front)))
+    → ((all : List ℕ) → report ≡ Some all → (front : List ℕ) × IsPrefix front text × (report' ≡ Some (all ++ front)))
     → DoesAs (told meshes report) (told meshes report') (text_outcome text status files) ends.WriteFault
 text-cut meshes report report' text status files part =
     record { complete = λ e. cc; cut_short = λ e. cut-only-line meshes report report' text [] part }

@@ -15,7 +15,7 @@ use Rattle.roam_run.specs.declared.grid_file.GridStop.{GridStop}
 use Rattle.roam_run.specs.declared.grid_file.GridStop.TheVariants as stop
 use Rattle.roam_run.specs.GridStop.{stop_for, StopsUndecided}
 
--- The reader has taken some bytes, and where the shelf tells its files, these are the front of the named
+-- The reader has taken some bytes, and where the shelf tells its files, these are a prefix of the named
 -- file, whose other bytes are unread.
 pub record IsReading (files : Option (List NamedFile)) (rest : Option (List ℕ)) (name : List ℕ) (reader : Progress) : Type 0 where
   pub bytes : List ℕ
@@ -36,7 +36,7 @@ reading-begin files rest name reader means none chosen = record {
   told = λ all is. (bytes_of all name, chosen all is, refl);
 }
 
--- the front of a buffer into which a read put the first unread bytes
+-- the start of a buffer into which a read put the first unread bytes
 pub front-read : (count : ℕ) (unread old : List ℕ) → count ≤ length unread
     → take count (take count unread ++ drop count old) ≡ take count unread
 front-read count unread old within =

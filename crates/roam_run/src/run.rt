@@ -35,15 +35,16 @@ pub struct Run {
     pub status: Status,
 }
 
-/// Carries out the words of a command line: reads the files that they name from the shelf, writes a
-/// mesh for each frame of the script, and a line of the report behind each.
+/// Carries out the words of a command line, those after the program's name.
 ///
-/// The words are those after the program's name. What comes in whatever pieces is handed on as it
-/// comes; a frame's mesh is written and finished before its line is written, and the first call that
-/// fails ends the run.
+/// `mesh` reads a grid and a script from the shelf, and writes a mesh for each frame line and a line of the
+/// report behind it. `info` reads a grid and writes one line about it. `try` reads nothing: it makes a grid and
+/// a script from a level and a seed, and writes one line with the sums of their frames. Files are read and
+/// meshes written in pieces, a mesh is finished before its line is written, and the first call that fails
+/// ends the run.
 /// Cost (not proved): a few steps a byte of the files; for a frame line after a line that changes what is
-/// seen, a rank and a sort of the triangles and the forced splits of the mesh; for every frame the writing
-/// of its mesh. Memory is taken for the heights, the wedges, and each mesh that is made.
+/// seen, a rank and a sort of the triangles and the forced splits of the mesh; for every frame of `mesh` the
+/// writing of its mesh. Memory is taken for the heights, the wedges, and each mesh that is made.
 pub fn roam<F: Shelf, M: MeshSink, R: Sink>(
     alloc: Global,
     words: &[String],

@@ -1,7 +1,7 @@
 -- Acts that stand, one after another, and acts that were cut short.
 use Rattle.std.proofs.Common.{◌≡◌, ℕ, true, List, [], ◌∷◌, ◌++◌, Option, Some, refl, sym, ◌∙◌, ap, append_assoc, append-nil}
 use Rattle.roam_edge.specs.MeshSink.{Mesh}
-use Rattle.roam_edge.specs.Told.{IsFront}
+use Rattle.roam_edge.specs.Told.{IsPrefix}
 use Rattle.obj_write.specs.Written.{mesh_with, Grows, IsPartOfMesh}
 use Rattle.run_laws.specs.Act.{Act, WholeMesh, ReportText, Told, Stands, IsCutShort, StandsInPart, meshes_of, report_of, told}
 
@@ -100,7 +100,7 @@ cut-mesh meshes meshes' report prefix number bytes owed part = record {
 -- a mesh was written whole, and then a line was cut short
 pub cut-line : (meshes meshes' : Option (List Mesh)) (report report' : Option (List ℕ)) (prefix : List ℕ) (number : ℕ) (bytes line : List ℕ)
     → Grows meshes meshes' (mesh_with prefix number bytes true ∷ [])
-    → ((all : List ℕ) → report ≡ Some all → (front : List ℕ) × IsFront front line × (report' ≡ Some (all ++ front)))
+    → ((all : List ℕ) → report ≡ Some all → (front : List ℕ) × IsPrefix front line × (report' ≡ Some (all ++ front)))
     → IsCutShort (told meshes report) (told meshes' report') (WholeMesh prefix number bytes ∷ (ReportText line ∷ []))
 cut-line meshes meshes' report report' prefix number bytes line whole part = record {
   done = WholeMesh prefix number bytes ∷ [];
@@ -112,7 +112,7 @@ cut-line meshes meshes' report report' prefix number bytes line whole part = rec
 
 -- a line was cut short, and nothing else was done
 pub cut-only-line : (meshes : Option (List Mesh)) (report report' : Option (List ℕ)) (line : List ℕ) (owed : List Act)
-    → ((all : List ℕ) → report ≡ Some all → (front : List ℕ) × IsFront front line × (report' ≡ Some (all ++ front)))
+    → ((all : List ℕ) → report ≡ Some all → (front : List ℕ) × IsPrefix front line × (report' ≡ Some (all ++ front)))
     → IsCutShort (told meshes report) (told meshes report') (ReportText line ∷ owed)
 cut-only-line meshes report report' line owed part = record {
   done = [];

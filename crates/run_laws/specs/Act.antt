@@ -3,7 +3,7 @@
 -- Words: Act, meshes_of, report_of, Told, told, Stands, StandsInPart, IsCutShort.
 use Rattle.std.specs.Prelude.{◌≡◌, ℕ, true, List, [], ◌∷◌, ◌++◌, Option, Some}
 use Rattle.roam_edge.specs.MeshSink.{Mesh}
-use Rattle.roam_edge.specs.Told.{IsFront}
+use Rattle.roam_edge.specs.Told.{IsPrefix}
 use Rattle.obj_write.specs.Written.{mesh_with, Grows, IsPartOfMesh}
 
 -- a whole mesh, written and finished; or a text at the end of the report
@@ -44,7 +44,7 @@ StandsInPart before now done (WholeMesh prefix number bytes) =
     × Grows before.report now.report (report_of done)
 StandsInPart before now done (ReportText bytes) =
     Grows before.meshes now.meshes (meshes_of done)
-    × ((all : List ℕ) → before.report ≡ Some all → (front : List ℕ) × IsFront front bytes
+    × ((all : List ℕ) → before.report ≡ Some all → (front : List ℕ) × IsPrefix front bytes
     × (now.report ≡ Some (all ++ (report_of done ++ front))))
 
 -- The acts were cut short: some were added whole and in order, and of the next one a part. So a mesh that

@@ -142,6 +142,7 @@ IsWordsOutcome (Some command) files end = IsCommandOutcome command files end
 unfoldable pub IsOutcome : List (List ℕ) → List NamedFile → Outcome → Type 0
 IsOutcome words files end = IsWordsOutcome (command_of words) files end
 
--- the words leave nothing to choice: so it is of every command yet
+-- The words and their files leave one outcome. It is a premise, so that a command of which more than one outcome may be
+-- right (one that writes any of several right answers) can be left out here; today there is none, and it holds of all words.
 abbrev pub HasOneOutcome : Option Command → Type 0
 HasOneOutcome command = ⊤

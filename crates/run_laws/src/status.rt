@@ -3,9 +3,10 @@
 /// How a run ended. Its number is the exit status of the program.
 #[derive(Clone, Copy, Debug, PartialEq, Eq)]
 pub enum Status {
-    /// The command was carried out, and the script read to its end.
+    /// The command was carried out, and its script, where it has one, was read to its end.
     Done = 0,
-    /// Out of memory. Free to come once a whole accepted header of the grid was read.
+    /// Out of memory. Free to come at any time, but where the words name a grid only once a whole accepted
+    /// header of it was read.
     NoMemory = 1,
     /// The words are no command. Nothing was opened or written.
     Usage = 2,

@@ -1,6 +1,6 @@
 -- The two base triangles tile the square: a sample lies strictly inside 2 below the falling diagonal, and
 -- strictly inside 3 above it.
-use Rattle.std.proofs.Common.{◌≡◌, ℕ, zero, suc, ◌+◌, ◌*◌, ◌%◌, ◌^◌, ◌<◌, ◌≤◌, inl, inr, List, [], ◌∷◌, Bool, true, false, ◌&&◌, refl, ap, arith, ltb-true, lt-ltb, ⊎_elim, pow_pos, mul-le-mul_left}
+use Rattle.std.proofs.Common.{◌≡◌, ℕ, zero, suc, ◌+◌, ◌*◌, ◌%◌, ◌^◌, ◌<◌, ◌≤◌, inl, inr, [], ◌∷◌, Bool, true, false, ◌&&◌, refl, ap, arith, ltb-true, lt-ltb, ⊎_elim, pow_pos, mul-le-mul_left}
 use Rattle.std.proofs.lemmas.Bool.{and_parts, and_from, cases_lt}
 use Rattle.mesh_defs.specs.declared.point.Point.{Point}
 use Rattle.mesh_defs.specs.declared.point.Corners.{Corners}

@@ -1,5 +1,5 @@
 -- Each conforming list is the leaves of the set of all proper ancestors of its entries, and that set is closed.
-use Rattle.std.proofs.Common.{◌≡◌, ◌≢◌, ℕ, zero, suc, ◌+◌, ◌-◌, ◌*◌, ◌/◌, ◌%◌, ◌<◌, ◌≤◌, ◌⊎◌, inl, inr, true, eqb, ltb, List, All, IsTrue, refl, sym, ◌∙◌, ap, ap₂, subst, arith, ⊎_elim, eq-eqb, lt-ltb, ltb-true, count_by, ◌↔◌, ◌^◌}
+use Rattle.std.proofs.Common.{◌≡◌, ◌≢◌, ℕ, zero, suc, ◌+◌, ◌-◌, ◌*◌, ◌/◌, ◌<◌, ◌≤◌, ◌⊎◌, inl, inr, true, eqb, ltb, List, All, IsTrue, refl, sym, ◌∙◌, ap, ap₂, subst, arith, ⊎_elim, eq-eqb, lt-ltb, ltb-true, count_by, ◌↔◌, ◌^◌}
 use Rattle.std.proofs.lemmas.Bool.{cases_lt, and_parts, and_from, or_cases, or_left, or_right, eqb-true, false≢true, both_ways}
 use Rattle.std.proofs.lemmas.List.Elements.{All-contains}
 use Rattle.std.proofs.lemmas.Nat.{shr-shr}
@@ -8,8 +8,7 @@ use Rattle.mesh_defs.specs.declared.point.Corners.{Corners}
 use Rattle.mesh_defs.specs.Triangle.{level_of, IsAddress, IsSplittable, midpoint, child, corners_of, IsCorner, IsEdge, IsMate}
 use Rattle.mesh_defs.specs.Tiling.{IsSample, is_inside, IsBetween, IsStrictlyBetween, IsConforming}
 use Rattle.mesh_defs.specs.ClosedSet.{IsClosed, leaves_of}
-use Rattle.bintree_laws.proofs.LevelLemmas.{level-le}
-use Rattle.bintree_laws.proofs.LevelLemmas.{level_of-parent, level_of-below}
+use Rattle.bintree_laws.proofs.LevelLemmas.{level-le, left-or-right, level_of-root, level_of-parent, level_of-below}
 use Rattle.bintree_laws.proofs.CornerLemmas.{corners_of-left, corners_of-right}
 use Rattle.bintree_laws.proofs.CentreLemmas.{same_centre, mate_unique, mate_symmetric}
 use Rattle.tiling_laws.specs.Ancestors.{halves_to, is_above, ancestors_of, AreLeaves}
@@ -81,10 +80,6 @@ is_above-power a e = (
 
 -- levels
 
--- 2 and 3 have level 0, the others a parent of the level before
-pub level_of-first : (a : ℕ) → 2 ≤ a → a < 4 → level_of a ≡ 0
-level_of-first a low high = let h : level_of a < 1 = (level_of-below a 1 low).1 high in omega arith
-
 -- an address of level 0 is 2 or 3
 first-level_of : (a : ℕ) → 2 ≤ a → level_of a ≡ 0 → a < 4
 first-level_of a low e = (level_of-below a 1 low).0 (omega arith)
@@ -116,17 +111,13 @@ IsAddress-parent n a address big = IsAddress-down n (suc (2 * n - level_of a)) (
 
 -- samples and levels
 
--- a number is its half's left or right child
-halves : (a : ℕ) → (a ≡ 2 * (a / 2)) ⊎ (a ≡ 2 * (a / 2) + 1)
-halves a = ⊎_elim (λ even. inl (omega arith)) (λ odd. inr (omega arith)) (cases_lt (a % 2) 1)
-
 -- inside a triangle is inside its parent
 pub is_inside-up : (n a x y : ℕ) → IsAddress n a → 4 ≤ a → IsSample n x y → is_inside n x y a ≡ true → is_inside n x y (a / 2) ≡ true
 is_inside-up n a x y address big s h =
     let d = parent_down n a address big in ⊎_elim
     (λ left. is_inside-left n (2 * n - level_of a) (a / 2) x y d s (subst (λ z. is_inside n x y z ≡ true) left h))
     (λ right. is_inside-right n (2 * n - level_of a) (a / 2) x y d s (subst (λ z. is_inside n x y z ≡ true) right h))
-    (halves a)
+    (left-or-right a)
 
 -- inside what lies below v is inside v
 pub is_inside-under : (n v a x y : ℕ) → IsAddress n a → IsSample n x y → IsUnder v a → is_inside n x y a ≡ true → is_inside n x y v ≡ true
@@ -183,12 +174,12 @@ same_level n x y (suc level) a b s p q e f h k =
     let ea = level_of-parent a ha in let eb = level_of-parent b hb in
     let above : a / 2 ≡ b / 2 = same_level n x y level (a / 2) (b / 2) s (IsAddress-parent n a p ha) (IsAddress-parent n b q hb)
     (omega arith) (omega arith) (is_inside-up n a x y p ha s h) (is_inside-up n b x y q hb s k) in
-    same_children n x y (a / 2) a b s (2 * n - level_of a) (parent_down n a p ha) (halves a)
-    (subst (λ z. (b ≡ 2 * z) ⊎ (b ≡ 2 * z + 1)) (sym above) (halves b)) h k
+    same_children n x y (a / 2) a b s (2 * n - level_of a) (parent_down n a p ha) (left-or-right a)
+    (subst (λ z. (b ≡ 2 * z) ⊎ (b ≡ 2 * z + 1)) (sym above) (left-or-right b)) h k
   where
     big : (c : ℕ) → 2 ≤ c → level_of c ≡ suc level → 4 ≤ c
     big c low l = ⊎_elim
-        (λ small. let z = level_of-first c low small in absurd (omega arith))
+        (λ small. let z = level_of-root c low small in absurd (omega arith))
         (λ large. large)
         (cases_lt c 4)
 
@@ -204,7 +195,7 @@ IsUnder-sample n x y (suc d) e f s p q l h k =
   where
     large : (c : ℕ) → 2 ≤ c → 1 ≤ level_of c → 4 ≤ c
     large c low some = ⊎_elim
-        (λ small. let z = level_of-first c low small in absurd (omega arith))
+        (λ small. let z = level_of-root c low small in absurd (omega arith))
         (λ large. large)
         (cases_lt c 4)
 
@@ -344,7 +335,7 @@ edge_above n a b v w sa sb mate address apart (below y big k) u h =
     (λ x z. IsUnder-left (y / 2) x d.low z)
     (λ z. not_below_both n (2 * n - level_of y) (y / 2) b d (IsAddress-splittable n b sb) z (subst (λ o. IsUnder o b) right u))))
     (edge_of_right n (2 * n - level_of y) (y / 2) (middle n b) d (subst (λ o. HasOnEdge n o (middle n b)) right h)))
-    (halves y) in
+    (left-or-right y) in
     edge_above n a b v (y / 2) sa sb mate (IsAddress-parent n y address big) apart k (IsUnder-up y b big u) up
   where
     across : (other : ℕ) → IsDown n (2 * n - level_of y) other → HasOnEdge n other (middle n b) →
@@ -433,7 +424,7 @@ module _ (n : ℕ) (list : List ℕ) (conforming : IsConforming n list) where
           is_inside n x y e ≡ true → level_of a < level_of e → IsTrue (ancestors_of list a)
       deeper_entry a address x y s h e listed other k deeper =
           let big : 4 ≤ e = ⊎_elim
-          (λ small. let z = level_of-first e other.low small in absurd (omega arith))
+          (λ small. let z = level_of-root e other.low small in absurd (omega arith))
           (λ large. large)
           (cases_lt e 4) in
           let l = level_of-parent e big in

@@ -1,11 +1,10 @@
 -- Corners are counterclockwise, and so three points: a sample lies strictly left of all three edges, and the
 -- sum of the three tests leaves out the sample.
-use Rattle.std.proofs.Common.{◌≡◌, ◌≢◌, ℕ, ◌+◌, ◌-◌, ◌*◌, ◌<◌, ◌≤◌, ap, arith}
-use Rattle.mesh_defs.specs.declared.point.Point.{Point}
+use Rattle.std.proofs.Common.{◌≡◌, ℕ, ◌+◌, ◌-◌, ◌*◌, ◌<◌, ap, arith}
 use Rattle.mesh_defs.specs.declared.point.Corners.{Corners}
 use Rattle.mesh_defs.specs.Triangle.{level_of, corners_of, IsAddress}
-use Rattle.mesh_defs.specs.Tiling.{is_within}
 use Rattle.bintree_laws.specs.Corners.{IsCounterclockwise, AreApart}
+use Rattle.bintree_laws.proofs.MateLemmas.{coordinates}
 use Rattle.tiling_laws.proofs.BaseLemmas.{IsBounded, IsBounded-from}
 use Rattle.tiling_laws.proofs.DescentLemmas.{IsDown-address, sample_of}
 
@@ -18,10 +17,6 @@ pub counterclockwise : (n a : ℕ) → IsAddress n a → IsCounterclockwise (cor
 counterclockwise n a address =
     let s = sample_of n (2 * n - level_of a) a (IsDown-address n a address) in
     counterclockwise-bounded s.0 s.1 (corners_of n a) (IsBounded-from s.0 s.1 (corners_of n a) s.3)
-
--- the coordinates of one point
-coordinates : (p q : Point) → p ≡ q → (p.x ≡ q.x) × (p.y ≡ q.y)
-coordinates p q e = (ap (λ (r : Point). r.x) e, ap (λ (r : Point). r.y) e)
 
 -- no area lies between two points
 apart-counterclockwise : (c : Corners) → IsCounterclockwise c → AreApart c

@@ -1,5 +1,5 @@
 -- The leaves of a closed set in any order are conforming.
-use Rattle.std.proofs.Common.{◌≡◌, ℕ, ◌+◌, ◌≤◌, Bool, true, eqb, List, length, All, Contains, get_or, refl, sym, ◌∙◌, subst, arith, count_by, eq-eqb}
+use Rattle.std.proofs.Common.{◌≡◌, ℕ, Bool, true, eqb, List, Contains, get_or, refl, sym, ◌∙◌, subst, arith, eq-eqb}
 use Rattle.std.proofs.lemmas.Bool.{eqb-true}
 use Rattle.std.proofs.lemmas.List.Elements.{All-contains, Contains-get_or}
 use Rattle.mesh_defs.specs.Triangle.{IsAddress}

@@ -1,10 +1,12 @@
 -- Runs of grid points: from a point so many steps in one of the eight ways. The edges of triangles are runs,
 -- and on a run each fact of lines and sides is linear.
-use Rattle.std.proofs.Common.{◌≡◌, ℕ, suc, ◌+◌, ◌*◌, ◌-◌, ◌<◌, ◌≤◌, ◌⊎◌, inl, inr, ap, ap₂, subst, arith, ⊎_elim, mul-le-mul_left}
+use Rattle.std.proofs.Common.{◌≡◌, ℕ, suc, ◌+◌, ◌*◌, ◌-◌, ◌<◌, ◌≤◌, ◌⊎◌, inl, inr, ap, subst, arith, ⊎_elim, mul-le-mul_left}
 use Rattle.std.proofs.lemmas.Bool.{cases_lt}
 use Rattle.mesh_defs.specs.declared.point.Point.{Point}
 use Rattle.mesh_defs.specs.Triangle.{midpoint}
 use Rattle.mesh_defs.specs.Tiling.{IsStrictlyBetween}
+use Rattle.bintree_laws.proofs.LatticeLemmas.{same_point}
+use Rattle.bintree_laws.proofs.MateLemmas.{cancel}
 
 -- the eight ways, counterclockwise
 pub data Way : Type 0 where
@@ -48,16 +50,6 @@ lt-scaled k a b h = ⊎_elim
 -- and comes
 pub scaled-lt : (k a b : ℕ) → 0 < k → a < b → k * a < k * b
 scaled-lt k a b some h = let le : k * suc a ≤ k * b = mul-le-mul_left k h in omega arith
-
--- a common factor of an equation goes
-scaled_same : (k a b : ℕ) → 0 < k → k * a ≡ k * b → a ≡ b
-scaled_same k a b some e = ⊎_elim
-    (λ below. let less : k * a < k * b = scaled-lt k a b some below in absurd (omega arith))
-    (λ above. ⊎_elim
-    (λ below. let less : k * b < k * a = scaled-lt k b a some below in absurd (omega arith))
-    (λ other. omega arith)
-    (cases_lt b a))
-    (cases_lt a b)
 
 -- sides of runs
 
@@ -158,56 +150,56 @@ IsInside-between east k p q r some run b =
     let line = b.on_line in
     let f0 = times r.y q.x (p.x + k) run.0 in let f1 = times p.y q.x (p.x + k) run.0 in
     let f2 = times r.x q.y p.y run.1 in let f3 = times p.x q.y p.y run.1 in
-    let e : r.y ≡ p.y = scaled_same k r.y p.y some (omega arith) in
+    let e : r.y ≡ p.y = cancel k r.y p.y some (omega arith) in
     let between = b.between in
     (r.x - p.x, omega arith, omega arith, (omega arith, omega arith))
 IsInside-between north_east k p q r some run b =
     let line = b.on_line in
     let f0 = times r.y q.x (p.x + k) run.0 in let f1 = times p.y q.x (p.x + k) run.0 in
     let f2 = times r.x q.y (p.y + k) run.1 in let f3 = times p.x q.y (p.y + k) run.1 in
-    let e : p.x + r.y ≡ p.y + r.x = scaled_same k (p.x + r.y) (p.y + r.x) some (omega arith) in
+    let e : p.x + r.y ≡ p.y + r.x = cancel k (p.x + r.y) (p.y + r.x) some (omega arith) in
     let between = b.between in
     (r.x - p.x, omega arith, omega arith, (omega arith, omega arith))
 IsInside-between north k p q r some run b =
     let line = b.on_line in
     let f0 = times r.y q.x p.x run.0 in let f1 = times p.y q.x p.x run.0 in
     let f2 = times r.x q.y (p.y + k) run.1 in let f3 = times p.x q.y (p.y + k) run.1 in
-    let e : r.x ≡ p.x = scaled_same k r.x p.x some (omega arith) in
+    let e : r.x ≡ p.x = cancel k r.x p.x some (omega arith) in
     let between = b.between in
     (r.y - p.y, omega arith, omega arith, (omega arith, omega arith))
 IsInside-between north_west k p q r some run b =
     let line = b.on_line in
     let f0 = times r.y p.x (q.x + k) run.0 in let f1 = times p.y p.x (q.x + k) run.0 in
     let f2 = times r.x q.y (p.y + k) run.1 in let f3 = times p.x q.y (p.y + k) run.1 in
-    let e : p.x + p.y ≡ r.x + r.y = scaled_same k (p.x + p.y) (r.x + r.y) some (omega arith) in
+    let e : p.x + p.y ≡ r.x + r.y = cancel k (p.x + p.y) (r.x + r.y) some (omega arith) in
     let between = b.between in
     (p.x - r.x, omega arith, omega arith, (omega arith, omega arith))
 IsInside-between west k p q r some run b =
     let line = b.on_line in
     let f0 = times r.y p.x (q.x + k) run.0 in let f1 = times p.y p.x (q.x + k) run.0 in
     let f2 = times r.x q.y p.y run.1 in let f3 = times p.x q.y p.y run.1 in
-    let e : r.y ≡ p.y = scaled_same k r.y p.y some (omega arith) in
+    let e : r.y ≡ p.y = cancel k r.y p.y some (omega arith) in
     let between = b.between in
     (p.x - r.x, omega arith, omega arith, (omega arith, omega arith))
 IsInside-between south_west k p q r some run b =
     let line = b.on_line in
     let f0 = times r.y p.x (q.x + k) run.0 in let f1 = times p.y p.x (q.x + k) run.0 in
     let f2 = times r.x p.y (q.y + k) run.1 in let f3 = times p.x p.y (q.y + k) run.1 in
-    let e : p.x + r.y ≡ p.y + r.x = scaled_same k (p.x + r.y) (p.y + r.x) some (omega arith) in
+    let e : p.x + r.y ≡ p.y + r.x = cancel k (p.x + r.y) (p.y + r.x) some (omega arith) in
     let between = b.between in
     (p.x - r.x, omega arith, omega arith, (omega arith, omega arith))
 IsInside-between south k p q r some run b =
     let line = b.on_line in
     let f0 = times r.y q.x p.x run.0 in let f1 = times p.y q.x p.x run.0 in
     let f2 = times r.x p.y (q.y + k) run.1 in let f3 = times p.x p.y (q.y + k) run.1 in
-    let e : r.x ≡ p.x = scaled_same k r.x p.x some (omega arith) in
+    let e : r.x ≡ p.x = cancel k r.x p.x some (omega arith) in
     let between = b.between in
     (p.y - r.y, omega arith, omega arith, (omega arith, omega arith))
 IsInside-between south_east k p q r some run b =
     let line = b.on_line in
     let f0 = times r.y q.x (p.x + k) run.0 in let f1 = times p.y q.x (p.x + k) run.0 in
     let f2 = times r.x p.y (q.y + k) run.1 in let f3 = times p.x p.y (q.y + k) run.1 in
-    let e : p.x + p.y ≡ r.x + r.y = scaled_same k (p.x + p.y) (r.x + r.y) some (omega arith) in
+    let e : p.x + p.y ≡ r.x + r.y = cancel k (p.x + p.y) (r.x + r.y) some (omega arith) in
     let between = b.between in
     (r.x - p.x, omega arith, omega arith, (omega arith, omega arith))
 
@@ -270,20 +262,16 @@ IsStrictlyBetween-inside south_east k p q r run i =
     let g2 = times p.x p.y (r.y + j) step.1 in let g3 = times k p.y (r.y + j) step.1 in
     record { on_line = omega arith; between = inl (inl (omega arith, omega arith)) }
 
--- points with the same coordinates are the same
-same_point : (p q : Point) → p.x ≡ q.x → p.y ≡ q.y → p ≡ q
-same_point p q x y = ap₂ point x y
-
 -- one end of a run is determined by the other
 pub IsRun-same : (w : Way) (k : ℕ) (p q r : Point) → IsRun w k p q → IsRun w k p r → q ≡ r
-IsRun-same east k p q r h i = same_point q r (omega arith) (omega arith)
-IsRun-same north_east k p q r h i = same_point q r (omega arith) (omega arith)
-IsRun-same north k p q r h i = same_point q r (omega arith) (omega arith)
-IsRun-same north_west k p q r h i = same_point q r (omega arith) (omega arith)
-IsRun-same west k p q r h i = same_point q r (omega arith) (omega arith)
-IsRun-same south_west k p q r h i = same_point q r (omega arith) (omega arith)
-IsRun-same south k p q r h i = same_point q r (omega arith) (omega arith)
-IsRun-same south_east k p q r h i = same_point q r (omega arith) (omega arith)
+IsRun-same east k p q r h i = same_point q.x q.y r.x r.y (omega arith) (omega arith)
+IsRun-same north_east k p q r h i = same_point q.x q.y r.x r.y (omega arith) (omega arith)
+IsRun-same north k p q r h i = same_point q.x q.y r.x r.y (omega arith) (omega arith)
+IsRun-same north_west k p q r h i = same_point q.x q.y r.x r.y (omega arith) (omega arith)
+IsRun-same west k p q r h i = same_point q.x q.y r.x r.y (omega arith) (omega arith)
+IsRun-same south_west k p q r h i = same_point q.x q.y r.x r.y (omega arith) (omega arith)
+IsRun-same south k p q r h i = same_point q.x q.y r.x r.y (omega arith) (omega arith)
+IsRun-same south_east k p q r h i = same_point q.x q.y r.x r.y (omega arith) (omega arith)
 
 -- the midpoint of an even run
 pub IsRun-first_half : (w : Way) (k : ℕ) (p q : Point) → IsRun w (2 * k) p q → IsRun w k p (midpoint p q)
@@ -318,7 +306,7 @@ IsRun-append south_west j k p q r h i = (omega arith, omega arith)
 IsRun-append south j k p q r h i = (omega arith, omega arith)
 IsRun-append south_east j k p q r h i = (omega arith, omega arith)
 
--- a run less a front of it
+-- a run less a prefix of it
 pub IsRun-rest : (w : Way) (j k : ℕ) (p q r : Point) → IsRun w j p q → IsRun w (j + k) p r → IsRun w k q r
 IsRun-rest east j k p q r h i = (omega arith, omega arith)
 IsRun-rest north_east j k p q r h i = (omega arith, omega arith)

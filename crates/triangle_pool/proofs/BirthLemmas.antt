@@ -1,15 +1,14 @@
 -- What the answer to a split says.
-use Rattle.std.proofs.Common.{◌≡◌, ◌≢◌, ◌-◌, ap, sym, ◌∙◌, ◌⊎◌, ℕ, ◌+◌, ◌*◌, ◌/◌, ◌%◌, ◌<◌, ◌≤◌, refl, arith, inl, inr, ⊎_elim, subst, List, length, get_or, set, get_or-set_other, None, Some}
+use Rattle.std.proofs.Common.{◌≡◌, ◌≢◌, ◌-◌, ap, sym, ◌∙◌, ◌⊎◌, ℕ, ◌+◌, ◌*◌, ◌/◌, ◌%◌, ◌<◌, arith, inl, inr, ⊎_elim, subst, List, length, get_or, set, get_or-set_other, None, Some}
 use Rattle.std.proofs.lemmas.Bool.{cases_eq, cases_lt, true≢false}
 use Rattle.std.proofs.Math.ListN.{length-set}
 use Rattle.bintree_addr.specs.declared.slot.Slot.{Slot}
 use Rattle.edge_laws.specs.Edge.{mate_of}
 use Rattle.edge_laws.proofs.MateLemmas.{mate_of-low}
-use Rattle.triangle_pool.specs.declared.pool.Born.{Born}
 use Rattle.edge_laws.specs.Slots.{address_at, IsLive, room_of, diamond_size}
 use Rattle.triangle_pool.specs.Answer.{AreChildren, IsOfPair, IsBirth}
 use Rattle.triangle_pool.specs.Links.{MaySplit, MaySplitMate}
-use Rattle.triangle_pool.proofs.HalveLemmas.{address-old, address-new, live_apart}
+use Rattle.triangle_pool.proofs.HalveLemmas.{address-old, address-new}
 use Rattle.triangle_pool.proofs.PoolLemmas.{room-set}
 use Rattle.edge_laws.proofs.SlotLemmas.{size_one, size_two}
 

@@ -1,19 +1,19 @@
 -- Splitting one triangle.
-use Rattle.std.proofs.Common.{◌≡◌, ◌≢◌, ◌-◌, ap, sym, ◌∙◌, ◌⊎◌, Bool, true, false, nat_eq, ℕ, zero, suc, ◌+◌, ◌*◌, ◌/◌, ◌%◌, ◌^◌, ◌<◌, ◌≤◌, refl, arith, inl, inr, ⊎_elim, List, length, get_or, set, get_or-set_other, get_or-set_same}
+use Rattle.std.proofs.Common.{◌≡◌, ◌≢◌, ◌-◌, ap, sym, ◌∙◌, ◌⊎◌, true, false, ℕ, ◌+◌, ◌*◌, ◌/◌, ◌%◌, ◌^◌, ◌<◌, ◌≤◌, refl, arith, inl, inr, ⊎_elim, List, length, get_or, set, get_or-set_other, get_or-set_same}
 use Rattle.std.proofs.lemmas.Bool.{cases_eq, cases_lt, cases_Bool, true≢false, eq-eqb, ne_eqb}
 use Rattle.std.proofs.lemmas.List.{get_or_past}
 use Rattle.std.proofs.Math.ListN.{length-set}
 use Rattle.mesh_defs.specs.Triangle.{level_of}
 use Rattle.edge_laws.specs.Edge.{mate_of, owner}
-use Rattle.edge_laws.specs.Net.{nowhere, Net, IsTree, IsLinked, IsHalving}
-use Rattle.edge_laws.proofs.MateLemmas.{mate_of-back, mate_of-low, mate_of-level, mate_of-parity, mate_of-1, mate_of-2, mate_of-other}
-use Rattle.edge_laws.proofs.OwnerLemmas.{owner_cases, owner-low, owner-whole}
+use Rattle.edge_laws.specs.Net.{nowhere, IsTree, IsHalving}
+use Rattle.edge_laws.proofs.MateLemmas.{mate_of-back, mate_of-low, mate_of-level, mate_of-1, mate_of-2}
+use Rattle.edge_laws.proofs.OwnerLemmas.{owner-whole}
 use Rattle.edge_laws.proofs.NetLemmas.{IsLinked-halving, IsTree-halving}
 use Rattle.triangle_pool.specs.declared.forest.Node.{Node}
 use Rattle.edge_laws.specs.Slots.{address_at, has_children, IsLive}
-use Rattle.triangle_pool.specs.Links.{blank, node_at, edge_link, net_of, ArePairs, AreChildrenAt, IsForest, IsAcross, IsRelinked, MayHalve, IsInner, IsPlaced, with_link}
-use Rattle.edge_laws.proofs.SlotLemmas.{has_children-added, has_children-kept, has_children_by, pair_of}
-use Rattle.triangle_pool.proofs.RelinkLemmas.{edge-base, edge-left, edge-right, live_within, edge_low, relinked_turn}
+use Rattle.triangle_pool.specs.Links.{node_at, edge_link, net_of, ArePairs, AreChildrenAt, IsForest, IsAcross, IsRelinked, MayHalve, IsInner, IsPlaced, with_link}
+use Rattle.edge_laws.proofs.SlotLemmas.{child_at, has_children-added, has_children-kept}
+use Rattle.triangle_pool.proofs.RelinkLemmas.{edge-base, edge-left, edge-right, edge_low, relinked_turn}
 use Rattle.bintree_laws.proofs.LevelLemmas.{level_of-left, level_of-right}
 
 pub tree_of : (pairs : List ℕ) (nodes : List Node) → ArePairs pairs → IsTree (net_of pairs nodes)
@@ -62,11 +62,6 @@ mate_given pairs s k a mate q h ready some child =
     let given : mate ≢ nowhere = λ none. true≢false (sym is_split ∙ ready.alone none) in
     (given, (ready.paired given).1)
 
-address_in : (pairs : List ℕ) (i p side : ℕ) → side < 2 → get_or pairs i 0 ≡ p → address_at pairs (2 * i + side) ≡ 2 * p + side
-address_in pairs i p side low is =
-    let half : (2 * i + side) / 2 ≡ i = omega arith in
-    let z : get_or pairs ((2 * i + side) / 2) 0 ≡ p = ap (λ t. get_or pairs t 0) half ∙ is in omega arith
-
 address_even : (pairs : List ℕ) (i p : ℕ) → get_or pairs i 0 ≡ p → address_at pairs (2 * i) ≡ 2 * p
 address_even pairs i p is =
     let half : (2 * i) / 2 ≡ i = omega arith in
@@ -105,7 +100,7 @@ halving pairs before after s k a mate h ready renewed =
       left_mate = λ q some there.
           let b = mate_of-low a low some in
           let paired = mate_given pairs s k a mate q h ready some (omega arith) in
-          let at : address_at pairs (2 * mate + 1) ≡ 2 * mate_of a + 1 = address_in pairs mate (mate_of a) 1 (omega arith) paired.1 in
+          let at : address_at pairs (2 * mate + 1) ≡ 2 * mate_of a + 1 = child_at pairs mate (mate_of a) 1 (omega arith) paired.1 in
           let is : q ≡ 2 * mate + 1 = h.tree.once q (2 * mate + 1) (omega arith) (there ∙ sym at) in
           let own : owner (has_children pairs) (4 * mate_of a + 2) ≡ address_at pairs q =
           owner-whole (has_children pairs) (4 * mate_of a + 2) (ap (has_children pairs) (let y : (4 * mate_of a + 2) / 2 ≡ 2 * mate_of a + 1 = omega arith in y) ∙ (ready.childless some).1)
@@ -271,7 +266,7 @@ inner_linked pairs n0 n1 n2 s k a mate h ready given count count_1 is_1 is_2 =
     let of_2 : mate_of (4 * a + 2) ≡ 4 * mate_of a + 1 = (mate_of-2 a low).1 some in
     let none = ready.childless some in
     let at_left : address_at pairs (2 * mate) ≡ 2 * mate_of a = address_even pairs mate (mate_of a) paired.1 in
-    let at_right : address_at pairs (2 * mate + 1) ≡ 2 * mate_of a + 1 = address_in pairs mate (mate_of a) 1 (omega arith) paired.1 in
+    let at_right : address_at pairs (2 * mate + 1) ≡ 2 * mate_of a + 1 = child_at pairs mate (mate_of a) 1 (omega arith) paired.1 in
     let level_1 : level_of (4 * a + 1) ≡ level_of (2 * mate_of a + 1) + 1 =
     let z : level_of (4 * mate_of a + 2) ≡ level_of (4 * a + 1) = ap level_of (sym of_1) ∙ mate_of-level (4 * a + 1) (omega arith) (omega arith) in
     let y : 2 * (2 * mate_of a + 1) ≡ 4 * mate_of a + 2 = omega arith in

@@ -1,24 +1,22 @@
 -- Taking the children of a triangle away.
-use Rattle.std.proofs.Common.{◌≡◌, ◌≢◌, ◌-◌, ap, sym, ◌∙◌, ◌⊎◌, Bool, true, false, nat_eq, ℕ, zero, suc, ◌+◌, ◌*◌, ◌/◌, ◌%◌, ◌^◌, ◌<◌, ◌≤◌, refl, arith, inl, inr, ⊎_elim, subst, List, length, get_or, set, get_or-set_other, get_or-set_same}
-use Rattle.std.proofs.lemmas.Bool.{cases_eq, cases_lt, cases_Bool, true≢false, le-ltb}
+use Rattle.std.proofs.Common.{◌≡◌, ◌≢◌, ◌-◌, ap, sym, ◌∙◌, ◌⊎◌, Bool, true, false, ℕ, ◌+◌, ◌*◌, ◌/◌, ◌%◌, ◌<◌, ◌≤◌, refl, arith, inl, inr, ⊎_elim, subst, List, length, get_or, set, get_or-set_other, get_or-set_same}
+use Rattle.std.proofs.lemmas.Bool.{cases_eq, cases_lt, true≢false}
 use Rattle.std.proofs.lemmas.List.{get_or_past}
 use Rattle.std.proofs.Math.ListN.{length-set}
 use Rattle.edge_laws.specs.Edge.{mate_of, owner}
-use Rattle.edge_laws.specs.Net.{nowhere, Net, IsTree, IsLinked, IsJoining}
-use Rattle.edge_laws.proofs.MateLemmas.{no_sibling, mate_of-root, mate_of-back, mate_of-low, mate_of-level, mate_of-other, mate_of-no_child}
+use Rattle.edge_laws.specs.Net.{IsTree, IsJoining}
+use Rattle.edge_laws.proofs.MateLemmas.{no_sibling, mate_of-root, mate_of-back, mate_of-level, mate_of-other, mate_of-no_child}
 use Rattle.edge_laws.proofs.IsMateLemmas.{mate_of-IsMate}
 use Rattle.edge_laws.proofs.OwnerLemmas.{owner_cases, owner-same, owner-split}
 use Rattle.edge_laws.proofs.NetLemmas.{read_link, read_less, IsLinked-joining, IsTree-joining}
 use Rattle.mesh_defs.specs.Triangle.{level_of, IsSplittable, IsMate}
-use Rattle.mesh_defs.specs.ClosedSet.{IsClosed, among}
+use Rattle.mesh_defs.specs.ClosedSet.{IsClosed}
 use Rattle.bintree_laws.proofs.LevelLemmas.{level_of-below, level_of-parent}
 use Rattle.edge_laws.proofs.SlotLemmas.{has_children-set, set-has_children, slot_of, has_children-removed, has_children-left, has_children_by, set_kept, set_false, pair_in, child_at}
 use Rattle.triangle_pool.proofs.SplitLemmas.{whole_of}
-use Rattle.std.proofs.Common.{◌&&◌}
 use Rattle.triangle_pool.specs.declared.forest.Node.{Node}
-use Rattle.edge_laws.specs.Slots.{address_at, has_children, IsLive, split_set}
+use Rattle.edge_laws.specs.Slots.{address_at, has_children, split_set}
 use Rattle.triangle_pool.specs.Links.{node_at, edge_link, net_of, ArePairs, AreChildrenAt, IsForest, IsAcross, IsRelinked, MayJoin, IsLeafAgain, MayMerge}
-use Rattle.closure_laws.proofs.ClosureLemmas.{same_tests}
 use Rattle.triangle_pool.proofs.RelinkLemmas.{edge-base, edge-left, edge-right}
 use Rattle.triangle_pool.proofs.HalveLemmas.{tree_of, address-old, address-new}
 

@@ -1,20 +1,17 @@
 -- The links of a leaf, in the words of geometry.
-use Rattle.std.proofs.Common.{◌≡◌, ◌≢◌, ap, sym, ◌∙◌, ◌⊎◌, Bool, true, false, ℕ, ◌+◌, ◌*◌, ◌/◌, ◌%◌, ◌^◌, ◌<◌, ◌≤◌, refl, arith, inl, inr, ⊎_elim, subst, List, length, get_or}
-use Rattle.std.proofs.lemmas.Bool.{cases_lt, cases_Bool, true≢false}
+use Rattle.std.proofs.Common.{◌≡◌, ◌≢◌, sym, ◌∙◌, ◌⊎◌, false, ℕ, ◌+◌, ◌*◌, ◌/◌, ◌^◌, ◌<◌, ◌≤◌, refl, arith, inl, inr, ⊎_elim, subst, List, length}
 use Rattle.mesh_defs.specs.declared.point.Point.{Point}
-use Rattle.mesh_defs.specs.declared.point.Corners.{Corners}
-use Rattle.mesh_defs.specs.Triangle.{level_of, corners_of, child, OnOneSide, IsCorner}
+use Rattle.mesh_defs.specs.Triangle.{corners_of, child, OnOneSide}
 use Rattle.bintree_laws.proofs.CornerLemmas.{corners_of-left, corners_of-right}
-use Rattle.closure_laws.proofs.ClosureLemmas.{same_tests}
 use Rattle.edge_laws.specs.Edge.{mate_of, owner, with_square, IsEdgeOf}
 use Rattle.edge_laws.specs.Net.{nowhere}
 use Rattle.edge_laws.specs.LeafAcross.{IsLeafOf, IsLeafAcross}
 use Rattle.edge_laws.proofs.MateLemmas.{mate_of-low}
 use Rattle.edge_laws.proofs.OwnerLemmas.{owner-same, owner-low}
-use Rattle.edge_laws.proofs.LeafLemmas.{with_square-root, with_square-deep, leaf_across, edge-low, edge-border}
+use Rattle.edge_laws.proofs.LeafLemmas.{leaf_across, edge-low, edge-border}
 use Rattle.edge_laws.specs.Slots.{address_at, has_children, IsLive, split_set, IsPool}
 use Rattle.triangle_pool.specs.Links.{IsAcross}
-use Rattle.edge_laws.proofs.SlotLemmas.{has_children_by, has_children-set, set-has_children, set_false, parent_has_children, IsLeafOf-slot, square-children}
+use Rattle.edge_laws.proofs.SlotLemmas.{IsLeafOf-slot, square-children}
 use Rattle.triangle_pool.proofs.MergeLemmas.{linked_small}
 
 -- what a link across an edge says

@@ -1,11 +1,11 @@
 -- Changing one link.
-use Rattle.std.proofs.Common.{◌≡◌, ◌≢◌, ◌-◌, ap, sym, ◌∙◌, ◌⊎◌, Bool, true, false, nat_eq, ℕ, zero, suc, ◌+◌, ◌*◌, ◌/◌, ◌%◌, ◌^◌, ◌<◌, ◌≤◌, refl, arith, inl, inr, ⊎_elim, List, length, get_or, set, get_or-set_other, get_or-set_same}
-use Rattle.std.proofs.lemmas.Bool.{cases_eq, cases_lt, cases_Bool, true≢false, eq-eqb, ne_eqb}
+use Rattle.std.proofs.Common.{◌≡◌, ◌≢◌, ◌-◌, ap, sym, ◌∙◌, ◌⊎◌, Bool, true, false, nat_eq, ℕ, ◌+◌, ◌/◌, ◌%◌, ◌<◌, ◌≤◌, refl, arith, inl, inr, ⊎_elim, List, length, get_or, set, get_or-set_other, get_or-set_same}
+use Rattle.std.proofs.lemmas.Bool.{cases_eq, cases_lt, eq-eqb, ne_eqb}
 use Rattle.std.proofs.lemmas.List.{get_or_past}
 use Rattle.mesh_defs.specs.Triangle.{level_of}
 use Rattle.bintree_laws.proofs.LevelLemmas.{level_of-parent}
 use Rattle.edge_laws.specs.Edge.{mate_of, owner}
-use Rattle.edge_laws.specs.Net.{nowhere, IsTree}
+use Rattle.edge_laws.specs.Net.{nowhere}
 use Rattle.edge_laws.proofs.MateLemmas.{mate_of-back, mate_of-low, mate_of-level, mate_of-parity, mate_of-root}
 use Rattle.edge_laws.proofs.OwnerLemmas.{owner_cases, owner-low}
 use Rattle.triangle_pool.specs.declared.forest.Node.{Node}
@@ -24,10 +24,6 @@ pub edge-right : (node : Node) (a e : ℕ) → e ≢ a → e % 2 ≡ 1 → edge_
 edge-right node a e h k = rw (ne_eqb e a h, ne_eqb (e % 2) 0 (λ z. omega arith), edge_link) refl
 
 -- ---- slots
-
-pub live_within : (pairs : List ℕ) (s : ℕ) → IsLive pairs s → s / 2 < length pairs
-live_within pairs s live = ⊎_elim (λ yes. yes)
-    (λ past. absurd (let z : get_or pairs (s / 2) 0 ≡ 0 = get_or_past pairs (s / 2) 0 past in omega arith)) (cases_lt (s / 2) (length pairs))
 
 pub edge_low : (pairs : List ℕ) (r e : ℕ) → IsLive pairs r → owner (has_children pairs) e ≡ address_at pairs r → 2 ≤ e
 edge_low pairs r e live own = elim (owner_cases (has_children pairs) e) [ inl v ↦ let o = v.1 in omega arith | inr v ↦ let o = v.1 in omega arith ]

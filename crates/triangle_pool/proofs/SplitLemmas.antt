@@ -1,25 +1,23 @@
 -- Splitting a diamond, or a triangle at the border.
-use Rattle.std.proofs.Common.{◌≡◌, ◌≢◌, ◌-◌, ap, sym, ◌∙◌, ◌⊎◌, Bool, true, false, ◌&&◌, nat_eq, nat_lt, ℕ, zero, suc, ◌+◌, ◌*◌, ◌/◌, ◌%◌, ◌^◌, ◌<◌, ◌≤◌, refl, arith, inl, inr, ⊎_elim, subst, List, length, get_or, set, get_or-set_other, get_or-set_same}
-use Rattle.std.specs.Bool.{IsTrue}
-use Rattle.std.proofs.lemmas.Bool.{cases_eq, cases_lt, cases_Bool, true≢false, and_parts, and_from, lt-ltb, ltb-true}
-use Rattle.std.proofs.lemmas.List.{get_or_past}
+use Rattle.std.proofs.Common.{◌≡◌, ◌≢◌, ◌-◌, ap, sym, ◌∙◌, ◌⊎◌, true, false, ℕ, ◌+◌, ◌*◌, ◌/◌, ◌^◌, ◌<◌, ◌≤◌, refl, arith, inl, inr, ⊎_elim, subst, List, length, get_or, set, get_or-set_other, get_or-set_same}
+use Rattle.std.proofs.lemmas.Bool.{cases_eq, cases_Bool, true≢false}
 use Rattle.std.proofs.Math.ListN.{length-set}
 use Rattle.mesh_defs.specs.Triangle.{level_of, IsSplittable, IsMate}
-use Rattle.mesh_defs.specs.ClosedSet.{IsClosed, IsSubset, among}
+use Rattle.mesh_defs.specs.ClosedSet.{IsClosed}
 use Rattle.bintree_laws.proofs.LevelLemmas.{level_of-below}
-use Rattle.edge_laws.specs.Edge.{mate_of, owner}
-use Rattle.edge_laws.specs.Net.{nowhere, Net, IsTree, IsLinked}
-use Rattle.edge_laws.proofs.MateLemmas.{mate_of-back, mate_of-low, mate_of-level, mate_of-other, mate_of-root}
+use Rattle.edge_laws.specs.Edge.{mate_of}
+use Rattle.edge_laws.specs.Net.{nowhere}
+use Rattle.edge_laws.proofs.MateLemmas.{mate_of-back, mate_of-low, mate_of-level, mate_of-other}
 use Rattle.edge_laws.proofs.NetLemmas.{IsWhole, read_link, read_more}
 use Rattle.edge_laws.proofs.ChainLemmas.{closed_more}
-use Rattle.edge_laws.proofs.OwnerLemmas.{owner-whole, owner-split}
+use Rattle.edge_laws.proofs.OwnerLemmas.{owner-whole}
 use Rattle.edge_laws.proofs.IsMateLemmas.{IsMate-mate_of, mate_of-IsMate}
 use Rattle.triangle_pool.specs.declared.forest.Node.{Node}
-use Rattle.edge_laws.specs.Slots.{address_at, has_children, IsLive, split_set}
+use Rattle.edge_laws.specs.Slots.{address_at, has_children, split_set}
 use Rattle.triangle_pool.specs.Links.{node_at, edge_link, net_of, ArePairs, IsForest, IsAcross, MayHalve, MaySplit, MaySplitMate}
-use Rattle.edge_laws.proofs.SlotLemmas.{has_children-added, has_children-kept, has_children_by, pair_of, has_children_low, set-has_children, has_children-set, slot_of, set_more, set_only}
+use Rattle.edge_laws.proofs.SlotLemmas.{has_children-added, has_children-kept, has_children_low, set-has_children, has_children-set, slot_of, set_more, set_only}
 use Rattle.triangle_pool.proofs.RelinkLemmas.{edge-left, edge-right}
-use Rattle.triangle_pool.proofs.HalveLemmas.{tree_of, child_shut, address-old, address-new, live_apart}
+use Rattle.triangle_pool.proofs.HalveLemmas.{tree_of, child_shut, address-old, live_apart}
 
 -- ---- the set of split triangles
 

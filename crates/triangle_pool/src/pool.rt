@@ -140,8 +140,8 @@ impl Pool {
 
     /// Splits the leaf, and with it its mate, where it has one.
     ///
-    /// `may_split` tells whether the leaf across the base is its mate; `plan` of the crate above says what to split
-    /// before where it is not.
+    /// `may_split` tells whether the leaf across the base is its mate, or there is none. Where it is a coarser leaf, that one
+    /// is split first: a forced split.
     /// Cost (not proved): a few links, whatever the size of the mesh.
     pub fn split(&mut self, s: Slot) -> Born
         requires leaf { HasLeaf self.old.pairs s.0 }

@@ -1,6 +1,6 @@
 -- The doubled area of triangles, and which points a triangle holds: those of its children, and of a finest
 -- one its corners alone.
-use Rattle.std.proofs.Common.{◌≡◌, ℕ, zero, suc, ◌+◌, ◌-◌, ◌*◌, ◌/◌, ◌%◌, ◌^◌, ◌<◌, ◌≤◌, ◌⊎◌, ◌↔◌, Bool, true, false, ◌&&◌, ◌||◌, refl, sym, ap, ◌∙◌, arith, ⊎_elim, inl, inr}
+use Rattle.std.proofs.Common.{◌≡◌, ℕ, zero, suc, ◌+◌, ◌-◌, ◌*◌, ◌/◌, ◌^◌, ◌<◌, ◌≤◌, ◌⊎◌, ◌↔◌, Bool, true, false, ◌&&◌, ◌||◌, refl, sym, ap, ◌∙◌, arith, ⊎_elim, inl, inr}
 use Rattle.std.proofs.Common.{pow-add, subst}
 use Rattle.std.proofs.Math.Nat.{pow-succ'}
 use Rattle.std.proofs.lemmas.Bool.{cases_lt, leb-true, le-leb, and_parts}
@@ -10,9 +10,9 @@ use Rattle.mesh_defs.specs.declared.point.Corners.{Corners}
 use Rattle.mesh_defs.specs.Triangle.{child, midpoint, base_triangle, IsCorner, level_of, corners_of}
 use Rattle.mesh_defs.specs.BoundingBox.{is_left_or_on, is_in_closed}
 use Rattle.bintree_laws.specs.Corners.{IsWithin, HasEvenBase}
-use Rattle.bintree_laws.proofs.LevelLemmas.{level_of-below, level_of-left, level_of-right, level_of-parent}
-use Rattle.bintree_laws.proofs.CornerLemmas.{corners_of-left, corners_of-right, IsWithin-corners_of}
-use Rattle.bintree_laws.proofs.LatticeLemmas.{HasEvenBase-corners_of}
+use Rattle.bintree_laws.proofs.LevelLemmas.{left-or-right, level_of-below, level_of-left, level_of-right, level_of-parent}
+use Rattle.bintree_laws.proofs.CornerLemmas.{corners_of-2, corners_of-3, corners_of-left, corners_of-right, IsWithin-corners_of}
+use Rattle.bintree_laws.proofs.LatticeLemmas.{same_point, HasEvenBase-corners_of}
 
 -- ---- doubled areas
 
@@ -81,19 +81,6 @@ address_laws = record {
   within = IsWithin-corners_of;
   even = HasEvenBase-corners_of;
 }
-
--- an address is its parent's left or right child
-pub left-or-right : (a : ℕ) → (a ≡ 2 * (a / 2)) ⊎ (a ≡ 2 * (a / 2) + 1)
-left-or-right a = ⊎_elim {C = (a ≡ 2 * (a / 2)) ⊎ (a ≡ 2 * (a / 2) + 1)}
-    (λ even. inl (omega arith)) (λ odd. inr (omega arith)) (cases_lt (a % 2) 1)
-
-corners_of-2 : (n : ℕ) → corners_of n 2 ≡ base_triangle (2 ^ n) 0
-unfolding corners_of level_of
-corners_of-2 n = refl
-
-corners_of-3 : (n : ℕ) → corners_of n 3 ≡ base_triangle (2 ^ n) 1
-unfolding corners_of level_of
-corners_of-3 n = refl
 
 -- the first level: below 4, and the deeper ones from 4 on
 pub coarsest : AddressLaws → (a : ℕ) → 2 ≤ a → level_of a ≡ 0 → a < 4
@@ -246,13 +233,13 @@ v1-held c d h = made c c.v1 (record { left_leg = omega (arith, h.area); base = o
 pub slack : (i j : ℕ) → i ≤ j → (k : ℕ) × (i + k ≡ j)
 slack i j h = (j - i, omega arith)
 
--- A point by its weights u, v and w at the corners a, p and q of a triangle of doubled area 1.
-weighted-x : (ax ay px py qx qy rx ry u v w : ℕ) →
-    ax * py + px * qy + qx * ay ≡ ay * px + py * qx + qy * ax + 1 →
+-- a point by its weights u, v and w at the corners a, p and q of a triangle of doubled area d
+pub weighted-x : (ax ay px py qx qy rx ry u v w d : ℕ) →
+    ax * py + px * qy + qx * ay ≡ ay * px + py * qx + qy * ax + d →
     py * qx + qy * rx + ry * px + u ≡ px * qy + qx * ry + rx * py →
     qy * ax + ay * rx + ry * qx + v ≡ qx * ay + ax * ry + rx * qy →
-    ay * px + py * rx + ry * ax + w ≡ ax * py + px * ry + rx * ay → rx ≡ u * ax + v * px + w * qx
-weighted-x ax ay px py qx qy rx ry u v w area hu hv hw = omega (
+    ay * px + py * rx + ry * ax + w ≡ ax * py + px * ry + rx * ay → d * rx ≡ u * ax + v * px + w * qx
+weighted-x ax ay px py qx qy rx ry u v w d area hu hv hw = omega (
   arith,
   ap (λ t. t * rx) area,
   ap (λ t. t * ax) hu,
@@ -260,12 +247,13 @@ weighted-x ax ay px py qx qy rx ry u v w area hu hv hw = omega (
   ap (λ t. t * qx) hw,
 )
 
-weighted-y : (ax ay px py qx qy rx ry u v w : ℕ) →
-    ax * py + px * qy + qx * ay ≡ ay * px + py * qx + qy * ax + 1 →
+-- the same for the other coordinate
+pub weighted-y : (ax ay px py qx qy rx ry u v w d : ℕ) →
+    ax * py + px * qy + qx * ay ≡ ay * px + py * qx + qy * ax + d →
     py * qx + qy * rx + ry * px + u ≡ px * qy + qx * ry + rx * py →
     qy * ax + ay * rx + ry * qx + v ≡ qx * ay + ax * ry + rx * qy →
-    ay * px + py * rx + ry * ax + w ≡ ax * py + px * ry + rx * ay → ry ≡ u * ay + v * py + w * qy
-weighted-y ax ay px py qx qy rx ry u v w area hu hv hw = omega (
+    ay * px + py * rx + ry * ax + w ≡ ax * py + px * ry + rx * ay → d * ry ≡ u * ay + v * py + w * qy
+weighted-y ax ay px py qx qy rx ry u v w d area hu hv hw = omega (
   arith,
   ap (λ t. t * ry) area,
   ap (λ t. t * ay) hu,
@@ -273,33 +261,29 @@ weighted-y ax ay px py qx qy rx ry u v w area hu hv hw = omega (
   ap (λ t. t * qy) hw,
 )
 
-weight-sum : (ax ay px py qx qy rx ry u v w : ℕ) →
-    ax * py + px * qy + qx * ay ≡ ay * px + py * qx + qy * ax + 1 →
+-- the weights add up to the doubled area
+pub weight-sum : (ax ay px py qx qy rx ry u v w d : ℕ) →
+    ax * py + px * qy + qx * ay ≡ ay * px + py * qx + qy * ax + d →
     py * qx + qy * rx + ry * px + u ≡ px * qy + qx * ry + rx * py →
     qy * ax + ay * rx + ry * qx + v ≡ qx * ay + ax * ry + rx * qy →
-    ay * px + py * rx + ry * ax + w ≡ ax * py + px * ry + rx * ay → u + v + w ≡ 1
-weight-sum ax ay px py qx qy rx ry u v w area hu hv hw = omega arith
+    ay * px + py * rx + ry * ax + w ≡ ax * py + px * ry + rx * ay → u + v + w ≡ d
+weight-sum ax ay px py qx qy rx ry u v w d area hu hv hw = omega arith
 
 -- all weight at one corner
 only : (u v w a p q r : ℕ) → u ≡ 1 → v ≡ 0 → w ≡ 0 → r ≡ u * a + v * p + w * q → r ≡ a
 only u v w a p q r hu hv hw h = h ∙ rw (hu, hv, hw) (omega arith)
 
--- two points with equal coordinates are equal
-same-point : (p q : Point) → p.x ≡ q.x → p.y ≡ q.y → p ≡ q
-same-point p q x y =
-    ap (λ i. let s : Point = record { x = i; y = p.y } in s) x ∙ ap (λ j. let s : Point = record { x = q.x; y = j } in s) y
-
 by-weights : (c : Corners) (r : Point) (u v w : ℕ) → u + v + w ≡ 1 → r.x ≡ u * c.apex.x + v * c.v0.x + w * c.v1.x →
     r.y ≡ u * c.apex.y + v * c.v0.y + w * c.v1.y → IsCorner c r
 by-weights c r u v w sum x y = ⊎_elim {C = IsCorner c r}
-    (λ u_some. inl (same-point r c.apex
+    (λ u_some. inl (same_point r.x r.y c.apex.x c.apex.y
     (only u v w c.apex.x c.v0.x c.v1.x r.x (omega arith) (omega arith) (omega arith) x)
     (only u v w c.apex.y c.v0.y c.v1.y r.y (omega arith) (omega arith) (omega arith) y)))
     (λ u_none. ⊎_elim {C = IsCorner c r}
-    (λ v_some. inr (inl (same-point r c.v0
+    (λ v_some. inr (inl (same_point r.x r.y c.v0.x c.v0.y
     (only v u w c.v0.x c.apex.x c.v1.x r.x (omega arith) (omega arith) (omega arith) (omega arith))
     (only v u w c.v0.y c.apex.y c.v1.y r.y (omega arith) (omega arith) (omega arith) (omega arith)))))
-    (λ v_none. inr (inr (same-point r c.v1
+    (λ v_none. inr (inr (same_point r.x r.y c.v1.x c.v1.y
     (only w u v c.v1.x c.apex.x c.v0.x r.x (omega arith) (omega arith) (omega arith) (omega arith))
     (only w u v c.v1.y c.apex.y c.v0.y r.y (omega arith) (omega arith) (omega arith) (omega arith)))))
     (cases_lt 0 v))
@@ -316,6 +300,6 @@ finest-corner c r h held =
     let w : (k : ℕ) × (c.apex.y * c.v0.x + c.v0.y * r.x + r.y * c.apex.x + k ≡ c.apex.x * c.v0.y + c.v0.x * r.y + r.x * c.apex.y) =
     slack _ _ lines.left_leg in
     by-weights c r u.0 v.0 w.0
-    (weight-sum c.apex.x c.apex.y c.v0.x c.v0.y c.v1.x c.v1.y r.x r.y u.0 v.0 w.0 h.area u.1 v.1 w.1)
-    (weighted-x c.apex.x c.apex.y c.v0.x c.v0.y c.v1.x c.v1.y r.x r.y u.0 v.0 w.0 h.area u.1 v.1 w.1)
-    (weighted-y c.apex.x c.apex.y c.v0.x c.v0.y c.v1.x c.v1.y r.x r.y u.0 v.0 w.0 h.area u.1 v.1 w.1)
+    (weight-sum c.apex.x c.apex.y c.v0.x c.v0.y c.v1.x c.v1.y r.x r.y u.0 v.0 w.0 1 h.area u.1 v.1 w.1)
+    (omega (arith, weighted-x c.apex.x c.apex.y c.v0.x c.v0.y c.v1.x c.v1.y r.x r.y u.0 v.0 w.0 1 h.area u.1 v.1 w.1))
+    (omega (arith, weighted-y c.apex.x c.apex.y c.v0.x c.v0.y c.v1.x c.v1.y r.x r.y u.0 v.0 w.0 1 h.area u.1 v.1 w.1))

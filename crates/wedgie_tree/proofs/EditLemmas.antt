@@ -15,44 +15,10 @@ use Rattle.bintree_laws.specs.Corners.{IsWithin}
 use Rattle.wedgie_tree.specs.declared.wedge.Wedge.{Wedge}
 use Rattle.wedgie_tree.specs.Table.{IsWedge}
 use Rattle.wedgie_tree.specs.Edits.{AgreesOn, IsInRectangle}
-use Rattle.wedgie_tree.proofs.AreaLemmas.{AddressLaws, HasArea, HasArea-at, IsHeld, read, slack, v0-held, v1-held}
+use Rattle.wedgie_tree.proofs.AreaLemmas.{AddressLaws, HasArea, HasArea-at, IsHeld, read, slack, v0-held, v1-held, weighted-x, weighted-y, weight-sum}
 use Rattle.wedgie_tree.proofs.HeightLemmas.{holds_point-children, apex-passes}
 
 -- ---- a held point lies in the bounding rectangle
-
--- a point by its weights u, v and w at the corners a, p and q of a triangle of doubled area d
-weighted-x : (ax ay px py qx qy rx ry u v w d : ℕ) →
-    ax * py + px * qy + qx * ay ≡ ay * px + py * qx + qy * ax + d →
-    py * qx + qy * rx + ry * px + u ≡ px * qy + qx * ry + rx * py →
-    qy * ax + ay * rx + ry * qx + v ≡ qx * ay + ax * ry + rx * qy →
-    ay * px + py * rx + ry * ax + w ≡ ax * py + px * ry + rx * ay → d * rx ≡ u * ax + v * px + w * qx
-weighted-x ax ay px py qx qy rx ry u v w d area hu hv hw = omega (
-  arith,
-  ap (λ t. t * rx) area,
-  ap (λ t. t * ax) hu,
-  ap (λ t. t * px) hv,
-  ap (λ t. t * qx) hw,
-)
-
-weighted-y : (ax ay px py qx qy rx ry u v w d : ℕ) →
-    ax * py + px * qy + qx * ay ≡ ay * px + py * qx + qy * ax + d →
-    py * qx + qy * rx + ry * px + u ≡ px * qy + qx * ry + rx * py →
-    qy * ax + ay * rx + ry * qx + v ≡ qx * ay + ax * ry + rx * qy →
-    ay * px + py * rx + ry * ax + w ≡ ax * py + px * ry + rx * ay → d * ry ≡ u * ay + v * py + w * qy
-weighted-y ax ay px py qx qy rx ry u v w d area hu hv hw = omega (
-  arith,
-  ap (λ t. t * ry) area,
-  ap (λ t. t * ay) hu,
-  ap (λ t. t * py) hv,
-  ap (λ t. t * qy) hw,
-)
-
-weight-sum : (ax ay px py qx qy rx ry u v w d : ℕ) →
-    ax * py + px * qy + qx * ay ≡ ay * px + py * qx + qy * ax + d →
-    py * qx + qy * rx + ry * px + u ≡ px * qy + qx * ry + rx * py →
-    qy * ax + ay * rx + ry * qx + v ≡ qx * ay + ax * ry + rx * qy →
-    ay * px + py * rx + ry * ax + w ≡ ax * py + px * ry + rx * ay → u + v + w ≡ d
-weight-sum ax ay px py qx qy rx ry u v w d area hu hv hw = omega arith
 
 cancel : (d i j : ℕ) → 0 < d → d * i ≤ d * j → i ≤ j
 cancel d i j some le = ⊎_elim {C = i ≤ j}

@@ -5,7 +5,8 @@ use Rattle.mesh_defs.specs.HeightField.{HeightField, IsHeightField}
 use Rattle.mesh_defs.specs.Triangle.{level_of, IsSplittable}
 use Rattle.wedgie_tree.specs.declared.wedge.Wedge.{Wedge}
 use Rattle.wedgie_tree.specs.Table.{IsWedge, HasEntry, AllUnder, IsTable}
-use Rattle.wedgie_tree.proofs.AreaLemmas.{AddressLaws, left-or-right, coarsest, deeper}
+use Rattle.bintree_laws.proofs.LevelLemmas.{left-or-right}
+use Rattle.wedgie_tree.proofs.AreaLemmas.{AddressLaws, coarsest, deeper}
 
 -- the entry that was written
 HasEntry-written : (g : HeightField) (table : List Wedge) (i : ℕ) (w : Wedge) → i < length table → IsWedge g i w →

@@ -1,50 +1,14 @@
-//! Corners of children, and heights and boxes by corners.
+//! Heights and boxes by corners.
 
 ghost use Rattle.std.specs.Prelude.{pos, ◌≡◌, ◌+◌, ◌*◌, ◌^◌, ◌<◌, ◌≤◌};
 ghost use Rattle.mesh_defs.specs.HeightField.{HeightField};
-ghost use Rattle.mesh_defs.specs.Triangle.{midpoint, child};
 ghost use Rattle.mesh_defs.specs.Thickness.{height_of, deviation};
 ghost use Rattle.mesh_defs.specs.BoundingBox.{least_of_3, greatest_of_3};
 ghost use Rattle.bintree_laws.specs.Corners.{IsWithin, IsInSquare};
 ghost use Rattle.wedgie_tree.specs.declared.wedges.TheConstants.{GREATEST_SPACING};
 
-use bintree_addr::{Corners, Cuboid, Point};
+use bintree_addr::{Corners, Cuboid, Point, point_between};
 use pgm_grid::Grid;
-
-/// The middle of the base.
-pub fn base_middle(corners: Corners) -> Point
-    requires within { IsWithin (2 ^ 11) corners }
-    ensures { result ≡ midpoint corners.v0 corners.v1 }
-{
-    Point {
-        x: (corners.v0.x + corners.v1.x) / 2,
-        y: (corners.v0.y + corners.v1.y) / 2,
-    }
-}
-
-/// The corners of the left child.
-pub fn left_corners(corners: Corners) -> Corners
-    requires within { IsWithin (2 ^ 11) corners }
-    ensures { result ≡ child 0 corners }
-{
-    Corners {
-        apex: base_middle(corners),
-        v0: corners.apex,
-        v1: corners.v0,
-    }
-}
-
-/// The corners of the right child.
-pub fn right_corners(corners: Corners) -> Corners
-    requires within { IsWithin (2 ^ 11) corners }
-    ensures { result ≡ child 1 corners }
-{
-    Corners {
-        apex: base_middle(corners),
-        v0: corners.v1,
-        v1: corners.apex,
-    }
-}
 
 /// The height at a point of the grid.
 pub fn height_at(grid: &Grid, point: Point) -> u16
@@ -63,7 +27,8 @@ pub fn deviation_of(grid: &Grid, corners: Corners) -> u32
 {
     // The grid is small, so the sums of corners fit.
     let _small = grid.n();
-    let surface = 2 * u32::from(height_at(grid, base_middle(corners)));
+    let middle = point_between(corners.v0, corners.v1);
+    let surface = 2 * u32::from(height_at(grid, middle));
     let base = u32::from(height_at(grid, corners.v0)) + u32::from(height_at(grid, corners.v1));
     surface.abs_diff(base)
 }

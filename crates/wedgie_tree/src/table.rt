@@ -6,9 +6,9 @@ ghost use Rattle.wedgie_tree.specs.Table.{IsWedge, HasEntry, AllUnder, IsTable, 
 
 use crate::Area;
 use crate::laws::wedge_laws;
-use crate::shape::{deviation_of, height_at, left_corners, right_corners};
+use crate::shape::{deviation_of, height_at};
 use crate::wedge::Wedge;
-use bintree_addr::{Corners, Tri, corner_laws, level_laws};
+use bintree_addr::{Corners, Tri, child_corners, corner_laws, level_laws};
 use pgm_grid::Grid;
 
 /// The number of places in the table: one for each address below the finest level, and two unused ones.
@@ -79,8 +79,8 @@ pub fn mend_under(table: &mut [Wedge], grid: &Grid, area: Area, tri: Tri, corner
     if !area.meets(corners) {
         return table[tri.number() as usize];
     }
-    let left = mend_under(table, grid, area, tri.left(), left_corners(corners));
-    let right = mend_under(table, grid, area, tri.right(), right_corners(corners));
+    let left = mend_under(table, grid, area, tri.left(), child_corners(corners, false));
+    let right = mend_under(table, grid, area, tri.right(), child_corners(corners, true));
     let wedge = joined(grid, tri, corners, left, right);
     table[tri.number() as usize] = wedge;
     wedge

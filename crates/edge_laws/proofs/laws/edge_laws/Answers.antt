@@ -1,5 +1,5 @@
 -- Each clause is a lemma.
-use Rattle.std.proofs.Common.{◌≡◌, ◌≤◌, ◌+◌, ◌*◌, ℕ, subst, arith}
+use Rattle.std.proofs.Common.{subst, arith}
 use Rattle.mesh_defs.specs.Triangle.{IsMate}
 use Rattle.edge_laws.proofs.MateLemmas.{mate_of-back}
 use Rattle.edge_laws.proofs.IsMateLemmas.{IsMate-mate_of, mate_of-IsMate}

@@ -1,9 +1,9 @@
-use Rattle.std.proofs.Common.{◌≡◌, ap, sym, ◌∙◌, subst, ℕ, ◌+◌, ◌*◌, ◌/◌, ◌<◌, ◌≤◌, ◌⊎◌, inl, inr, ⊎_elim, List, ◌∷◌, ◌++◌, [], length, arith}
-use Rattle.edge_laws.specs.Slots.{address_at, has_children, IsLive, split_set, IsSplit, room_of}
-use Rattle.triangle_pool.specs.Answer.{numbers, IsBorn}
-use Rattle.force_split.specs.Chain.{IsChain, IsChained, IsBornOf}
+use Rattle.std.proofs.Common.{ap, sym, ◌∙◌, subst, ◌+◌, inl, inr, ◌∷◌, ◌++◌, [], arith}
+use Rattle.edge_laws.specs.Slots.{room_of}
+use Rattle.triangle_pool.specs.Answer.{numbers}
+use Rattle.force_split.specs.Chain.{IsChain, IsBornOf}
 use Rattle.std.proofs.lemmas.List.{append_assoc}
-use Rattle.force_split.proofs.CarryLemmas.{IsTask, IsTurn, rest_task, turn, task_step, born_old, born_new, answers_step}
+use Rattle.force_split.proofs.CarryLemmas.{IsTask, rest_task, turn, task_step, born_old, born_new, answers_step}
 use Rattle.force_split.proofs.carrying.+split_all.Goals as goal
 
 pub split_all-requires : goal.split_all-requires

@@ -1,6 +1,4 @@
-use Rattle.std.proofs.Common.{◌≡◌, ℕ, ◌+◌, ◌*◌, ◌<◌, ◌≤◌, List, length, arith}
-use Rattle.triangle_pool.specs.Answer.{numbers}
-use Rattle.force_split.specs.Chain.{chain_size}
+use Rattle.std.proofs.Common.{arith}
 use Rattle.force_split.proofs.CarryLemmas.{size_small}
 use Rattle.force_split.proofs.carrying.carry_out.Goals as goal
 

@@ -1,7 +1,6 @@
-use Rattle.std.proofs.Common.{◌≡◌, sym, ◌∙◌, ℕ, ◌<◌, ◌≤◌, arith, subst, true, false, ap}
+use Rattle.std.proofs.Common.{arith, true, false, ap}
 use Rattle.std.proofs.lemmas.Bool.{true≢false}
 use Rattle.mesh_defs.specs.Triangle.{level_of}
-use Rattle.edge_laws.specs.Slots.{address_at}
 use Rattle.edge_laws.proofs.SlotLemmas.{coarse_link}
 use Rattle.force_split.proofs.planning.coarser.Goals as goal
 

@@ -1,6 +1,5 @@
-use Rattle.std.proofs.Common.{◌≡◌, ◌++◌, [], sym, ◌∙◌, ap, subst, ℕ, ◌+◌, List}
+use Rattle.std.proofs.Common.{sym, subst}
 use Rattle.edge_laws.specs.Slots.{address_at}
-use Rattle.triangle_pool.specs.Answer.{numbers}
 use Rattle.force_split.specs.Chain.{IsGainOf}
 use Rattle.force_split.proofs.GainLemmas.{chain_gain, gain_members}
 use Rattle.force_split.proofs.planning.plan.Goals as goal

@@ -1,4 +1,4 @@
--- One entry after the other: the closure of a front, until one is over the budget.
+-- One entry after the other: the closure of a prefix, until one is over the budget.
 use Rattle.std.proofs.Common.{◌≡◌, ℕ, ◌≤◌, List, length, Some, false, is_some, ap, subst, sym, ◌∙◌, arith}
 use Rattle.std.proofs.lemmas.Option.{MatchOption-at_some}
 use Rattle.mesh_defs.specs.ClosedSet.{leaves_of, among}
@@ -6,7 +6,7 @@ use Rattle.mesh_defs.specs.GridSet.{GridSet}
 use Rattle.closure_laws.proofs.ClosureLemmas.{leaves_of-none}
 use Rattle.plain_mesh.specs.Ranks.{triangles_of}
 use Rattle.plain_mesh.specs.Stop.{IsOver, IsStop}
-use Rattle.plain_mesh.proofs.FrontLemmas.{closure-nothing, closure-forced, IsStop-over}
+use Rattle.plain_mesh.proofs.PrefixLemmas.{closure-nothing, closure-forced, IsStop-over}
 use Rattle.plain_mesh.proofs.refining.refined.Goals as goal
 
 pub loop-entry-init : goal.loop-entry-init

@@ -5,7 +5,7 @@ use Rattle.pgm_grid.specs.Progress.{taken, IsSettled}
 use Rattle.roam_run.proofs.ReadingLemmas.{IsReading}
 use Rattle.roam_run.proofs.grid_file.read_grid.Given as goal
 
--- the reader has taken a front of the file, and the shelf has not failed
+-- the reader has taken a prefix of the file, and the shelf has not failed
 abbrev pub invariant-pieces : goal.invariant-pieces
 invariant-pieces g l = record {
   reading : IsReading (g.F.Shelf.files l.fn.shelf) (g.F.Shelf.rest l.shelf) l.name l.reader;

@@ -1,6 +1,5 @@
-use Rattle.std.proofs.Common.{◌≡◌, ◌≢◌, ◌∙◌, ap, sym, refl, ℕ, ◌+◌, ◌*◌, ◌/◌, ◌<◌, ◌≤◌, ◌^◌, arith, length, set, subst, List}
-use Rattle.edge_laws.specs.Net.{nowhere}
-use Rattle.edge_laws.specs.Slots.{address_at, has_children}
+use Rattle.std.proofs.Common.{◌≡◌, ◌∙◌, sym, refl, ℕ, ◌+◌, ◌*◌, arith, set, subst}
+use Rattle.edge_laws.specs.Slots.{address_at}
 use Rattle.triangle_pool.specs.Links.{IsForest}
 use Rattle.triangle_pool.proofs.HalveLemmas.{mate_within, renewed_by, forest_halved}
 use Rattle.triangle_pool.proofs.links.halve.Goals as goal

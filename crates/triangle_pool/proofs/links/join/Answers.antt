@@ -1,8 +1,5 @@
-use Rattle.std.proofs.Common.{◌≡◌, ◌∙◌, ap, sym, subst, ℕ, ◌+◌, ◌*◌, ◌<◌, ◌≤◌, arith, length, List, set}
-use Rattle.std.proofs.lemmas.List.{get_or_default}
-use Rattle.triangle_pool.specs.declared.forest.Node.{Node}
+use Rattle.std.proofs.Common.{◌≡◌, ◌∙◌, ℕ}
 use Rattle.edge_laws.specs.Slots.{address_at}
-use Rattle.triangle_pool.specs.Links.{node_at, blank, IsLeafAgain}
 use Rattle.triangle_pool.proofs.JoinLemmas.{forest_joined}
 use Rattle.triangle_pool.proofs.links.join.Goals as goal
 

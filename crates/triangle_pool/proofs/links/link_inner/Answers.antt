@@ -1,6 +1,6 @@
-use Rattle.std.proofs.Common.{◌≡◌, ◌≢◌, ℕ, ◌+◌, ◌*◌, ◌<◌, ◌≤◌, arith, length, ◌^◌}
+use Rattle.std.proofs.Common.{arith, length}
 use Rattle.edge_laws.specs.Slots.{address_at}
-use Rattle.triangle_pool.proofs.HalveLemmas.{mate_within, inner_linked, inner_alone}
+use Rattle.triangle_pool.proofs.HalveLemmas.{mate_within, inner_linked}
 use Rattle.triangle_pool.proofs.links.link_inner.Goals as goal
 
 pub overflow_mul-mate : goal.overflow_mul-mate

@@ -1,8 +1,7 @@
-use Rattle.std.proofs.Common.{◌≡◌, ◌≢◌, ap, sym, ◌∙◌, ℕ, ◌+◌, ◌*◌, ◌/◌, ◌%◌, ◌<◌, ◌≤◌, Bool, arith, length, refl, subst, nat_eq}
-use Rattle.edge_laws.specs.Net.{nowhere}
-use Rattle.edge_laws.specs.Slots.{address_at, IsLive}
-use Rattle.triangle_pool.specs.Links.{IsAcross, IsRelinked}
-use Rattle.triangle_pool.proofs.RelinkLemmas.{across_live, live_within, relinked_nowhere, relinked_turn}
+use Rattle.std.proofs.Common.{ℕ, ◌%◌, arith, refl, subst, nat_eq}
+use Rattle.triangle_pool.specs.Links.{IsAcross}
+use Rattle.edge_laws.proofs.SlotLemmas.{live_within}
+use Rattle.triangle_pool.proofs.RelinkLemmas.{across_live, relinked_nowhere, relinked_turn}
 use Rattle.triangle_pool.proofs.links.relink.Goals as goal
 
 pub returns-then-x-eq-NOWHERE : goal.returns-then-x-eq-NOWHERE

@@ -1,10 +1,8 @@
-use Rattle.std.proofs.Common.{◌≡◌, ◌∙◌, ap, ℕ, ◌+◌, ◌*◌, ◌<◌, ◌≤◌, arith, sym, subst, List, set}
+use Rattle.std.proofs.Common.{◌≡◌, ◌∙◌, ap, ℕ, sym, subst, List, set}
 use Rattle.mesh_defs.specs.ClosedSet.{IsClosed}
 use Rattle.edge_laws.specs.Edge.{mate_of}
-use Rattle.triangle_pool.specs.declared.forest.Node.{Node}
 use Rattle.edge_laws.specs.Slots.{address_at, split_set}
-use Rattle.triangle_pool.specs.Links.{MayHalve, IsAcross, IsForest, MaySplitMate, MaySplit, node_at}
-use Rattle.triangle_pool.proofs.HalveLemmas.{address-old, live_apart}
+use Rattle.triangle_pool.specs.Links.{IsForest}
 use Rattle.triangle_pool.proofs.SplitLemmas.{ready_first, left_across, right_across, ready_second, left_second, right_second, closed_two, second_address}
 use Rattle.triangle_pool.proofs.links.split_diamond.Goals as goal
 

@@ -8,14 +8,14 @@ use Rattle.wedgie_tree.specs.Edits.{IsClearOf}
 use Rattle.wedgie_tree.proofs.TableLemmas.{AllUnder-filled, HasEntry-set}
 use Rattle.wedgie_tree.proofs.table.+mend_under.Goals as goal
 
-pub left_corners-requires : goal.left_corners-requires
-left_corners-requires t c = record {
+pub child_corners-requires : goal.child_corners-requires
+child_corners-requires t c = record {
   within = IsWithin-largest c.args.grid.now.n c.args.corners (c.n.ensures.valid).n_high
       (IsWithin-of c.corner_laws.ensures.within c.args.grid.now.n c.args.tri c.args.corners c.requires.of_tri);
 }
 
-pub right_corners-requires : goal.right_corners-requires
-right_corners-requires t c = record {
+pub child_corners-requires-2 : goal.child_corners-requires-2
+child_corners-requires-2 t c = record {
   within = IsWithin-largest c.args.grid.now.n c.args.corners (c.n.ensures.valid).n_high
       (IsWithin-of c.corner_laws.ensures.within c.args.grid.now.n c.args.tri c.args.corners c.requires.of_tri);
 }

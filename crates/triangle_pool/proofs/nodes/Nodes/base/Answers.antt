@@ -1,11 +1,10 @@
-use Rattle.std.proofs.Common.{◌≡◌, ◌∙◌, ◌⊎◌, ap, ℕ, ◌+◌, ◌*◌, ◌/◌, ◌<◌, ◌≤◌, arith, sym, subst, List, length, get_or}
+use Rattle.std.proofs.Common.{◌≡◌, ◌∙◌, ◌⊎◌, ap, ◌≤◌, arith, sym, subst}
 use Rattle.std.proofs.lemmas.List.{get_or_default}
 use Rattle.edge_laws.specs.Edge.{mate_of, owner}
 use Rattle.edge_laws.specs.Net.{nowhere}
-use Rattle.triangle_pool.specs.declared.forest.Node.{Node}
 use Rattle.edge_laws.specs.Slots.{address_at, has_children, IsLive}
 use Rattle.triangle_pool.specs.Links.{node_at, blank, IsMesh}
-use Rattle.triangle_pool.proofs.RelinkLemmas.{live_within}
+use Rattle.edge_laws.proofs.SlotLemmas.{live_within}
 use Rattle.triangle_pool.proofs.PoolLemmas.{base_across}
 use Rattle.triangle_pool.proofs.nodes.Nodes.base.Goals as goal
 

@@ -1,8 +1,8 @@
-use Rattle.std.proofs.Common.{◌≡◌, ◌∙◌, ap, ℕ, ◌+◌, ◌*◌, ◌/◌, ◌<◌, ◌≤◌, arith, sym, subst, List, length, get_or}
+use Rattle.std.proofs.Common.{◌≡◌, ◌∙◌, ap, arith, sym, subst}
 use Rattle.std.proofs.lemmas.List.{get_or_default}
 use Rattle.edge_laws.specs.Slots.{address_at, IsLive}
-use Rattle.triangle_pool.specs.Links.{node_at, blank, IsMesh, AreChildrenAt}
-use Rattle.triangle_pool.proofs.RelinkLemmas.{live_within}
+use Rattle.triangle_pool.specs.Links.{blank, IsMesh, AreChildrenAt}
+use Rattle.edge_laws.proofs.SlotLemmas.{live_within}
 use Rattle.triangle_pool.proofs.nodes.Nodes.children.Goals as goal
 
 pub returns : goal.returns

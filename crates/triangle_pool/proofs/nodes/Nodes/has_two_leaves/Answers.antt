@@ -1,4 +1,4 @@
-use Rattle.std.proofs.Common.{◌≡◌, ◌↔◌, ℕ, nat_eq, true}
+use Rattle.std.proofs.Common.{true}
 use Rattle.std.proofs.lemmas.Bool.{eq-eqb, eqb-true}
 use Rattle.edge_laws.specs.Net.{nowhere}
 use Rattle.triangle_pool.proofs.MergeLemmas.{two_leaves_read}

@@ -1,4 +1,4 @@
-use Rattle.std.proofs.Common.{◌≡◌, ◌≢◌, ◌∙◌, ap, ℕ, ◌+◌, ◌*◌, ◌/◌, ◌<◌, ◌≤◌, arith, sym, subst, List, length, get_or, set, refl}
+use Rattle.std.proofs.Common.{◌∙◌, ap, sym, length}
 use Rattle.std.proofs.lemmas.List.{length-replicate}
 use Rattle.triangle_pool.proofs.NewLemmas.{first_of, first_mesh}
 use Rattle.triangle_pool.proofs.nodes.Nodes.new.Goals as goal

@@ -1,4 +1,3 @@
-use Rattle.std.proofs.Common.{◌≡◌, ◌≢◌}
 use Rattle.edge_laws.specs.Slots.{address_at}
 use Rattle.triangle_pool.proofs.MergeLemmas.{partner_link}
 use Rattle.triangle_pool.proofs.nodes.Nodes.partner.Goals as goal

@@ -1,8 +1,8 @@
-use Rattle.std.proofs.Common.{◌≡◌, ◌∙◌, ap, ℕ, ◌+◌, ◌*◌, ◌/◌, ◌<◌, ◌≤◌, arith, sym, subst, List, length, get_or, refl}
+use Rattle.std.proofs.Common.{◌≡◌, ◌∙◌, ap, ◌+◌, ◌*◌, arith, sym, subst, refl}
 use Rattle.std.proofs.lemmas.List.{get_or_default}
 use Rattle.edge_laws.specs.Slots.{address_at, has_children, IsLive}
-use Rattle.triangle_pool.specs.Links.{node_at, blank, IsMesh, IsAcross}
-use Rattle.triangle_pool.proofs.RelinkLemmas.{live_within}
+use Rattle.triangle_pool.specs.Links.{blank, IsMesh, IsAcross}
+use Rattle.edge_laws.proofs.SlotLemmas.{live_within}
 use Rattle.triangle_pool.proofs.SplitLemmas.{right_across}
 use Rattle.triangle_pool.proofs.nodes.Nodes.right.Goals as goal
 

@@ -1,4 +1,4 @@
-use Rattle.std.proofs.Common.{◌≡◌, ◌≢◌, ◌∙◌, ap, sym, subst, ℕ, ◌+◌, ◌*◌, ◌^◌, ◌<◌, ◌≤◌, List, length, false}
+use Rattle.std.proofs.Common.{◌≡◌, ◌∙◌, ap, sym, subst, ℕ, ◌^◌, ◌<◌, List, length, false}
 use Rattle.std.proofs.lemmas.Option.{IfSome_then}
 use Rattle.mesh_defs.specs.Triangle.{corners_of}
 use Rattle.edge_laws.specs.Slots.{address_at, has_children, IsLive, IsPool, split_set}

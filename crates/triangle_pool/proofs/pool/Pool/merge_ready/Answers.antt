@@ -1,8 +1,5 @@
-use Rattle.std.proofs.Common.{◌≡◌, ◌≢◌, ◌↔◌, ap, sym, subst, ℕ, ◌<◌, ◌≤◌, List, arith, ◌⊎◌, ⊎_elim}
-use Rattle.std.proofs.lemmas.Bool.{cases_lt}
-use Rattle.edge_laws.specs.Edge.{mate_of}
-use Rattle.edge_laws.proofs.MateLemmas.{mate_of-low}
-use Rattle.edge_laws.specs.Slots.{address_at, IsLive}
+use Rattle.std.proofs.Common.{◌≡◌, ap, sym, subst}
+use Rattle.edge_laws.specs.Slots.{IsLive}
 use Rattle.triangle_pool.proofs.MergeLemmas.{partner_live}
 use Rattle.triangle_pool.proofs.pool.Pool.merge_ready.Goals as goal
 

@@ -1,94 +1,51 @@
--- Fronts of a list of triangles: one entry more, and where a budget stops.
-use Rattle.std.proofs.Common.{◌≡◌, ℕ, zero, suc, ◌+◌, ◌<◌, ◌≤◌, Bool, true, false, ◌||◌, eqb, List, [], ◌∷◌, length, take, get_or, IsTrue, Some, slice_get, refl, sym, ◌∙◌, ap, subst, arith, ⊎_elim}
-use Rattle.std.proofs.lemmas.Bool.{or_cases, or_left, or_right, false≢true}
+-- Prefixes of a list of triangles: one entry more, and where a budget stops.
+use Rattle.std.proofs.Common.{◌≡◌, ℕ, zero, suc, ◌+◌, ◌<◌, ◌≤◌, Bool, List, [], ◌∷◌, length, take, get_or, Some, slice_get, refl, sym, ◌∙◌, ap, subst, arith}
 use Rattle.std.proofs.lemmas.List.{length-map}
 use Rattle.std.proofs.lemmas.Option.{slice_get-get_or, slice_get_read, same_Some, none-some}
-use Rattle.mesh_defs.specs.ClosedSet.{IsSubset, IsLeastClosed, leaves_of, among}
-use Rattle.mesh_defs.specs.Ranking.{IsFrontClosure, IsRankClosure, IsBlockedBy}
+use Rattle.mesh_defs.specs.ClosedSet.{IsLeastClosed, leaves_of, among}
+use Rattle.mesh_defs.specs.Ranking.{IsPrefixClosure, IsRankClosure, IsBlockedBy}
 use Rattle.mesh_defs.specs.Greedy.{with_triangle}
-use Rattle.closure_laws.proofs.ForcingLemmas.{with-cases, with-old, with-new}
 use Rattle.closure_laws.proofs.ClosureLemmas.{nothing_least, IsSubset-closures, leaves_of-more}
+use Rattle.closure_laws.proofs.RankLemmas.{prefix-next, prefix-longer}
 use Rattle.bintree_addr.specs.declared.blocked.Blocked.{Blocked}
 use Rattle.bintree_addr.specs.declared.rank.Rank.{Rank}
 use Rattle.mesh_defs.specs.GridSet.{IsForced}
 use Rattle.plain_mesh.specs.Ranks.{triangles_of}
 use Rattle.plain_mesh.specs.Stop.{IsOver, IsStop}
 
--- members of fronts
+-- closures of prefixes
 
-or_none : (b : Bool) → (b || false) ≡ b
-or_none true = refl
-or_none false = refl
-
-or_grouped : (b c d : Bool) → (b || (c || d)) ≡ ((b || c) || d)
-or_grouped true c d = refl
-or_grouped false c d = refl
-
--- the front with one entry more
-among-suc : (i : ℕ) (xs : List ℕ) (a : ℕ) → i < length xs → among (take (suc i) xs) a ≡ with_triangle (among (take i xs)) (get_or xs i 0) a
-among-suc i [] a h = absurd (omega arith)
-among-suc zero (x ∷ xs) a h = or_none (eqb x a)
-among-suc (suc i) (x ∷ xs) a h =
-    ap (λ b. eqb x a || b) (among-suc i xs a (omega arith)) ∙ or_grouped (eqb x a) (among (take i xs) a) (eqb (get_or xs i 0) a)
-
-among-more : (i : ℕ) (xs : List ℕ) (a : ℕ) → i < length xs → among (take (i + 1) xs) a ≡ with_triangle (among (take i xs)) (get_or xs i 0) a
-among-more i xs a h =
-    let e : suc i ≡ i + 1 = omega arith in
-    subst (λ k. among (take k xs) a ≡ with_triangle (among (take i xs)) (get_or xs i 0) a) e (among-suc i xs a h)
-
--- a longer front holds more
-front-longer : (i k : ℕ) (xs : List ℕ) → i ≤ k → IsSubset (among (take i xs)) (among (take k xs))
-front-longer zero k xs le a h = absurd (false≢true h)
-front-longer (suc i) zero xs le a h = absurd (omega arith)
-front-longer (suc i) (suc k) [] le a h = h
-front-longer (suc i) (suc k) (x ∷ xs) le a h = ⊎_elim
-    (λ first. or_left (eqb x a) (among (take k xs) a) first)
-    (λ rest. or_right (eqb x a) (among (take k xs) a) (front-longer i k xs (omega arith) a rest))
-    (or_cases (eqb x a) (among (take i xs) a) h)
-
--- closures of fronts
-
--- the empty list is the closure of the empty front
-pub closure-nothing : (n : ℕ) (xs members : List ℕ) → members ≡ [] → IsFrontClosure n xs 0 (among members)
-closure-nothing n xs members e = subst (λ (l : List ℕ). IsFrontClosure n xs 0 (among l)) (sym e) (nothing_least n (among (take 0 xs)) (λ a. refl))
+-- the empty list is the closure of the empty prefix
+pub closure-nothing : (n : ℕ) (xs members : List ℕ) → members ≡ [] → IsPrefixClosure n xs 0 (among members)
+closure-nothing n xs members e = subst (λ (l : List ℕ). IsPrefixClosure n xs 0 (among l)) (sym e) (nothing_least n (among (take 0 xs)) (λ a. refl))
 
 -- one entry more
-pub closure-more : (n : ℕ) (xs : List ℕ) (i t : ℕ) (has next : ℕ → Bool) → i < length xs → t ≡ get_or xs i 0 → IsFrontClosure n xs i has →
-    IsLeastClosed n (with_triangle has t) next → IsFrontClosure n xs (i + 1) next
-closure-more n xs i t has next within e p q = record {
-  closed = q.closed;
-  holds = λ a h. ⊎_elim
-      (λ old. q.holds a (with-old has t a (p.holds a old)))
-      (λ same. subst (λ z. IsTrue (next z)) (e ∙ same) (q.holds t (with-new has t)))
-      (with-cases (among (take i xs)) (get_or xs i 0) a (sym (among-more i xs a within) ∙ h));
-  least = λ other c holds. q.least other c (λ a h. ⊎_elim
-      (λ old. p.least other c (λ b k. holds b (front-longer i (i + 1) xs (omega arith) b k)) a old)
-      (λ same. subst (λ z. IsTrue (other z)) (sym e ∙ same)
-      (holds (get_or xs i 0) (among-more i xs (get_or xs i 0) within ∙ with-new (among (take i xs)) (get_or xs i 0))))
-      (with-cases has t a h));
-}
+pub closure-more : (n : ℕ) (xs : List ℕ) (i t : ℕ) (has next : ℕ → Bool) → i < length xs → t ≡ get_or xs i 0 → IsPrefixClosure n xs i has →
+    IsLeastClosed n (with_triangle has t) next → IsPrefixClosure n xs (i + 1) next
+closure-more n xs i t has next within e p q =
+    prefix-next n xs has next i within p (subst (λ z. IsLeastClosed n (with_triangle has z) next) e q)
 
 -- where a budget stops
 
 -- the next entry does not fit
 IsRankClosure-over : (n budget : ℕ) (xs : List ℕ) (i t need : ℕ) (before : List ℕ) → i < length xs → t ≡ get_or xs i 0 →
-    IsFrontClosure n xs i (among before) → length (leaves_of n (among before)) ≤ budget → IsOver n budget before t need →
+    IsPrefixClosure n xs i (among before) → length (leaves_of n (among before)) ≤ budget → IsOver n budget before t need →
     IsRankClosure n budget xs i (among before)
 IsRankClosure-over n budget xs i t need before within e p fits o = record {
-  front = omega arith;
+  prefix = omega arith;
   closure = p;
   fits = fits;
   longest = λ k other more k_within closure.
       let next = closure-more n xs i t (among before) (among o.after) within e p o.forced.least in
       let sub = IsSubset-closures n (among (take (i + 1) xs)) (among (take k xs)) (among o.after) other
-      (front-longer (i + 1) k xs (omega arith)) next closure in
+      (prefix-longer xs (i + 1) k (omega arith)) next closure in
       let count = leaves_of-more n (among o.after) other sub in
       let counted = o.counted in let over = o.over in omega arith;
 }
 
 -- so it blocks
 IsBlockedBy-over : (n budget : ℕ) (xs : List ℕ) (i t need : ℕ) (before : List ℕ) → i < length xs → t ≡ get_or xs i 0 →
-    IsFrontClosure n xs i (among before) → IsOver n budget before t need → IsBlockedBy n xs i t need
+    IsPrefixClosure n xs i (among before) → IsOver n budget before t need → IsBlockedBy n xs i t need
 IsBlockedBy-over n budget xs i t need before within e p o = record {
   next = slice_get-get_or xs i 0 within ∙ ap (λ z. Some z) (sym e);
   counted = (among o.after, closure-more n xs i t (among before) (among o.after) within e p o.forced.least, o.counted);
@@ -112,7 +69,7 @@ length-triangles ranks = length-map ranks (λ (z : Rank). z.tri)
 
 -- a forced split takes the closure to that of one entry more
 pub closure-forced : (n m : ℕ) (ranks : List Rank) (i : ℕ) (r : Rank) (before after : List ℕ) → m ≡ n → i < length ranks → r ≡ get_or ranks i r →
-    IsFrontClosure n (triangles_of ranks) i (among before) → IsForced m before r.tri after → IsFrontClosure n (triangles_of ranks) (i + 1) (among after)
+    IsPrefixClosure n (triangles_of ranks) i (among before) → IsForced m before r.tri after → IsPrefixClosure n (triangles_of ranks) (i + 1) (among after)
 closure-forced n m ranks i r before after grid h e p f =
     let length_same = length-triangles ranks in
     closure-more n (triangles_of ranks) i r.tri (among before) (among after) (omega arith) (tri-read ranks i r h e) p
@@ -124,7 +81,7 @@ blocking r need = record { tri = r.tri; need = need }
 
 -- an entry that does not fit is where it stops
 pub IsStop-over : (n m budget : ℕ) (ranks : List Rank) (i : ℕ) (r : Rank) (need : ℕ) (before : List ℕ) → m ≡ n → i < length ranks → r ≡ get_or ranks i r →
-    IsFrontClosure n (triangles_of ranks) i (among before) → length (leaves_of n (among before)) ≤ budget → IsOver m budget before r.tri need →
+    IsPrefixClosure n (triangles_of ranks) i (among before) → length (leaves_of n (among before)) ≤ budget → IsOver m budget before r.tri need →
     IsStop n budget ranks before r.p (Some record { tri = r.tri; need = need })
 IsStop-over n m budget ranks i r need before grid h e p fits o = record {
   chosen = i;
