@@ -1,0 +1,5 @@
+pub mod AreaLemmas
+pub mod DescentLemmas
+pub mod PlaneLemmas
+pub mod ExtremeLemmas
+pub mod ListLemmas

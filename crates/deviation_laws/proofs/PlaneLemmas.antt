@@ -1,0 +1,235 @@
+-- Plane heights are exact, and the areas across from its corners make a held point the mean of the corners.
+use Rattle.std.proofs.Common.{◌≡◌, ℕ, ◌+◌, ◌-◌, ◌*◌, ◌/◌, ◌^◌, ◌<◌, ◌≤◌, true, ◌&&◌, List, refl, sym, ◌∙◌, ap, arith, inl, inr, ⊎_elim, mul-le-mul_left, pow_pos, pow-add}
+use Rattle.std.proofs.Math.Nat.{mul-sub}
+use Rattle.std.proofs.lemmas.Bool.{cases_lt, and_parts, leb-true}
+use Rattle.std.proofs.lemmas.Nat.{div-mul-add}
+use Rattle.mesh_defs.specs.declared.point.Point.{Point}
+use Rattle.mesh_defs.specs.declared.point.Corners.{Corners}
+use Rattle.mesh_defs.specs.Triangle.{level_of, IsAddress, corners_of, IsCorner}
+use Rattle.mesh_defs.specs.Thickness.{height_of, apart, thickness_under, thickness_of}
+use Rattle.mesh_defs.specs.BoundingBox.{point, is_left_or_on, is_in_closed, holds_point}
+use Rattle.bintree_laws.proofs.LevelLemmas.{level-le}
+use Rattle.bintree_laws.proofs.LatticeLemmas.{multiple, scaled, lattice, halved, halved-half, step_of, step_of-power, corners_of-lattice}
+use Rattle.bintree_laws.proofs.MateLemmas.{cancel}
+use Rattle.tiling_laws.proofs.DescentLemmas.{IsDown-address}
+use Rattle.deviation_laws.specs.PlaneHeight.{doubled_area, area_of, weighted, plane_height, off_plane}
+use Rattle.deviation_laws.proofs.AreaLemmas.{area-at}
+use Rattle.deviation_laws.proofs.DescentLemmas.{IsMean, mean-le}
+
+-- ---- areas
+
+-- twice the area is a power of 2
+area_of-power : (n a : ℕ) → IsAddress n a → area_of (corners_of n a) ≡ 2 ^ (2 * n - level_of a)
+area_of-power n a address =
+    let h = area-at n a address in omega arith
+
+-- and so it is positive
+pub area_of-some : (n a : ℕ) → IsAddress n a → 0 < area_of (corners_of n a)
+area_of-some n a address = let e = area_of-power n a address in let p : 0 < 2 ^ (2 * n - level_of a) = pow_pos (2 * n - level_of a) in omega arith
+
+-- ---- exact quotients
+
+-- an area between two points of the lattice is a multiple of its step
+doubled_area-multiple : (s : ℕ) (r p q : Point) → (k : ℕ) × (doubled_area r (multiple s p) (multiple s q) ≡ s * k)
+doubled_area-multiple s r p q =
+    let high : ℕ = s * p.x * q.y + q.x * r.y + r.x * p.y in
+    let low : ℕ = s * p.y * q.x + q.y * r.x + r.y * p.x in
+    let e : s * (high - low) ≡ s * high - s * low = mul-sub s high low in
+    (high - low, omega arith)
+
+-- so the sum of weighted heights is one, too
+weighted-multiple : (s : ℕ) (c : Corners) (f : Point → ℕ) (r : Point) → (k : ℕ) × (weighted (scaled s c) f r ≡ s * k)
+weighted-multiple s c f r =
+    let u = doubled_area-multiple s r c.v0 c.v1 in
+    let v = doubled_area-multiple s r c.v1 c.apex in
+    let w = doubled_area-multiple s r c.apex c.v0 in
+    let fu : ℕ = f (multiple s c.apex) in let fv : ℕ = f (multiple s c.v0) in let fw : ℕ = f (multiple s c.v1) in (
+      u.0 * fu + v.0 * fv + w.0 * fw,
+      omega (arith, ap (λ z. z * fu) u.1, ap (λ z. z * fv) v.1, ap (λ z. z * fw) w.1),
+    )
+
+-- where an area s * t divides m * (s * k), since t divides m
+exact_quotient : (area m weight s t q k : ℕ) → 0 < area → area ≡ s * t → m ≡ t * q → weight ≡ s * k →
+    area * (m * weight / area) ≡ m * weight
+exact_quotient area m weight s t q k some e f g =
+    let whole : m * weight ≡ q * k * area + 0 = rw (e, f, g) (omega arith) in
+    let quotient : m * weight / area ≡ q * k = rw whole (div-mul-add (q * k) area 0 some) in
+    rw quotient (omega arith)
+
+-- the quotient of a plane height is exact
+pub plane_height-exact : (n : ℕ) (heights : List ℕ) (a : ℕ) (r : Point) → IsAddress n a →
+    area_of (corners_of n a) * plane_height n heights a r ≡ 2 ^ n * weighted (corners_of n a) (height_of n heights) r
+unfolding plane_height
+plane_height-exact n heights a r address =
+    let fits : level_of a ≤ 2 * n = level-le n a address in
+    let half : halved (level_of a) ≡ (level_of a + 1) / 2 = halved-half (level_of a) in
+    let step : step_of n (level_of a) ≡ 2 ^ (n - halved (level_of a)) = step_of-power n (level_of a) (n - halved (level_of a)) refl in
+    let t : ℕ = n + halved (level_of a) - level_of a in
+    let q : ℕ = level_of a - halved (level_of a) in
+    let k = weighted-multiple (step_of n (level_of a)) (lattice (level_of a) a) (height_of n heights) r in
+    let parts : 2 * n - level_of a ≡ (n - halved (level_of a)) + t = omega arith in
+    let whole : n ≡ t + q = omega arith in
+    exact_quotient (area_of (corners_of n a)) (2 ^ n) (weighted (corners_of n a) (height_of n heights) r)
+    (step_of n (level_of a)) (2 ^ t) (2 ^ q) k.0 (area_of-some n a address)
+    (area_of-power n a address ∙ ap (λ z. 2 ^ z) parts ∙ pow-add 2 (n - halved (level_of a)) t ∙ ap (λ z. z * 2 ^ t) (sym step))
+    (ap (λ z. 2 ^ z) whole ∙ pow-add 2 t q)
+    (ap (λ c. weighted c (height_of n heights) r) (corners_of-lattice n a fits) ∙ k.1)
+
+-- ---- weights
+
+-- in one coordinate: the areas across from the corners a, p and q
+mean_x : (ax ay px py qx qy rx ry u v w d : ℕ) →
+    ax * py + px * qy + qx * ay ≡ ay * px + py * qx + qy * ax + d →
+    py * qx + qy * rx + ry * px + u ≡ px * qy + qx * ry + rx * py →
+    qy * ax + ay * rx + ry * qx + v ≡ qx * ay + ax * ry + rx * qy →
+    ay * px + py * rx + ry * ax + w ≡ ax * py + px * ry + rx * ay → d * rx ≡ u * ax + v * px + w * qx
+mean_x ax ay px py qx qy rx ry u v w d area hu hv hw =
+    omega (arith, ap (λ t. t * rx) area, ap (λ t. t * ax) hu, ap (λ t. t * px) hv, ap (λ t. t * qx) hw)
+
+mean_y : (ax ay px py qx qy rx ry u v w d : ℕ) →
+    ax * py + px * qy + qx * ay ≡ ay * px + py * qx + qy * ax + d →
+    py * qx + qy * rx + ry * px + u ≡ px * qy + qx * ry + rx * py →
+    qy * ax + ay * rx + ry * qx + v ≡ qx * ay + ax * ry + rx * qy →
+    ay * px + py * rx + ry * ax + w ≡ ax * py + px * ry + rx * ay → d * ry ≡ u * ay + v * py + w * qy
+mean_y ax ay px py qx qy rx ry u v w d area hu hv hw =
+    omega (arith, ap (λ t. t * ry) area, ap (λ t. t * ay) hu, ap (λ t. t * py) hv, ap (λ t. t * qy) hw)
+
+-- where r lies left of a line or on it, the area is the difference of the two sides
+pub difference : (r p q : Point) → is_left_or_on r p q ≡ true →
+    p.y * q.x + q.y * r.x + r.y * p.x + doubled_area r p q ≡ p.x * q.y + q.x * r.y + r.x * p.y
+difference r p q h =
+    let le : p.y * q.x + q.y * r.x + r.y * p.x ≤ p.x * q.y + q.x * r.y + r.x * p.y = leb-true _ _ h in omega arith
+
+-- a held point is the mean of the corners by these areas
+pub IsMean-held : (n a : ℕ) (r : Point) → IsAddress n a → holds_point n a r ≡ true →
+    IsMean (area_of (corners_of n a)) (corners_of n a) r (doubled_area r (corners_of n a).v0 (corners_of n a).v1)
+    (doubled_area r (corners_of n a).v1 (corners_of n a).apex) (doubled_area r (corners_of n a).apex (corners_of n a).v0)
+IsMean-held n a r address held =
+    let c : Corners = corners_of n a in
+    let legs = and_parts (is_left_or_on r c.apex c.v0) (is_left_or_on r c.v0 c.v1 && is_left_or_on r c.v1 c.apex) held in
+    let rest = and_parts (is_left_or_on r c.v0 c.v1) (is_left_or_on r c.v1 c.apex) legs.1 in
+    let u = difference r c.v0 c.v1 rest.0 in
+    let v = difference r c.v1 c.apex rest.1 in
+    let w = difference r c.apex c.v0 legs.0 in
+    let h = area-at n a address in
+    let area : c.apex.x * c.v0.y + c.v0.x * c.v1.y + c.v1.x * c.apex.y ≡ c.apex.y * c.v0.x + c.v0.y * c.v1.x + c.v1.y * c.apex.x + area_of c =
+    omega arith in
+    record {
+      sum = omega arith;
+      x = mean_x c.apex.x c.apex.y c.v0.x c.v0.y c.v1.x c.v1.y r.x r.y (doubled_area r c.v0 c.v1) (doubled_area r c.v1 c.apex)
+          (doubled_area r c.apex c.v0) (area_of c) area u v w;
+      y = mean_y c.apex.x c.apex.y c.v0.x c.v0.y c.v1.x c.v1.y r.x r.y (doubled_area r c.v0 c.v1) (doubled_area r c.v1 c.apex)
+          (doubled_area r c.apex c.v0) (area_of c) area u v w;
+    }
+
+-- ---- the bound
+
+-- a common factor of an order goes
+pub le-scaled : (k i j : ℕ) → 0 < k → k * i ≤ k * j → i ≤ j
+le-scaled k i j some h = ⊎_elim
+    (λ more. let le : k * (j + 1) ≤ k * i = mul-le-mul_left k (let next : j + 1 ≤ i = omega arith in next) in absurd (omega arith))
+    (λ most. most)
+    (cases_lt j i)
+
+-- a difference times k
+pub apart-scaled : (k i j : ℕ) → k * apart i j ≡ apart (k * i) (k * j)
+apart-scaled k i j = omega (arith, mul-sub k i j, mul-sub k j i)
+
+-- from the mean, times the area, to the plane height, times m
+scaled_bound : (area m surface weight z thick : ℕ) → 0 < area → area * z ≡ m * weight →
+    2 * apart (area * surface) weight ≤ area * thick → 2 * apart (m * surface) z ≤ m * thick
+scaled_bound area m surface weight z thick some exact bound =
+    let more : m * (2 * apart (area * surface) weight) ≤ m * (area * thick) = mul-le-mul_left m bound in
+    let near : m * apart (area * surface) weight ≡ apart (m * (area * surface)) (m * weight) = apart-scaled m (area * surface) weight in
+    let far : area * apart (m * surface) z ≡ apart (area * (m * surface)) (area * z) = apart-scaled area (m * surface) z in
+    let same : apart (area * (m * surface)) (area * z) ≡ apart (m * (area * surface)) (m * weight) = omega arith in
+    le-scaled area (2 * apart (m * surface) z) (m * thick) some (omega arith)
+
+-- at each held point twice the way off the plane is at most the thickness, times 2 ^ n
+pub off_plane-le : (n : ℕ) (heights : List ℕ) (a : ℕ) (r : Point) → IsAddress n a → holds_point n a r ≡ true →
+    2 * off_plane n heights a r ≤ 2 ^ n * thickness_of n heights a
+unfolding thickness_of
+off_plane-le n heights a r address held =
+    let c : Corners = corners_of n a in
+    scaled_bound (area_of c) (2 ^ n) (height_of n heights r) (weighted c (height_of n heights) r) (plane_height n heights a r)
+    (thickness_under (2 * n - level_of a) n heights a) (area_of-some n a address) (plane_height-exact n heights a r address)
+    (mean-le n heights (2 * n - level_of a) a (area_of c) r (doubled_area r c.v0 c.v1) (doubled_area r c.v1 c.apex)
+    (doubled_area r c.apex c.v0) (area_of-some n a address) (IsDown-address n a address) (IsMean-held n a r address held))
+
+-- ---- running differences
+
+-- three areas in a row of points
+area-row : (x y : ℕ) (p q : Point) → is_left_or_on (point x y) p q ≡ true → is_left_or_on (point (x + 1) y) p q ≡ true →
+    is_left_or_on (point (x + 2) y) p q ≡ true →
+    doubled_area (point x y) p q + doubled_area (point (x + 2) y) p q ≡ 2 * doubled_area (point (x + 1) y) p q
+area-row x y p q h0 h1 h2 =
+    let e0 = difference (point x y) p q h0 in
+    let e1 = difference (point (x + 1) y) p q h1 in
+    let e2 = difference (point (x + 2) y) p q h2 in
+    omega arith
+
+-- the tests of a held point
+pub left_or_on-held : (c : Corners) (r : Point) → is_in_closed c r ≡ true →
+    (is_left_or_on r c.apex c.v0 ≡ true) × (is_left_or_on r c.v0 c.v1 ≡ true) × (is_left_or_on r c.v1 c.apex ≡ true)
+left_or_on-held c r held =
+    let legs = and_parts (is_left_or_on r c.apex c.v0) (is_left_or_on r c.v0 c.v1 && is_left_or_on r c.v1 c.apex) held in
+    let rest = and_parts (is_left_or_on r c.v0 c.v1) (is_left_or_on r c.v1 c.apex) legs.1 in
+    (legs.0, rest.0, rest.1)
+
+-- so along a row each plane height differs from the one before by the same number
+pub plane_height-row : (n : ℕ) (heights : List ℕ) (a x y : ℕ) → IsAddress n a → holds_point n a (point x y) ≡ true →
+    holds_point n a (point (x + 1) y) ≡ true → holds_point n a (point (x + 2) y) ≡ true →
+    plane_height n heights a (point x y) + plane_height n heights a (point (x + 2) y) ≡ 2 * plane_height n heights a (point (x + 1) y)
+plane_height-row n heights a x y address h0 h1 h2 =
+    let c : Corners = corners_of n a in
+    let f : Point → ℕ = height_of n heights in
+    let t0 = left_or_on-held c (point x y) h0 in
+    let t1 = left_or_on-held c (point (x + 1) y) h1 in
+    let t2 = left_or_on-held c (point (x + 2) y) h2 in
+    let u = area-row x y c.v0 c.v1 t0.1 t1.1 t2.1 in
+    let v = area-row x y c.v1 c.apex t0.2 t1.2 t2.2 in
+    let w = area-row x y c.apex c.v0 t0.0 t1.0 t2.0 in
+    let sum : weighted c f (point x y) + weighted c f (point (x + 2) y) ≡ 2 * weighted c f (point (x + 1) y) =
+    omega (arith, ap (λ z. z * f c.apex) u, ap (λ z. z * f c.v0) v, ap (λ z. z * f c.v1) w) in
+    let z0 = plane_height-exact n heights a (point x y) address in
+    let z1 = plane_height-exact n heights a (point (x + 1) y) address in
+    let z2 = plane_height-exact n heights a (point (x + 2) y) address in
+    cancel (area_of c) (plane_height n heights a (point x y) + plane_height n heights a (point (x + 2) y))
+    (2 * plane_height n heights a (point (x + 1) y)) (area_of-some n a address) (omega (arith, ap (λ z. 2 ^ n * z) sum))
+
+-- ---- at the corners
+
+-- all weight is there
+weighted-apex : (c : Corners) (f : Point → ℕ) → weighted c f c.apex ≡ area_of c * f c.apex
+weighted-apex c f =
+    let v : doubled_area c.apex c.v1 c.apex ≡ 0 = omega arith in
+    let w : doubled_area c.apex c.apex c.v0 ≡ 0 = omega arith in
+    rw (v, w) (omega arith)
+
+weighted-v0 : (c : Corners) (f : Point → ℕ) → weighted c f c.v0 ≡ area_of c * f c.v0
+weighted-v0 c f =
+    let u : doubled_area c.v0 c.v0 c.v1 ≡ 0 = omega arith in
+    let v : doubled_area c.v0 c.v1 c.apex ≡ area_of c = omega arith in
+    let w : doubled_area c.v0 c.apex c.v0 ≡ 0 = omega arith in
+    rw (u, w, v) (omega arith)
+
+weighted-v1 : (c : Corners) (f : Point → ℕ) → weighted c f c.v1 ≡ area_of c * f c.v1
+weighted-v1 c f =
+    let u : doubled_area c.v1 c.v0 c.v1 ≡ 0 = omega arith in
+    let v : doubled_area c.v1 c.v1 c.apex ≡ 0 = omega arith in
+    let w : doubled_area c.v1 c.apex c.v0 ≡ area_of c = omega arith in
+    rw (u, v, w) (omega arith)
+
+weighted-corner : (c : Corners) (f : Point → ℕ) (r : Point) → IsCorner c r → weighted c f r ≡ area_of c * f r
+weighted-corner c f r (inl e) = rw e (weighted-apex c f)
+weighted-corner c f r (inr (inl e)) = rw e (weighted-v0 c f)
+weighted-corner c f r (inr (inr e)) = rw e (weighted-v1 c f)
+
+-- the plane passes through the corners
+pub plane_height-corner : (n : ℕ) (heights : List ℕ) (a : ℕ) (r : Point) → IsAddress n a → IsCorner (corners_of n a) r →
+    plane_height n heights a r ≡ 2 ^ n * height_of n heights r
+plane_height-corner n heights a r address corner =
+    let area : ℕ = area_of (corners_of n a) in
+    let whole = weighted-corner (corners_of n a) (height_of n heights) r corner in
+    cancel area (plane_height n heights a r) (2 ^ n * height_of n heights r) (area_of-some n a address)
+    (plane_height-exact n heights a r address ∙ ap (λ k. 2 ^ n * k) whole ∙ omega arith)

@@ -1,0 +1,3 @@
+mod AskedLemmas
+mod FrameLemmas
+mod LeafListLemmas

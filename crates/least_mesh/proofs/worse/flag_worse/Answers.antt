@@ -1,0 +1,52 @@
+-- One address a turn.
+use Rattle.std.proofs.Common.{◌≡◌, ◌+◌, ◌*◌, ◌^◌, length, ap, subst, sym, ◌∙◌, arith}
+use Rattle.mesh_defs.specs.HeightField.{HeightField}
+use Rattle.mesh_defs.specs.Priority.{priority_of}
+use Rattle.view_priority.specs.Camera.{view_from}
+use Rattle.least_laws.specs.Least.{is_worse}
+use Rattle.least_mesh.specs.Asked.{AreFlagged}
+use Rattle.least_mesh.proofs.AskedLemmas.{asked-none, asked-yes, asked-no, asked-all}
+use Rattle.least_mesh.proofs.worse.flag_worse.Goals.{then-is_worse, else-is_worse}
+use Rattle.least_mesh.proofs.worse.flag_worse.Goals as goal
+
+pub loop-number-init : goal.loop-number-init
+loop-number-init c =
+    let p = priority_of c.args.w.now.n c.args.w.now.heights (view_from c.args.camera.now c.args.spacing c.args.planes.now) in
+    record {
+      flagged = asked-none c.args.w.now.n c.args.tolerance (length c.args.flags.now) p c.clear.new.flags c.clear.ensures;
+      asked = omega arith;
+    }
+
+pub loop-number-preserved : goal.loop-number-preserved
+loop-number-preserved c =
+    let p = priority_of c.args.w.now.n c.args.w.now.heights (view_from c.args.camera.now c.args.spacing c.args.planes.now) in
+    let wanted = is_worse c.args.w.now.n c.args.tolerance p in
+    let more = c.is_worse.ensures.asked in
+    let asked = c.loop-number.invariant.asked in
+    let grid : c.n.result ≡ c.args.w.now.n = c.n.ensures.value ∙ ap (λ (g : HeightField). g.n) c.grid.ensures.value in
+    let end : c.end-number-end.result ≡ 2 ^ (2 * c.args.w.now.n + 1) = c.end-number-end.ensures.value ∙ ap (λ k. 2 ^ (2 * k + 1)) grid in
+    let test = c.loop-number-test.true in
+    let long = c.loop-number.auto.flags in
+    let room = c.requires.room in
+    elim c.if-is_worse.branch [
+      | then-is_worse w ↦ record {
+        flagged = subst (λ l. AreFlagged wanted l (c.loop-number.number + 1)) (sym w.flags-is)
+            (asked-yes wanted c.loop-number.flags c.loop-number.number c.loop-number.invariant.flagged (omega arith) (sym c.is_worse.ensures.value ∙ w.if-is_worse.true));
+        asked = omega arith;
+      }
+      | else-is_worse w ↦ record {
+        flagged = subst (λ l. AreFlagged wanted l (c.loop-number.number + 1)) (sym w.flags-is)
+            (asked-no wanted c.loop-number.flags c.loop-number.number c.loop-number.invariant.flagged (sym c.is_worse.ensures.value ∙ w.if-is_worse.false));
+        asked = omega arith;
+      }
+    ]
+
+pub returns-clause-worse : goal.returns-clause-worse
+returns-clause-worse c =
+    let p = priority_of c.args.w.now.n c.args.w.now.heights (view_from c.args.camera.now c.args.spacing c.args.planes.now) in
+    let end = c.end-number-end.ensures in
+    let grid : c.n.result ≡ c.args.w.now.n = c.n.ensures.value ∙ ap (λ (g : HeightField). g.n) c.grid.ensures.value in
+    let value : c.end-number-end.result ≡ 2 ^ (2 * c.args.w.now.n + 1) = end.value ∙ ap (λ k. 2 ^ (2 * k + 1)) grid in
+    let most = c.loop-number.auto.number-end end.low in
+    let last = c.loop-number-test.false in
+    asked-all c.args.w.now.n c.args.tolerance c.loop-number.number p c.loop-number.flags (omega arith) c.loop-number.invariant.flagged

@@ -1,0 +1,113 @@
+-- The sums of areas: how great they are, what they weigh, and the plane height by its parts.
+use Rattle.std.proofs.Common.{◌≡◌, ℕ, ◌-◌, ◌*◌, ◌/◌, ◌^◌, ◌<◌, ◌≤◌, List, refl, sym, ◌∙◌, ap, ap₂, subst, arith, mul-le-mul_left, pow_mono}
+use Rattle.std.proofs.Math.Nat.{div-le_self}
+use Rattle.mesh_defs.specs.declared.point.Point.{Point}
+use Rattle.mesh_defs.specs.declared.point.Corners.{Corners}
+use Rattle.mesh_defs.specs.Triangle.{level_of, corners_of}
+use Rattle.mesh_defs.specs.Thickness.{height_of}
+use Rattle.mesh_defs.specs.BoundingBox.{point}
+use Rattle.bintree_laws.specs.Corners.{IsWithin, IsInSquare}
+use Rattle.tiling_laws.proofs.DescentLemmas.{IsAddress-level}
+use Rattle.deviation_laws.specs.PlaneHeight.{doubled_area, area_of, weighted, plane_height}
+use Rattle.deviation_laws.proofs.PlaneLemmas.{area_of-some}
+use Rattle.mesh_measure.specs.declared.areas.Across.{Across}
+use Rattle.mesh_measure.specs.declared.areas.Areas.{Areas}
+use Rattle.mesh_measure.specs.declared.shape.Facet.{Facet}
+use Rattle.mesh_measure.specs.Areas.{high_across, low_across, IsAcross, AreAcross, AreSmall, sum_of_weighted}
+use Rattle.mesh_measure.specs.Facet.{IsFacet}
+
+-- ---- bounds
+
+product : (i j k l : ℕ) → i ≤ k → j ≤ l → i * j ≤ k * l
+product i j k l le more =
+    let first : i * j ≤ i * l = mul-le-mul_left i more in
+    let second : l * i ≤ l * k = mul-le-mul_left l le in
+    omega arith
+
+high-small : (r p q : Point) → r.x ≤ 2049 → r.y ≤ 2048 → IsInSquare (2 ^ 11) p → IsInSquare (2 ^ 11) q → high_across r p q ≤ 16777216
+high-small r p q x y in_p in_q =
+    let first : p.x * q.y ≤ 2048 * 2048 = product p.x q.y 2048 2048 in_p.x in_q.y in
+    let second : q.x * r.y ≤ 2048 * 2048 = product q.x r.y 2048 2048 in_q.x y in
+    let third : r.x * p.y ≤ 2049 * 2048 = product r.x p.y 2049 2048 x in_p.y in
+    omega arith
+
+low-small : (r p q : Point) → r.x ≤ 2049 → r.y ≤ 2048 → IsInSquare (2 ^ 11) p → IsInSquare (2 ^ 11) q → low_across r p q ≤ 16777216
+low-small r p q x y in_p in_q =
+    let first : p.y * q.x ≤ 2048 * 2048 = product p.y q.x 2048 2048 in_p.y in_q.x in
+    let second : q.y * r.x ≤ 2048 * 2049 = product q.y r.x 2048 2049 in_q.y x in
+    let third : r.y * p.x ≤ 2048 * 2048 = product r.y p.x 2048 2048 y in_p.x in
+    omega arith
+
+-- the sums of a point of a row, or of one column beyond it
+pub AreSmall-across : (c : Corners) (r : Point) (s : Areas) → IsWithin (2 ^ 11) c → r.x ≤ 2049 → r.y ≤ 2048 → AreAcross c r s → AreSmall s
+AreSmall-across c r s w x y a =
+    let apex : IsInSquare (2 ^ 11) c.apex = record { x = w.apex_x; y = w.apex_y } in
+    let v0 : IsInSquare (2 ^ 11) c.v0 = record { x = w.v0_x; y = w.v0_y } in
+    let v1 : IsInSquare (2 ^ 11) c.v1 = record { x = w.v1_x; y = w.v1_y } in
+    record {
+      apex_high = subst (λ k. k ≤ 16777216) (sym a.apex.high) (high-small r c.v0 c.v1 x y v0 v1);
+      apex_low = subst (λ k. k ≤ 16777216) (sym a.apex.low) (low-small r c.v0 c.v1 x y v0 v1);
+      v0_high = subst (λ k. k ≤ 16777216) (sym a.v0.high) (high-small r c.v1 c.apex x y v1 apex);
+      v0_low = subst (λ k. k ≤ 16777216) (sym a.v0.low) (low-small r c.v1 c.apex x y v1 apex);
+      v1_high = subst (λ k. k ≤ 16777216) (sym a.v1.high) (high-small r c.apex c.v0 x y apex v0);
+      v1_low = subst (λ k. k ≤ 16777216) (sym a.v1.low) (low-small r c.apex c.v0 x y apex v0);
+    }
+
+-- the corners of a triangle lie in the largest square
+pub IsWithin-largest : (n : ℕ) (c : Corners) → n ≤ 11 → IsWithin (2 ^ n) c → IsWithin (2 ^ 11) c
+IsWithin-largest n c small w =
+    let le : 2 ^ n ≤ 2 ^ 11 = pow_mono small in
+    record {
+      apex_x = omega arith;
+      apex_y = omega arith;
+      v0_x = omega arith;
+      v0_y = omega arith;
+      v1_x = omega arith;
+      v1_y = omega arith;
+    }
+
+-- and so does a point of the grid
+pub IsInSquare-largest : (n x y : ℕ) → n ≤ 11 → x ≤ 2 ^ n → y ≤ 2 ^ n → IsInSquare (2 ^ 11) (point x y)
+IsInSquare-largest n x y small fits fits_y = let le : 2 ^ n ≤ 2 ^ 11 = pow_mono small in record { x = omega arith; y = omega arith }
+
+-- a side times weighted heights is small, and so is a part of it
+pub product-small : (m sum area : ℕ) → m ≤ 2048 → sum ≤ 3298534883328 → (m * sum < 2 ^ 53) × (m * sum / area < 2 ^ 53)
+product-small m sum area side small =
+    let le : m * sum ≤ 2048 * 3298534883328 = product m sum 2048 3298534883328 side small in
+    let part : m * sum / area ≤ m * sum = div-le_self (m * sum) area in
+    (omega arith, omega arith)
+
+-- ---- values
+
+-- an area is the first sum less the second
+pub area-across : (r p q : Point) (s : Across) → IsAcross r p q s → s.high - s.low ≡ doubled_area r p q
+area-across r p q s a = ap₂ (λ i j. i - j) a.high a.low
+
+-- so the sums weigh the heights as the definition does
+pub sum_of_weighted-across : (n : ℕ) (heights : List ℕ) (facet : Facet) (r : Point) (s : Areas) → IsFacet n heights facet →
+    AreAcross facet.corners r s → sum_of_weighted s facet.apex facet.v0 facet.v1 ≡ weighted facet.corners (height_of n heights) r
+sum_of_weighted-across n heights facet r s f a =
+    let c : Corners = facet.corners in rw (
+      area-across r c.v0 c.v1 s.apex a.apex,
+      area-across r c.v1 c.apex s.v0 a.v0,
+      area-across r c.apex c.v0 s.v1 a.v1,
+      f.apex,
+      f.v0,
+      f.v1,
+    ) refl
+
+-- the plane height by its parts
+pub plane_height-facet : (n : ℕ) (heights : List ℕ) (a : ℕ) (facet : Facet) (r : Point) (s : Areas) (m sum : ℕ) → IsFacet n heights facet →
+    facet.corners ≡ corners_of n a → AreAcross facet.corners r s → m ≡ 2 ^ n → sum ≡ sum_of_weighted s facet.apex facet.v0 facet.v1 →
+    m * sum / facet.area ≡ plane_height n heights a r
+unfolding plane_height
+plane_height-facet n heights a facet r s m sum f is across side total =
+    let whole : sum ≡ weighted facet.corners (height_of n heights) r = total ∙ sum_of_weighted-across n heights facet r s f across in
+    rw (side, whole, f.area) (ap (λ d. 2 ^ n * weighted d (height_of n heights) r / area_of d) is)
+
+-- its area is not 0
+pub area-some : (n : ℕ) (heights : List ℕ) (a : ℕ) (facet : Facet) → 2 ≤ a → level_of a ≤ 2 * n → IsFacet n heights facet →
+    facet.corners ≡ corners_of n a → 0 < facet.area
+area-some n heights a facet low fits f is =
+    let some = area_of-some n a (IsAddress-level n a low fits) in
+    let same : facet.area ≡ area_of (corners_of n a) = f.area ∙ ap area_of is in omega arith

@@ -1,0 +1,4 @@
+pub mod AreaLemmas
+pub mod GapLemmas
+pub mod MostLemmas
+pub mod BoxLemmas

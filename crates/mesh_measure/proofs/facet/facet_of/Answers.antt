@@ -1,0 +1,36 @@
+-- The corners lie in the largest square, and the heights and the area are those of the definitions.
+use Rattle.std.proofs.Common.{◌≡◌, ◌∙◌, ap, arith}
+use Rattle.mesh_defs.specs.declared.point.Corners.{Corners}
+use Rattle.mesh_defs.specs.HeightField.{HeightField, height_at}
+use Rattle.mesh_measure.proofs.AreaLemmas.{IsWithin-largest, area-across}
+use Rattle.mesh_measure.proofs.facet.facet_of.Goals as goal
+
+pub of-requires-clause-r_in_grid : goal.of-requires-clause-r_in_grid
+of-requires-clause-r_in_grid c =
+    let w = IsWithin-largest c.n.result c.corners-corners.result c.n.ensures.high c.corners-corners.ensures.within in
+    record { x = w.apex_x; y = w.apex_y }
+
+pub of-requires-clause-p_in_grid : goal.of-requires-clause-p_in_grid
+of-requires-clause-p_in_grid c =
+    let w = IsWithin-largest c.n.result c.corners-corners.result c.n.ensures.high c.corners-corners.ensures.within in
+    record { x = w.v0_x; y = w.v0_y }
+
+pub of-requires-clause-q_in_grid : goal.of-requires-clause-q_in_grid
+of-requires-clause-q_in_grid c =
+    let w = IsWithin-largest c.n.result c.corners-corners.result c.n.ensures.high c.corners-corners.ensures.within in
+    record { x = w.v1_x; y = w.v1_y }
+
+pub returns-clause-valid : goal.returns-clause-valid
+returns-clause-valid c =
+    let field : c.grid-grid.result.now ≡ c.args.w.now = c.grid-grid.ensures.value in
+    let same : c.n.result ≡ c.args.w.now.n = c.n.ensures.value ∙ ap (λ (g : HeightField). g.n) field in
+    let d : Corners = c.corners-corners.result in
+    record {
+      in_grid = let high = c.n.ensures.high in omega arith;
+      within = IsWithin-largest c.n.result d c.n.ensures.high c.corners-corners.ensures.within;
+      apex = c.height.ensures.value ∙ ap (λ (g : HeightField). height_at g.n g.heights d.apex.x d.apex.y) field;
+      v0 = c.height-2.ensures.value ∙ ap (λ (g : HeightField). height_at g.n g.heights d.v0.x d.v0.y) field;
+      v1 = c.height-3.ensures.value ∙ ap (λ (g : HeightField). height_at g.n g.heights d.v1.x d.v1.y) field;
+      area = c.area.ensures.value ∙ area-across d.apex d.v0 d.v1 c.of.result c.of.ensures.value;
+      small = let less = c.area.ensures.small in let high = c.of.ensures.small in omega arith;
+    }

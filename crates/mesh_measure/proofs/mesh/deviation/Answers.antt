@@ -1,0 +1,38 @@
+-- A triangle more: the greatest of what was found and of its own.
+use Rattle.std.proofs.Common.{◌≡◌, ◌∙◌, ◌<◌, ◌*◌, ◌≤◌, List, All, length, max, sym, ap, ap₂, subst, arith}
+use Rattle.std.proofs.lemmas.List.{take_all}
+use Rattle.mesh_defs.specs.Triangle.{level_of, IsAddress}
+use Rattle.mesh_defs.specs.BoundingBox.{greatest}
+use Rattle.tiling_laws.proofs.DescentLemmas.{IsAddress-leaves_of}
+use Rattle.deviation_laws.specs.PlaneHeight.{offs_in, deviation_of}
+use Rattle.deviation_laws.proofs.ListLemmas.{deviation_of-more, deviation_of-none, deviation_of-le, level-listed}
+use Rattle.mesh_measure.proofs.mesh.deviation.Goals as goal
+
+pub loop-t-init : goal.loop-t-init
+loop-t-init c = sym (deviation_of-none c.args.w.now.n c.args.w.now.heights)
+
+pub off_triangle-requires : goal.off_triangle-requires
+off_triangle-requires c =
+    let below : c.loop-t.t-index < length c.args.leaves.now = omega arith in
+    let addresses : All (IsAddress c.args.w.now.n) c.args.leaves.now =
+    subst (λ (xs : List _). All (IsAddress c.args.w.now.n) xs) (sym c.requires.leaves.2) (IsAddress-leaves_of c.args.w.now.n c.requires.leaves.0) in
+    record {
+      level = subst (λ z. level_of z ≤ 2 * c.args.w.now.n) (sym c.t-item.is)
+          (level-listed c.args.w.now.n c.args.leaves.now c.loop-t.t-index c.t-item.result addresses below);
+    }
+
+pub loop-t-preserved : goal.loop-t-preserved
+loop-t-preserved c =
+    let below : c.loop-t.t-index < length c.args.leaves.now = omega arith in
+    c.greater-most.ensures
+    ∙ ap₂ max c.loop-t.invariant (c.off_triangle.ensures ∙ ap (λ z. greatest (offs_in c.args.w.now.n c.args.w.now.heights z)) c.t-item.is)
+    ∙ sym (deviation_of-more c.args.w.now.n c.args.w.now.heights c.args.leaves.now c.loop-t.t-index c.t-item.result below)
+
+pub returns-clause-bound : goal.returns-clause-bound
+returns-clause-bound c =
+    let n = c.args.w.now.n in
+    let addresses : All (IsAddress n) c.args.leaves.now =
+    subst (λ (xs : List _). All (IsAddress n) xs) (sym c.requires.leaves.2) (IsAddress-leaves_of n c.requires.leaves.0) in
+    let value : c.loop-t.most ≡ deviation_of n c.args.w.now.heights c.args.leaves.now =
+    c.loop-t.invariant ∙ ap (deviation_of n c.args.w.now.heights) (take_all c.loop-t.t-index c.args.leaves.now (omega arith)) in
+    rw value (deviation_of-le n c.args.w.now.heights c.args.leaves.now addresses)

@@ -1,0 +1,32 @@
+-- The greatest value over points, as a loop finds it.
+-- Words: gap_of, IsMost, IsInRow, IsInRows.
+use Rattle.std.specs.Prelude.{◌≡◌, ℕ, ◌*◌, ◌<◌, ◌≤◌, ◌⊎◌, true}
+use Rattle.mesh_defs.specs.declared.point.Point.{Point}
+use Rattle.mesh_defs.specs.declared.point.Corners.{Corners}
+use Rattle.mesh_defs.specs.Thickness.{apart}
+use Rattle.mesh_defs.specs.BoundingBox.{is_in_closed}
+use Rattle.deviation_laws.specs.PlaneHeight.{area_of, weighted}
+
+-- how far f at r is from the plane through its values at the corners, times twice the area
+abbrev pub gap_of : Corners → (Point → ℕ) → Point → ℕ
+gap_of c f r = apart (area_of c * f r) (weighted c f r)
+
+-- most is the greatest value of f over the points with P, or 0 where there are none
+pub record IsMost (P : Point → Type 0) (f : Point → ℕ) (most : ℕ) : Type 0 where
+  pub bound : (r : Point) → P r → f r ≤ most
+  pub reached : (most ≡ 0) ⊎ ((r : Point) × P r × (f r ≡ most))
+
+-- the triangle holds r, which lies in row y, from column left on and before column end
+pub record IsInRow (c : Corners) (y left end : ℕ) (r : Point) : Type 0 where
+  pub held : is_in_closed c r ≡ true
+  pub row : r.y ≡ y
+  pub from : left ≤ r.x
+  pub before : r.x < end
+
+-- the same from row low on and before row end
+pub record IsInRows (c : Corners) (left right low end : ℕ) (r : Point) : Type 0 where
+  pub held : is_in_closed c r ≡ true
+  pub from : left ≤ r.x
+  pub before : r.x < right
+  pub row_from : low ≤ r.y
+  pub row_before : r.y < end

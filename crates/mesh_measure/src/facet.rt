@@ -1,0 +1,71 @@
+//! A triangle as it lies in space, and the height of its plane.
+
+ghost use Rattle.std.specs.Prelude.{◌≡◌, ◌+◌, ◌-◌, ◌*◌, ◌^◌, ◌<◌, ◌≤◌, ℕ, true, pos};
+ghost use Rattle.mesh_defs.specs.Triangle.{level_of, corners_of};
+ghost use Rattle.mesh_defs.specs.BoundingBox.{point, holds_point};
+ghost use Rattle.deviation_laws.specs.PlaneHeight.{plane_height};
+ghost use Rattle.mesh_measure.specs.Areas.{AreSmall, sum_of_weighted};
+ghost use Rattle.mesh_measure.specs.Facet.{IsFacet};
+
+use crate::areas::{Across, Areas};
+use crate::shape::Facet;
+use bintree_addr::{Point, Tri};
+use wedgie_tree::Wedges;
+
+/// The triangle with its heights.
+pub(crate) fn facet_of(w: &Wedges, t: Tri) -> Facet
+    requires level { level_of t ≤ 2 * w.now.n }
+    ensures valid { IsFacet w.now.n w.now.heights result }
+    ensures corners { result.corners ≡ corners_of w.now.n t }
+{
+    let grid = w.grid();
+    let corners = t.corners(grid.n());
+    Facet {
+        corners,
+        apex: grid.height(corners.apex.x, corners.apex.y),
+        v0: grid.height(corners.v0.x, corners.v0.y),
+        v1: grid.height(corners.v1.x, corners.v1.y),
+        area: Across::of(corners.apex, corners.v0, corners.v1).area(),
+    }
+}
+
+/// The heights at the corners, each as often as twice the area across from it.
+pub(crate) fn weighted(facet: Facet, areas: Areas) -> u64
+    requires small { AreSmall areas }
+    ensures value { result ≡ sum_of_weighted areas facet.apex facet.v0 facet.v1 }
+    ensures small { result ≤ 3298534883328 }
+{
+    areas.apex.area() * u64::from(facet.apex)
+        + areas.v0.area() * u64::from(facet.v0)
+        + areas.v1.area() * u64::from(facet.v1)
+}
+
+/// 2^n.
+#[tactic(auto, using(bintree_laws::proofs::CornerLemmas::side_small))]
+pub(crate) fn side(n: u32) -> u64
+    requires { n ≤ 11 }
+    ensures value { result ≡ 2 ^ n }
+    ensures small { result ≤ 2048 }
+{
+    1 << n
+}
+
+/// 2^n times the height of the triangle's plane at a point of the triangle, in units of height: a whole number, since the
+/// length of a leg or of the base along an axis of the grid divides 2^n.
+///
+/// Cost (not proved): that of `Tri::corners`.
+pub fn plane_height(w: &Wedges, t: Tri, x: u32, y: u32) -> i64
+    requires level { level_of t ≤ 2 * w.now.n }
+    requires x_in_grid { x ≤ 2 ^ w.now.n }
+    requires y_in_grid { y ≤ 2 ^ w.now.n }
+    requires held { holds_point w.now.n t (point x y) ≡ true }
+    ensures value { result ≡ pos (plane_height w.now.n w.now.heights t (point x y)) }
+    ensures small { plane_height w.now.n w.now.heights t (point x y) < 2 ^ 53 }
+{
+    // An address is at least 2, so the triangle has an area.
+    let _address = t.number();
+    let facet = facet_of(w, t);
+    let areas = Areas::of(facet.corners, Point { x, y });
+    let height = side(w.grid().n()) * weighted(facet, areas) / facet.area;
+    height as i64
+}

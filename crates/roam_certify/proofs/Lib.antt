@@ -1,0 +1,4 @@
+mod CertLemmas
+mod CheckingLemmas
+mod ClimbLemmas
+mod MakingLemmas

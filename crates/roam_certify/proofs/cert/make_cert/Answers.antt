@@ -1,0 +1,33 @@
+-- No triangle is named at first; the reasons are those of a best mesh.
+use Rattle.std.proofs.Common.{◌≡◌, ℕ, Bool, false, List, [], sym, ◌∙◌, ap, subst}
+use Rattle.mesh_defs.specs.HeightField.{HeightField}
+use Rattle.mesh_defs.specs.ClosedSet.{leaves_of, among}
+use Rattle.mesh_defs.specs.Priority.{priority_of, worst_of}
+use Rattle.mesh_defs.specs.View.{ViewPlane}
+use Rattle.mesh_defs.specs.BestMesh.{IsBestMesh}
+use Rattle.view_priority.specs.Camera.{view_from}
+use Rattle.least_laws.specs.Sweep.{is_flagged}
+use Rattle.least_laws.proofs.FlagLemmas.{flagged-unset}
+use Rattle.certificate_laws.specs.Certificate.{IsSound}
+use Rattle.roam_certify.proofs.CertLemmas.{sound-made}
+use Rattle.roam_certify.proofs.cert.make_cert.Goals as goal
+
+pub make_reasons-requires-clause-empty : goal.make_reasons-requires-clause-empty
+make_reasons-requires-clause-empty c a =
+    subst (λ (l : List Bool). is_flagged l a ≡ false) (sym (c.deref_mut.ensures.value ∙ c.in_ok-named.ensures.items_if_clones_equal (λ y h. h)))
+    (flagged-unset c.end.result a)
+
+pub returns-clause-sound : goal.returns-clause-sound
+returns-clause-sound c =
+    let n = c.args.w.now.n in
+    let p : List ViewPlane → ℕ → ℕ = λ planes. priority_of n c.args.w.now.heights (view_from c.args.camera.now c.args.spacing planes) in
+    let members = c.in_ok-frame.frame.split.members in
+    let leaves = c.in_ok-leaves.leaves.items in
+    let reasons = c.in_ok-reasons.reasons.items in
+    let grid : c.n-n.result ≡ n = c.n-n.ensures.value ∙ ap (λ (g : HeightField). g.n) c.grid.ensures.value in
+    let same : leaves ≡ leaves_of n (among members) = c.in_ok-leaves.ensures.value ∙ ap (λ k. leaves_of k (among members)) c.in_ok-frame.ensures.grid in
+    subst (λ planes. IsSound n c.args.budget (p planes) leaves reasons) c.none-planes.ensures
+    (sound-made n c.n-n.result c.args.budget c.in_ok-frame.frame.worst (p c.none-planes.result) leaves reasons (c.falling_laws.ensures _ _ _)
+    (subst (λ l. IsBestMesh n c.args.budget (p c.none-planes.result) l) (sym same) c.in_ok-frame.ensures.best)
+    (c.in_ok-frame.ensures.frame.greatest ∙ ap (worst_of (p c.none-planes.result)) (sym same))
+    grid c.in_ok-reasons.ensures.reasoned c.in_ok-reasons.ensures.enough)

@@ -1,0 +1,32 @@
+-- A triangle of at least the worst is wanted.
+use Rattle.std.proofs.Common.{◌≡◌, ◌≤◌, subst, arith}
+use Rattle.least_laws.proofs.SweepLemmas.{splittable-lt}
+use Rattle.certificate_laws.specs.declared.reason.Kind.TheVariants.{Want}
+use Rattle.roam_certify.specs.Sight.{seen_by}
+use Rattle.roam_certify.proofs.MakingLemmas.{pushed-list, pushed-reasoned, pushed-grown, pushed-listed}
+use Rattle.roam_certify.proofs.making.push_wanted.Goals as goal
+
+pub push_new-requires : goal.push_new-requires
+push_new-requires c = record { room = omega (arith, splittable-lt c.args.n c.args.t c.requires.splittable, c.requires.listed.room) }
+
+pub returns-clause-listed : goal.returns-clause-listed
+returns-clause-listed c =
+    pushed-list c.args.n c.args.limit Want c.args.t c.args.flags.now c.args.reasons.now.items c.push_new.new.flags c.push_new.new.reasons.items
+    c.requires.listed c.requires.splittable c.in_ok-push_new.ensures.pushed
+
+pub returns-clause-grown : goal.returns-clause-grown
+returns-clause-grown c =
+    pushed-grown c.args.n c.args.limit Want c.args.t c.args.flags.now c.args.reasons.now.items c.push_new.new.flags c.push_new.new.reasons.items
+    c.in_ok-push_new.ensures.pushed
+
+pub returns-clause-wanted : goal.returns-clause-wanted
+returns-clause-wanted c less high =
+    pushed-listed c.args.n c.args.limit Want c.args.t c.args.flags.now c.args.reasons.now.items c.push_new.new.flags c.push_new.new.reasons.items
+    c.requires.listed.same c.in_ok-push_new.ensures.pushed less
+
+pub returns-clause-reasoned : goal.returns-clause-reasoned
+returns-clause-reasoned c =
+    let high : c.args.worst ≤ c.told-priority.result = c.if-priority-worst.false in
+    pushed-reasoned c.args.n c.args.limit Want c.args.t c.args.flags.now c.args.reasons.now.items (seen_by c.args.view.now) c.args.worst
+    c.push_new.new.flags c.push_new.new.reasons.items c.requires.listed c.requires.splittable (subst (λ k. c.args.worst ≤ k) c.told-priority.ensures.value high)
+    c.requires.reasoned c.in_ok-push_new.ensures.pushed

@@ -1,0 +1,36 @@
+-- A turn lists the triangle, or finds that it is not wanted.
+use Rattle.std.proofs.Common.{◌≡◌, ◌*◌, ◌<◌, ◌≤◌, IfSome, IsTrue, length, sym, subst, arith}
+use Rattle.mesh_defs.specs.Triangle.{IsSplittable}
+use Rattle.bintree_laws.proofs.LevelLemmas.{level_of-below}
+use Rattle.certificate_laws.specs.Certificate.{named_in}
+use Rattle.roam_certify.specs.Sight.{seen_by}
+use Rattle.roam_certify.proofs.MakingLemmas.{wanted-next}
+use Rattle.roam_certify.proofs.making.push_wants.Goals as goal
+
+pub push_wanted-requires : goal.push_wanted-requires
+push_wanted-requires c =
+    let visited : c.unwrap.result ≡ c.loop-number.number = subst (λ o. IfSome o (λ t. t ≡ c.loop-number.number)) c.unwrap.ensures c.new.ensures.value in
+    let low : 2 ≤ c.loop-number.number = c.loop-number.auto.number in
+    let more = c.loop-number-test.true in
+    let end = c.end-number-end.ensures.value in
+    let splittable : IsSplittable c.args.n c.loop-number.number =
+    record { low = low; coarse = (level_of-below c.loop-number.number (2 * c.args.n) low).1 (omega arith) } in
+    record {
+      in_grid = c.requires.in_grid;
+      seen = c.requires.seen;
+      listed = c.loop-number.invariant.listed;
+      reasoned = c.loop-number.invariant.reasoned;
+      splittable = subst (λ t. IsSplittable c.args.n t) (sym visited) splittable;
+    }
+
+pub loop-number-preserved : goal.loop-number-preserved
+loop-number-preserved c =
+    let visited : c.unwrap.result ≡ c.loop-number.number = subst (λ o. IfSome o (λ t. t ≡ c.loop-number.number)) c.unwrap.ensures c.new.ensures.value in
+    record {
+      listed = c.in_ok-push_wanted.ensures.listed;
+      reasoned = c.in_ok-push_wanted.ensures.reasoned;
+      wanted = wanted-next c.args.limit (seen_by c.args.view.now) c.args.worst c.loop-number.number c.loop-number.reasons.items c.push_wanted.new.reasons.items
+          c.in_ok-push_wanted.ensures.grown c.loop-number.invariant.wanted
+          (subst (λ t. length c.push_wanted.new.reasons.items < c.args.limit → c.args.worst ≤ seen_by c.args.view.now t →
+          IsTrue (named_in c.push_wanted.new.reasons.items t)) visited c.in_ok-push_wanted.ensures.wanted);
+    }

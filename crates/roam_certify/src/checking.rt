@@ -1,0 +1,72 @@
+//! Checking the reasons of a certificate by one flag per address.
+
+ghost use Rattle.std.specs.Prelude.{◌≡◌, ℕ, ◌+◌, ◌*◌, ◌^◌, ◌≤◌, ◌↔◌, IsTrue, IfSome, IfNone, false, [], length, All};
+ghost use Rattle.mesh_defs.specs.Triangle.{IsSplittable};
+ghost use Rattle.least_laws.specs.Sweep.{is_flagged};
+ghost use Rattle.certificate_laws.specs.declared.reason.Reason.{Reason};
+ghost use Rattle.certificate_laws.specs.Certificate.{IsReason, AreReasons, IsFirstBad};
+ghost use Rattle.roam_certify.specs.Sight.{seen_by, IsSeen};
+
+use crate::flags::flag;
+use crate::sight::{Sight, told};
+use bintree_addr::Tri;
+use certificate_laws::{Kind, Reason};
+
+/// The place of the first reason that is none, if there is one.
+///
+/// The flags are those of no triangle at first, and at the end those of the good reasons. Takes no memory.
+pub fn first_bad(
+    n: u32,
+    flags: &mut [bool],
+    view: &Sight<'_>,
+    worst: u64,
+    reasons: &[Reason],
+) -> Option<usize>
+    requires in_grid { (1 ≤ n) × (n ≤ 11) }
+    requires room { length flags.old ≡ 2 ^ (2 * n + 1) }
+    requires seen { IsSeen n view.now }
+    requires empty { (a : ℕ) → is_flagged flags.old a ≡ false }
+    requires splittable { All (λ (r : Reason). IsSplittable n r.triangle) reasons.now }
+    ensures good { IfNone result (AreReasons n (seen_by view.now) worst [] reasons.now) }
+    ensures bad { IfSome result (λ k. IsFirstBad n (seen_by view.now) worst reasons.now k) }
+{
+    for index in 0..reasons.len() {
+        let Reason { kind, triangle } = reasons[index];
+        if !is_reason(n, flags, view, worst, kind, triangle) {
+            return Some(index);
+        }
+        flag(flags, triangle);
+    }
+    None
+}
+
+/// Whether this is a reason behind those of the flagged triangles.
+fn is_reason(n: u32, flags: &[bool], view: &Sight<'_>, worst: u64, kind: Kind, t: Tri) -> bool
+    requires in_grid { (1 ≤ n) × (n ≤ 11) }
+    requires room { length flags.now ≡ 2 ^ (2 * n + 1) }
+    requires seen { IsSeen n view.now }
+    requires addresses { (a : ℕ) → IsTrue (is_flagged flags.now a) → IsSplittable n a }
+    requires splittable { IsSplittable n t }
+    ensures value { IsTrue result ↔
+        IsReason n (seen_by view.now) worst (is_flagged flags.now) (record { kind = kind; triangle = t }) }
+{
+    if is_set(flags, t) {
+        return false;
+    }
+    match kind {
+        Kind::Want => told(view, n, t) >= worst,
+        Kind::Parent => is_set(flags, t.left()) || is_set(flags, t.right()),
+        Kind::Mate => match t.mate(n) {
+            None => false,
+            Some(mate) => is_set(flags, mate),
+        },
+    }
+}
+
+/// Whether the triangle is flagged; one without a flag is not.
+pub fn is_set(flags: &[bool], t: Tri) -> bool
+    ensures value { result ≡ is_flagged flags.now t }
+{
+    let place = t.number() as usize;
+    place < flags.len() && flags[place]
+}

@@ -1,0 +1,21 @@
+//! Certificates of optimality over a grid: a checker that is exact, and a maker whose certificates are sound.
+//!
+//! A certificate is a camera, a mesh and reasons. The checker looks whether the mesh is conforming by one flag an
+//! address, and at each reason by those before it; the maker lists reasons by a queue. What a sound
+//! certificate proves stands below, in `certificate_laws`.
+
+#![tactic(auto)]
+
+mod cert;
+mod checking;
+mod conforming;
+mod flags;
+mod making;
+mod sight;
+#[cfg(test)]
+mod tests;
+mod verdict;
+
+pub use cert::{Cert, make_cert};
+pub use certificate_laws::{Kind, Reason, Verdict};
+pub use verdict::check;

@@ -1,0 +1,218 @@
+//! Making the reasons of a certificate: a queue of triangles whose causes are still to be listed.
+
+ghost use Rattle.std.specs.Prelude.{◌≡◌, ℕ, ◌+◌, ◌*◌, ◌/◌, ◌^◌, ◌<◌, ◌≤◌, ◌⊎◌, Bool, List, IsTrue, IfOk, OnOk, false, [], length};
+ghost use Rattle.mesh_defs.specs.Triangle.{IsSplittable, IsMate};
+ghost use Rattle.least_laws.specs.Sweep.{is_flagged};
+ghost use Rattle.certificate_laws.specs.declared.reason.Reason.{Reason};
+ghost use Rattle.certificate_laws.specs.Certificate.{named_in, AreReasons, AreAllReasons};
+ghost use Rattle.roam_certify.specs.Sight.{seen_by, IsSeen};
+ghost use Rattle.roam_certify.specs.Making.{IsListed, IsPushed, HasCauses, IsGrown, KeepsReasons, AreWanted, IsQueue};
+
+use crate::flags::{end, flag};
+use crate::sight::{Sight, told};
+use bintree_addr::Tri;
+use certificate_laws::{Kind, Reason};
+use roam_edge::NoMemory;
+use std::alloc::Global;
+
+/// Reasons for a mesh with this worst: one fewer than the budget, or all that there are.
+///
+/// The flags are those of no triangle at first, and at the end those of the reasons.
+pub fn make_reasons(
+    alloc: Global,
+    n: u32,
+    flags: &mut [bool],
+    view: &Sight<'_>,
+    worst: u64,
+    budget: u32,
+) -> Result<Vec<Reason>, NoMemory>
+    requires in_grid { (1 ≤ n) × (n ≤ 11) }
+    requires room { length flags.old ≡ 2 ^ (2 * n + 1) }
+    requires seen { IsSeen n view.now }
+    requires empty { (a : ℕ) → is_flagged flags.old a ≡ false }
+    requires budget { 2 ≤ budget }
+    ensures reasoned { IfOk result (λ v. AreReasons n (seen_by view.now) worst [] v.items) }
+    ensures few { IfOk result (λ v. length v.items + 1 ≤ budget) }
+    ensures enough { IfOk result (λ v. (budget ≤ length v.items + 1)
+        ⊎ AreAllReasons n (seen_by view.now) worst v.items) }
+{
+    let limit = budget as usize - 1;
+    let mut reasons = Vec::new(alloc);
+    push_wants(&mut reasons, flags, limit, n, view, worst)?;
+    follow(&mut reasons, flags, limit, n)?;
+    Ok(reasons)
+}
+
+/// Lists each triangle whose priority is at least the worst.
+fn push_wants(
+    reasons: &mut Vec<Reason>,
+    flags: &mut [bool],
+    limit: usize,
+    n: u32,
+    view: &Sight<'_>,
+    worst: u64,
+) -> Result<(), NoMemory>
+    requires in_grid { (1 ≤ n) × (n ≤ 11) }
+    requires seen { IsSeen n view.now }
+    requires listed { IsListed n limit flags.old reasons.old.items }
+    requires reasoned { AreReasons n (seen_by view.now) worst [] reasons.old.items }
+    ensures listed { OnOk result (IsListed n limit flags.new reasons.new.items) }
+    ensures reasoned { OnOk result (AreReasons n (seen_by view.now) worst [] reasons.new.items) }
+    ensures wanted { OnOk result (AreWanted limit (seen_by view.now) worst (2 ^ (2 * n + 1)) reasons.new.items) }
+{
+    for number in 2..end(n) {
+        push_wanted(
+            reasons,
+            flags,
+            limit,
+            n,
+            view,
+            worst,
+            Tri::new(number).unwrap(),
+        )?;
+    }
+    Ok(())
+}
+
+/// Lists a triangle if its priority is at least the worst.
+fn push_wanted(
+    reasons: &mut Vec<Reason>,
+    flags: &mut [bool],
+    limit: usize,
+    n: u32,
+    view: &Sight<'_>,
+    worst: u64,
+    t: Tri,
+) -> Result<(), NoMemory>
+    requires in_grid { (1 ≤ n) × (n ≤ 11) }
+    requires seen { IsSeen n view.now }
+    requires listed { IsListed n limit flags.old reasons.old.items }
+    requires reasoned { AreReasons n (seen_by view.now) worst [] reasons.old.items }
+    requires splittable { IsSplittable n t }
+    ensures listed { OnOk result (IsListed n limit flags.new reasons.new.items) }
+    ensures reasoned { OnOk result (AreReasons n (seen_by view.now) worst [] reasons.new.items) }
+    ensures grown { OnOk result (IsGrown reasons.old.items reasons.new.items) }
+    ensures wanted { OnOk result (length reasons.new.items < limit → worst ≤ seen_by view.now t →
+        IsTrue (named_in reasons.new.items t)) }
+{
+    let priority = told(view, n, t);
+    if priority < worst {
+        return Ok(());
+    }
+    push_new(reasons, flags, limit, Kind::Want, t)?;
+    Ok(())
+}
+
+/// Lists the causes of each listed triangle, those of the new ones too.
+fn follow(
+    reasons: &mut Vec<Reason>,
+    flags: &mut [bool],
+    limit: usize,
+    n: u32,
+) -> Result<(), NoMemory>
+    requires in_grid { (1 ≤ n) × (n ≤ 11) }
+    requires listed { IsListed n limit flags.old reasons.old.items }
+    ensures short { OnOk result (length reasons.new.items ≤ limit) }
+    ensures reasoned { OnOk result (KeepsReasons n reasons.old.items reasons.new.items) }
+    ensures grown { OnOk result (IsGrown reasons.old.items reasons.new.items) }
+    ensures queue { OnOk result (IsQueue n limit (length reasons.new.items) reasons.new.items) }
+{
+    let mut next = 0;
+    while next < reasons.len() && reasons.len() < limit {
+        let t = reasons[next].triangle;
+        push_causes(reasons, flags, limit, n, t)?;
+        next += 1;
+    }
+    Ok(())
+}
+
+/// Lists the parent and the mate of a listed triangle.
+fn push_causes(
+    reasons: &mut Vec<Reason>,
+    flags: &mut [bool],
+    limit: usize,
+    n: u32,
+    t: Tri,
+) -> Result<(), NoMemory>
+    requires in_grid { (1 ≤ n) × (n ≤ 11) }
+    requires listed { IsListed n limit flags.old reasons.old.items }
+    requires named { IsTrue (named_in reasons.old.items t) }
+    ensures listed { OnOk result (IsListed n limit flags.new reasons.new.items) }
+    ensures reasoned { OnOk result (KeepsReasons n reasons.old.items reasons.new.items) }
+    ensures grown { OnOk result (IsGrown reasons.old.items reasons.new.items) }
+    ensures causes { OnOk result (length reasons.new.items < limit → HasCauses n reasons.new.items t) }
+{
+    push_parent(reasons, flags, limit, n, t)?;
+    push_mate(reasons, flags, limit, n, t)?;
+    Ok(())
+}
+
+/// Lists the parent of a listed triangle.
+fn push_parent(
+    reasons: &mut Vec<Reason>,
+    flags: &mut [bool],
+    limit: usize,
+    n: u32,
+    t: Tri,
+) -> Result<(), NoMemory>
+    requires in_grid { (1 ≤ n) × (n ≤ 11) }
+    requires listed { IsListed n limit flags.old reasons.old.items }
+    requires named { IsTrue (named_in reasons.old.items t) }
+    ensures listed { OnOk result (IsListed n limit flags.new reasons.new.items) }
+    ensures reasoned { OnOk result (KeepsReasons n reasons.old.items reasons.new.items) }
+    ensures grown { OnOk result (IsGrown reasons.old.items reasons.new.items) }
+    ensures parent { OnOk result (length reasons.new.items < limit → 4 ≤ t →
+        IsTrue (named_in reasons.new.items (t / 2))) }
+{
+    match t.parent() {
+        None => Ok(()),
+        Some(parent) => {
+            push_new(reasons, flags, limit, Kind::Parent, parent)?;
+            Ok(())
+        }
+    }
+}
+
+/// Lists the mate of a listed triangle.
+fn push_mate(
+    reasons: &mut Vec<Reason>,
+    flags: &mut [bool],
+    limit: usize,
+    n: u32,
+    t: Tri,
+) -> Result<(), NoMemory>
+    requires in_grid { (1 ≤ n) × (n ≤ 11) }
+    requires listed { IsListed n limit flags.old reasons.old.items }
+    requires named { IsTrue (named_in reasons.old.items t) }
+    ensures listed { OnOk result (IsListed n limit flags.new reasons.new.items) }
+    ensures reasoned { OnOk result (KeepsReasons n reasons.old.items reasons.new.items) }
+    ensures grown { OnOk result (IsGrown reasons.old.items reasons.new.items) }
+    ensures mate { OnOk result (length reasons.new.items < limit →
+        (m : ℕ) → IsMate n t m → IsTrue (named_in reasons.new.items m)) }
+{
+    match t.mate(n) {
+        None => Ok(()),
+        Some(mate) => {
+            push_new(reasons, flags, limit, Kind::Mate, mate)?;
+            Ok(())
+        }
+    }
+}
+
+/// Lists a triangle, unless it is listed or the list is full.
+fn push_new(
+    reasons: &mut Vec<Reason>,
+    flags: &mut [bool],
+    limit: usize,
+    kind: Kind,
+    t: Tri,
+) -> Result<(), NoMemory>
+    requires room { t < length flags.old }
+    ensures pushed { OnOk result (IsPushed limit kind t flags.old reasons.old.items flags.new reasons.new.items) }
+{
+    if reasons.len() < limit && !flags[t.number() as usize] {
+        reasons.push(Reason { kind, triangle: t })?;
+        flag(flags, t);
+    }
+    Ok(())
+}

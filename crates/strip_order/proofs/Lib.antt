@@ -1,0 +1,4 @@
+pub mod RunLemmas
+pub mod LoopLemmas
+pub mod PlaceLemmas
+pub mod TripleLemmas
