@@ -1,4 +1,5 @@
--- How many entries a step makes anew: three at most for each triangle that is split or merged.
+-- How many roles a step gives out anew, as a leaf or as a triangle of a diamond that can be merged: three at most for each
+-- triangle that is split or merged. A fresh entry is among these.
 use Rattle.std.proofs.Common.{◌≡◌, ℕ, ◌+◌, ◌-◌, ◌*◌, ◌/◌, ◌%◌, ◌<◌, ◌≤◌, ◌⊎◌, inl, inr, false, not, IsTrue, List, [], ◌∷◌, length, Contains, refl, sym, subst, arith, ⊎_elim, nat_eq}
 use Rattle.deferred_loop.specs.Seen.{IsNewEntry}
 use Rattle.std.specs.List.{filter, IsDistinct}
@@ -8,6 +9,7 @@ use Rattle.mesh_defs.specs.ClosedSet.{leaves_of, among}
 use Rattle.tiling_laws.proofs.DescentLemmas.{IsAddress-splittable}
 use Rattle.mesh_defs.proofs.ListLemmas.{IsIn, IsIn-among, among-in}
 use Rattle.mesh_defs.specs.GridSet.{IsGridSet, IsForced}
+use Rattle.frame_steps.specs.Deferred.{IsEntry, leaf as as_leaf, member as as_member}
 use Rattle.closure_laws.proofs.ForcingLemmas.{with-old}
 use Rattle.closure_laws.specs.Diamond.{IsInDiamond, CanMerge, IsWithoutDiamond}
 use Rattle.closure_laws.proofs.SetListLemmas.{in-filter, filter-in, length-parts, length-distinct}
@@ -28,6 +30,14 @@ pub record Cover (R : ℕ → ℕ → Type 0) (xs : List ℕ) : Type 0 where
   pub list : List ℕ
   pub size : length list ≡ 3 * length xs
   pub covers : (x a : ℕ) → IsIn x xs → R x a → IsIn a list
+
+-- The roles that a step gives out anew, so many for each of its triangles: a leaf after it was one before or is in the list, and
+-- so is a triangle that can be merged.
+pub record NewRoles (n : ℕ) (before after : List ℕ) (steps : ℕ) : Type 0 where
+  pub list : List ℕ
+  pub size : length list ≡ 3 * steps
+  pub leaf : (a : ℕ) → Contains (leaves_of n (among after)) a → Contains (leaves_of n (among before)) a ⊎ IsTrue (among list a)
+  pub member : (a : ℕ) → CanMerge n (among after) a → CanMerge n (among before) a ⊎ IsTrue (among list a)
 
 -- three for each entry
 pub cover : (R : ℕ → ℕ → Type 0) (xs : List ℕ) →
@@ -67,25 +77,26 @@ module _ (n : ℕ) (before : List ℕ) (set : IsGridSet n before) where
         r,
   ))
 
-  pub split_few : (t : ℕ) (after fresh : List ℕ) → IsForced n before t after → IsDistinct nat_eq fresh → ((a : ℕ) → IsTrue (among fresh a) → IsNewEntry n (among before) (among after) a) →
-      length fresh ≤ 3 * (length after - length before)
+  -- the roles that a split gives out
+  pub split_roles : (t : ℕ) (after : List ℕ) → IsForced n before t after → NewRoles n before after (length after - length before)
   unfolding others
-  split_few t after fresh forced distinct each =
+  split_roles t after forced =
       let parts = length-parts before after set.ascending forced.ascending (λ a h. forced.least.holds a (with-old (among before) t a h)) in
       let c = split_cover (others before after) in
       let size = c.size in
-      let most = length-distinct fresh c.list distinct (λ a i. among-in a c.list (covered c a (each a i))) in
-      omega arith
-    where
-      covered : (c : Cover SplitMakes (others before after)) (a : ℕ) → IsNewEntry n (among before) (among after) a → IsIn a c.list
-      covered c a (inl leaf) = ⊎_elim
-          (λ old. absurd (leaf.1 old))
-          (λ (new : (4 ≤ a) × (among before (a / 2) ≡ false) × IsTrue (among after (a / 2))). c.covers (a / 2) a (others_in before after (a / 2) new.2 new.1) (inr refl))
-          (split_new_leaf n before t after a set.closed forced leaf.0)
-      covered c a (inr can) = ⊎_elim
-          (λ old. absurd (can.1 old))
-          (λ (new : (among before a ≡ false) × IsInDiamond n a t). c.covers a a (others_in before after a can.0.member new.0) (inl refl))
-          (split_diamonds n before t after a set.closed forced can.0)
+      record {
+        list = c.list;
+        size = omega arith;
+        leaf = λ a h. ⊎_elim
+            (λ old. inl old)
+            (λ (new : (4 ≤ a) × (among before (a / 2) ≡ false) × IsTrue (among after (a / 2))).
+            inr (among-in a c.list (c.covers (a / 2) a (others_in before after (a / 2) new.2 new.1) (inr refl))))
+            (split_new_leaf n before t after a set.closed forced h);
+        member = λ a h. ⊎_elim
+            (λ old. inl old)
+            (λ (new : (among before a ≡ false) × IsInDiamond n a t). inr (among-in a c.list (c.covers a a (others_in before after a h.member new.0) (inl refl))))
+            (split_diamonds n before t after a set.closed forced h);
+      }
 
   -- a merged triangle makes itself and the diamond of its parent anew
   abbrev MergeMakes : ℕ → ℕ → Type 0
@@ -123,29 +134,41 @@ module _ (n : ℕ) (before : List ℕ) (set : IsGridSet n before) where
       mate_one : (x : ℕ) → IsAddress n (x / 2) → (m a : ℕ) → IsMate n (x / 2) m → IsMate n (x / 2) a → m ≡ a
       mate_one x address m a one two = mate_unique n (x / 2) m a address one two
 
-  pub merge_few : (d : ℕ) (after fresh : List ℕ) → CanMerge n (among before) d → IsWithoutDiamond n before d after → IsDistinct nat_eq fresh →
-      ((a : ℕ) → IsTrue (among fresh a) → IsNewEntry n (among before) (among after) a) → length fresh ≤ 3 * (length before - length after)
+  -- the roles that a merge gives out
+  pub merge_roles : (d : ℕ) (after : List ℕ) → CanMerge n (among before) d → IsWithoutDiamond n before d after → NewRoles n before after (length before - length after)
   unfolding others
-  merge_few d after fresh can merged distinct each =
+  merge_roles d after can merged =
       let parts = length-parts after before merged.ascending set.ascending (λ a h. ((merged.members a).0 h).0) in
       let c = merge_cover (others after before) (λ x i. among-in x before (in-filter (λ b. not (among after b)) x before i).0) in
       let size = c.size in
-      let most = length-distinct fresh c.list distinct (λ a i. among-in a c.list (covered c a (each a i))) in
-      omega arith
+      record {
+        list = c.list;
+        size = omega arith;
+        leaf = λ a h. ⊎_elim
+            (λ (own : IsInDiamond n d a). inr (among-in a c.list (c.covers a a (gone a own) (inl refl))))
+            (λ (old : Contains (leaves_of n (among before)) a × (4 ≤ a → IsInDiamond n d (a / 2) → ⊥)). inl old.0)
+            (merge_new_leaf n before d after a set.closed can merged h);
+        member = λ a h. ⊎_elim
+            (λ old. inl old)
+            (λ (up : (c : ℕ) × IsInDiamond n d c × (4 ≤ c) × IsInDiamond n a (c / 2)).
+            let address : IsAddress n a = IsAddress-splittable n a (set.closed.splittable a ((merged.members a).0 h.member).0) in
+            inr (among-in a c.list (c.covers up.0 a (gone up.0 up.1) (inr (up.2, diamond_symmetric n a (up.0 / 2) address up.3)))))
+            (merge_new_mergeable n before d after a set.closed can merged h);
+      }
     where
       -- the merged triangles are those that are taken away
       gone : (a : ℕ) → IsInDiamond n d a → IsIn a (others after before)
       gone a inside = others_in after before a (diamond_closed n (among before) d a set.closed can.member inside)
           (false_from_ne_true (among after a) (λ h. ((merged.members a).0 h).1 inside))
 
-      covered : (c : Cover MergeMakes (others after before)) (a : ℕ) → IsNewEntry n (among before) (among after) a → IsIn a c.list
-      covered c a (inl leaf) = ⊎_elim
-          (λ (own : IsInDiamond n d a). c.covers a a (gone a own) (inl refl))
-          (λ (old : Contains (leaves_of n (among before)) a × (4 ≤ a → IsInDiamond n d (a / 2) → ⊥)). absurd (leaf.1 old.0))
-          (merge_new_leaf n before d after a set.closed can merged leaf.0)
-      covered c a (inr member) = ⊎_elim
-          (λ old. absurd (member.1 old))
-          (λ (up : (c : ℕ) × IsInDiamond n d c × (4 ≤ c) × IsInDiamond n a (c / 2)).
-          let address : IsAddress n a = IsAddress-splittable n a (set.closed.splittable a ((merged.members a).0 member.0.member).0) in
-          c.covers up.0 a (gone up.0 up.1) (inr (up.2, diamond_symmetric n a (up.0 / 2) address up.3)))
-          (merge_new_mergeable n before d after a set.closed can merged member.0)
+-- a fresh entry has a role that was given out
+pub few_fresh : (n : ℕ) (before after : List ℕ) (steps : ℕ) (fresh : List ℕ) → NewRoles n before after steps → IsDistinct nat_eq fresh →
+    ((a : ℕ) → IsTrue (among fresh a) → IsNewEntry n (among before) (among after) a) → length fresh ≤ 3 * steps
+few_fresh n before after steps fresh roles distinct each =
+    let size = roles.size in
+    let most = length-distinct fresh roles.list distinct (λ a i. let new = each a i in given a new.0 new.1) in
+    omega arith
+  where
+    given : (a : ℕ) → IsEntry n (among after) a → (IsEntry n (among before) a → ⊥) → IsTrue (among roles.list a)
+    given a (as_leaf h) none = ⊎_elim (λ old. absurd (none (as_leaf old))) (λ there. there) (roles.leaf a h)
+    given a (as_member h) none = ⊎_elim (λ old. absurd (none (as_member old))) (λ there. there) (roles.member a h)

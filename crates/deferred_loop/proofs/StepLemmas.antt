@@ -1,5 +1,5 @@
 -- What a step does to what is known, to what is charged and to the stamps.
-use Rattle.std.proofs.Common.{◌≡◌, ℕ, ◌+◌, ◌-◌, ◌*◌, ◌^◌, ◌<◌, ◌≤◌, ◌⊎◌, inl, inr, Bool, true, false, IsTrue, List, ◌++◌, length, Contains, refl, sym, ◌∙◌, ap, subst, arith, ⊎_elim, Option, Some}
+use Rattle.std.proofs.Common.{◌≡◌, ℕ, ◌+◌, ◌-◌, ◌^◌, ◌<◌, ◌≤◌, ◌⊎◌, inl, inr, true, false, IsTrue, List, ◌++◌, length, Contains, refl, sym, ◌∙◌, ap, subst, arith, ⊎_elim, Option, Some}
 use Rattle.std.proofs.lemmas.List.{length-append}
 use Rattle.std.proofs.lemmas.Bool.{cases_Bool, cond-true, cond-false, false_from_ne_true}
 use Rattle.mesh_defs.specs.Triangle.{IsAddress, IsSplittable}
@@ -12,26 +12,20 @@ use Rattle.frame_steps.specs.Steps.{leaf_count, IsSplitStep, IsMergeStep, Run, s
 use Rattle.frame_steps.specs.Deferred.{IsEntry, leaf, member, DeferredFrame, IsDeferredFrame}
 use Rattle.closure_laws.proofs.ChangeLemmas.{one_forced}
 use Rattle.closure_laws.proofs.FirstLeafLemmas.{first_leaf_splittable}
-use Rattle.closure_laws.proofs.DiamondLemmas.{without_diamond-closed, leaf_outside}
+use Rattle.closure_laws.proofs.DiamondLemmas.{without_diamond-closed}
 use Rattle.deferred_loop.specs.Choice.{IsNextSplit, IsNextMerge}
 use Rattle.frame_steps.specs.Stamps.{Stamp, Readings, is_due, stamp_now}
 use Rattle.deferred_loop.specs.Kept.{IsTrueKey, IsSound, IsSettled, IsOldLeaf, IsOldMember, IsCharged, IsAskedOnly, IsCaughtUp, IsStamped}
 use Rattle.deferred_loop.proofs.KeyLemmas.{can_merge_with}
 use Rattle.deferred_loop.proofs.TellLemmas.{in_append_left, in_append_right}
 use Rattle.deferred_loop.proofs.HeadLemmas.{entry_address}
-use Rattle.deferred_loop.proofs.FreshLemmas.{split_few, merge_few}
+use Rattle.deferred_loop.proofs.FreshLemmas.{NewRoles, split_roles, merge_roles, few_fresh}
 
 among_left : (a : ℕ) (xs ys : List ℕ) → IsTrue (among xs a) → IsTrue (among (xs ++ ys) a)
 among_left a xs ys h = among-in a (xs ++ ys) (in_append_left a xs ys (IsIn-among a xs h))
 
 among_right : (a : ℕ) (xs ys : List ℕ) → IsTrue (among ys a) → IsTrue (among (xs ++ ys) a)
 among_right a xs ys h = among-in a (xs ++ ys) (in_append_right a xs ys (IsIn-among a ys h))
-
--- an entry that is not fresh was one, and is as it was
-kept_entry : (before mid : SeenMesh) (a : ℕ) → IsRenewed before mid → IsEntry mid.set.n (among mid.set.members) a → among mid.fresh a ≡ false →
-    IsEntry mid.set.n (among before.set.members) a × IsSame before mid a
-kept_entry before mid a r (leaf h) out = let old = r.leaf a h out in (leaf old.0, old.1)
-kept_entry before mid a r (member h) out = let old = r.member a h out in (member old.0, old.1)
 
 -- with the key that it had
 same_key : (w : DeferredFrame) (before mid : SeenMesh) (a : ℕ) → IsSame before mid a → IsTrueKey w before a → IsTrueKey w mid a
@@ -47,7 +41,7 @@ renewed_sound w before mid s same r valid = record {
   grid = same ∙ s.grid;
   valid = valid;
   keys = λ a entry out.
-      let old = kept_entry before mid a r (subst (λ z. IsEntry z (among mid.set.members) a) (sym (same ∙ s.grid)) entry) out in
+      let old = r.kept a (subst (λ z. IsEntry z (among mid.set.members) a) (sym (same ∙ s.grid)) entry) out in
       same_key w before mid a old.1 (s.keys a (subst (λ z. IsEntry z (among before.set.members) a) (same ∙ s.grid) old.0));
 }
 
@@ -65,16 +59,11 @@ merge_sound w before mid d s can step = renewed_sound w before mid s step.n step
   closed = without_diamond-closed w.n before.set.members d mid.set.members s.valid.closed can (subst (λ z. IsWithoutDiamond z before.set.members d mid.set.members) s.grid step.merged);
 }
 
--- what is new is an entry
-new_entry : (n : ℕ) (before mid : ℕ → Bool) (a : ℕ) → IsNewEntry n before mid a → IsEntry n mid a
-new_entry n before mid a (inl h) = leaf h.0
-new_entry n before mid a (inr h) = member h.0
-
--- and an address
+-- what is fresh is an address
 pub fresh_address : (w : DeferredFrame) (before mid : SeenMesh) (a : ℕ) → IsSound w mid → IsRenewed before mid → IsTrue (among mid.fresh a) → IsAddress w.n a
 fresh_address w before mid a sound r i =
     entry_address w mid.set.members a sound.valid
-    (subst (λ z. IsEntry z (among mid.set.members) a) sound.grid (new_entry mid.set.n (among before.set.members) (among mid.set.members) a (r.each a i)))
+    (subst (λ z. IsEntry z (among mid.set.members) a) sound.grid (r.each a i).0)
 
 module _ (w : DeferredFrame) (before mid after : SeenMesh) (settled : IsSettled w before) (same : mid.set.n ≡ before.set.n) (renewed : IsRenewed before mid)
     (r : Readings) (odometer : ℕ) (caught : IsCaughtUp w r odometer mid after) where
@@ -86,66 +75,82 @@ module _ (w : DeferredFrame) (before mid after : SeenMesh) (settled : IsSettled 
   stamp_kept : (a : ℕ) → among mid.fresh a ≡ false → IsSame before mid a → after.stamps a ≡ before.stamps a
   stamp_kept a out kept = caught.stamp a ∙ cond-false (among mid.fresh a) (Some (stamp_now r odometer a)) (mid.stamps a) out ∙ kept.stamp
 
-  -- a leaf that is not known is fresh, or it was one before
-  leaf_left : (asked reserve : List ℕ) → ((a : ℕ) → Contains (leaves_of w.n (among before.set.members)) a → before.known a ≡ false → IsTrue (among reserve a) ⊎ IsOldLeaf w before asked a) →
-      (a : ℕ) → Contains (leaves_of w.n (among mid.set.members)) a → after.known a ≡ false → IsTrue (among (mid.fresh ++ reserve) a) ⊎ IsOldLeaf w after asked a
-  leaf_left asked reserve left a h new = ⊎_elim
-      (λ (own : among mid.fresh a ≡ true). inl (among_left a mid.fresh reserve own))
-      (λ (out : among mid.fresh a ≡ false).
-      let old = renewed.leaf a (subst (λ z. Contains (leaves_of z (among mid.set.members)) a) (sym (same ∙ settled.grid)) h) out in
-      ⊎_elim
-      (λ there. inl (among_right a mid.fresh reserve there))
-      (λ (was : IsOldLeaf w before asked a). inr record { leaf = was.leaf; undue = was.undue; unasked = was.unasked; upper = ap upper_of (stamp_kept a out old.1) ∙ was.upper })
-      (left a (subst (λ z. Contains (leaves_of z (among before.set.members)) a) (same ∙ settled.grid) old.0) (sym old.1.known ∙ sym (caught.known a) ∙ new)))
-      (cases_Bool (among mid.fresh a))
+  -- what was an entry is not fresh
+  not_fresh : (a : ℕ) → IsEntry w.n (among before.set.members) a → among mid.fresh a ≡ false
+  not_fresh a was = false_from_ne_true (among mid.fresh a) (λ fresh. (new_here a fresh).1 was)
 
-  -- the mate of a triangle that could be merged before is not fresh either
-  whole_kept : (a b : ℕ) → IsClosed w.n (among before.set.members) → IsClosed w.n (among mid.set.members) → CanMerge w.n (among before.set.members) a → CanMerge w.n (among mid.set.members) a →
-      IsInDiamond w.n a b → after.stamps b ≡ before.stamps b
-  whole_kept a b closed shut was can i =
-      let can_b = can_merge_with w.n (among mid.set.members) a b shut can i in
-      let out : among mid.fresh b ≡ false = false_from_ne_true (among mid.fresh b) (λ fresh. ⊎_elim
-      (λ (new_leaf : Contains (leaves_of w.n (among mid.set.members)) b × (Contains (leaves_of w.n (among before.set.members)) b → ⊥)).
-      (leaf_outside w.n (among mid.set.members) b shut new_leaf.0).outside can_b.member)
-      (λ (new_member : CanMerge w.n (among mid.set.members) b × (CanMerge w.n (among before.set.members) b → ⊥)).
-      new_member.1 (can_merge_with w.n (among before.set.members) a b closed was i))
-      (new_here b fresh)) in
-      stamp_kept b out (renewed.member b (subst (λ z. CanMerge z (among mid.set.members) b) (sym (same ∙ settled.grid)) can_b) out).1
+  -- so it is as it was, if it is one still
+  stays : (a : ℕ) → IsEntry w.n (among before.set.members) a → IsEntry w.n (among mid.set.members) a → IsSame before mid a
+  stays a was now = (renewed.kept a (subst (λ z. IsEntry z (among mid.set.members) a) (sym (same ∙ settled.grid)) now) (not_fresh a was)).1
 
-  -- the same for a triangle that can be merged
-  member_left : IsClosed w.n (among before.set.members) → IsClosed w.n (among mid.set.members) → (asked reserve : List ℕ) →
-      ((a : ℕ) → CanMerge w.n (among before.set.members) a → before.known a ≡ false → IsTrue (among reserve a) ⊎ IsOldMember w before asked a) →
-      (a : ℕ) → CanMerge w.n (among mid.set.members) a → after.known a ≡ false → IsTrue (among (mid.fresh ++ reserve) a) ⊎ IsOldMember w after asked a
-  member_left closed shut asked reserve left a h new = ⊎_elim
-      (λ (own : among mid.fresh a ≡ true). inl (among_left a mid.fresh reserve own))
-      (λ (out : among mid.fresh a ≡ false).
-      let old = renewed.member a (subst (λ z. CanMerge z (among mid.set.members) a) (sym (same ∙ settled.grid)) h) out in
-      let can = subst (λ z. CanMerge z (among before.set.members) a) (same ∙ settled.grid) old.0 in
-      ⊎_elim
-      (λ there. inl (among_right a mid.fresh reserve there))
-      (λ (was : IsOldMember w before asked a). inr record {
-        can = was.can;
-        undue = was.undue;
-        unasked = was.unasked;
-        lower = λ b i. ap lower_of (whole_kept a b closed shut can h i) ∙ was.lower b i;
-      })
-      (left a can (sym old.1.known ∙ sym (caught.known a) ∙ new)))
-      (cases_Bool (among mid.fresh a))
+  module _ (steps : ℕ) (roles : NewRoles w.n before.set.members mid.set.members steps) where
+    -- a leaf that is not known has its role anew, or it was one before
+    leaf_left : (asked reserve : List ℕ) → ((a : ℕ) → Contains (leaves_of w.n (among before.set.members)) a → before.known a ≡ false → IsTrue (among reserve a) ⊎ IsOldLeaf w before asked a) →
+        (a : ℕ) → Contains (leaves_of w.n (among mid.set.members)) a → after.known a ≡ false → IsTrue (among (roles.list ++ reserve) a) ⊎ IsOldLeaf w after asked a
+    leaf_left asked reserve left a h new = ⊎_elim
+        (λ (was : Contains (leaves_of w.n (among before.set.members)) a).
+        let kept = stays a (leaf was) (leaf h) in
+        ⊎_elim
+        (λ there. inl (among_right a roles.list reserve there))
+        (λ (old : IsOldLeaf w before asked a). inr record {
+          leaf = old.leaf;
+          undue = old.undue;
+          unasked = old.unasked;
+          upper = ap upper_of (stamp_kept a (not_fresh a (leaf was)) kept) ∙ old.upper;
+        })
+        (left a was (sym kept.known ∙ sym (caught.known a) ∙ new)))
+        (λ there. inl (among_left a roles.list reserve there))
+        (roles.leaf a h)
 
-  -- a step is charged: one reading for each new entry, and one call of rank ahead
-  step_charged : (evaluations added removed sum rest count more : ℕ) → IsClosed w.n (among before.set.members) → IsClosed w.n (among mid.set.members) →
-      Run w.n w.budget w.priority w.start mid.set.members sum rest → added + removed ≤ sum + rest → length mid.fresh ≤ 3 * ((sum + rest) - (added + removed)) → more ≤ count + length mid.fresh →
-      IsCharged w evaluations before added removed count → IsCharged w evaluations after sum rest more
-  step_charged evaluations added removed sum rest count more closed shut run grown few counted c = record {
-    run = subst (λ (z : PoolSet). Run w.n w.budget w.priority w.start z.members sum rest) (sym caught.set) run;
-    asked = c.asked;
-    distinct = c.distinct;
-    each = c.each;
-    reserve = mid.fresh ++ c.reserve;
-    leaf = λ a h new. leaf_left c.asked c.reserve c.leaf a (subst (λ (z : PoolSet). Contains (leaves_of w.n (among z.members)) a) caught.set h) new;
-    member = λ a h new. member_left closed shut c.asked c.reserve c.member a (subst (λ (z : PoolSet). CanMerge w.n (among z.members) a) caught.set h) new;
-    total = omega (arith, c.total, length-append mid.fresh c.reserve, few, counted, grown);
-  }
+    -- a diamond that could be merged before and can be still keeps its stamps
+    whole_kept : (a b : ℕ) → IsClosed w.n (among before.set.members) → IsClosed w.n (among mid.set.members) → CanMerge w.n (among before.set.members) a → CanMerge w.n (among mid.set.members) a →
+        IsInDiamond w.n a b → after.stamps b ≡ before.stamps b
+    whole_kept a b closed shut was can i =
+        let was_b = member (can_merge_with w.n (among before.set.members) a b closed was i) in
+        let can_b = member (can_merge_with w.n (among mid.set.members) a b shut can i) in
+        stamp_kept b (not_fresh b was_b) (stays b was_b can_b)
+
+    -- the same for a triangle that can be merged
+    member_left : IsClosed w.n (among before.set.members) → IsClosed w.n (among mid.set.members) → (asked reserve : List ℕ) →
+        ((a : ℕ) → CanMerge w.n (among before.set.members) a → before.known a ≡ false → IsTrue (among reserve a) ⊎ IsOldMember w before asked a) →
+        (a : ℕ) → CanMerge w.n (among mid.set.members) a → after.known a ≡ false → IsTrue (among (roles.list ++ reserve) a) ⊎ IsOldMember w after asked a
+    member_left closed shut asked reserve left a h new = ⊎_elim
+        (λ (was : CanMerge w.n (among before.set.members) a).
+        let kept = stays a (member was) (member h) in
+        ⊎_elim
+        (λ there. inl (among_right a roles.list reserve there))
+        (λ (old : IsOldMember w before asked a). inr record {
+          can = old.can;
+          undue = old.undue;
+          unasked = old.unasked;
+          lower = λ b i. ap lower_of (whole_kept a b closed shut was h i) ∙ old.lower b i;
+        })
+        (left a was (sym kept.known ∙ sym (caught.known a) ∙ new)))
+        (λ there. inl (among_left a roles.list reserve there))
+        (roles.member a h)
+
+    -- a step is charged: a reading for each fresh entry, and one call of rank ahead for each role that was given out
+    step_charged : (evaluations added removed sum rest count more : ℕ) → IsClosed w.n (among before.set.members) → IsClosed w.n (among mid.set.members) →
+        Run w.n w.budget w.priority w.start mid.set.members sum rest → sum + rest ≡ added + removed + steps → more ≤ count + length mid.fresh →
+        IsCharged w evaluations before added removed count → IsCharged w evaluations after sum rest more
+    step_charged evaluations added removed sum rest count more closed shut run grown counted c = record {
+      run = subst (λ (z : PoolSet). Run w.n w.budget w.priority w.start z.members sum rest) (sym caught.set) run;
+      asked = c.asked;
+      distinct = c.distinct;
+      each = c.each;
+      reserve = roles.list ++ c.reserve;
+      leaf = λ a h new. leaf_left c.asked c.reserve c.leaf a (subst (λ (z : PoolSet). Contains (leaves_of w.n (among z.members)) a) caught.set h) new;
+      member = λ a h new. member_left closed shut c.asked c.reserve c.member a (subst (λ (z : PoolSet). CanMerge w.n (among z.members) a) caught.set h) new;
+      total = omega (
+        arith,
+        c.total,
+        length-append roles.list c.reserve,
+        roles.size,
+        few_fresh w.n before.set.members mid.set.members steps mid.fresh roles renewed.distinct new_here,
+        counted,
+        grown,
+      );
+    }
 
   -- a split
   pub split_charged : (t evaluations added removed total count more : ℕ) → IsGridSet w.n before.set.members → IsForced w.n before.set.members t mid.set.members →
@@ -153,10 +158,10 @@ module _ (w : DeferredFrame) (before mid after : SeenMesh) (settled : IsSettled 
       total ≡ added + (length mid.set.members - length before.set.members) →
       IsCharged w evaluations before added removed count → IsCharged w evaluations after total removed more
   split_charged t evaluations added removed total count more set forced step counted summed c =
-      let few = split_few w.n before.set.members set t mid.set.members mid.fresh forced renewed.distinct new_here in
-      step_charged evaluations added removed total removed count more set.closed forced.least.closed
+      step_charged (length mid.set.members - length before.set.members) (split_roles w.n before.set.members set t mid.set.members forced)
+      evaluations added removed total removed count more set.closed forced.least.closed
       (subst (λ z. Run w.n w.budget w.priority w.start mid.set.members z removed) (sym summed) (split before.set.members mid.set.members added removed c.run step))
-      (omega (arith, summed)) (omega (arith, summed, few)) counted c
+      (omega (arith, summed)) counted c
 
   -- a merge
   pub merge_charged : (d evaluations added removed total count more : ℕ) → IsGridSet w.n before.set.members → CanMerge w.n (among before.set.members) d →
@@ -165,10 +170,10 @@ module _ (w : DeferredFrame) (before mid after : SeenMesh) (settled : IsSettled 
       total ≡ removed + (length before.set.members - length mid.set.members) →
       IsCharged w evaluations before added removed count → IsCharged w evaluations after added total more
   merge_charged d evaluations added removed total count more set can merged step counted summed c =
-      let few = merge_few w.n before.set.members set d mid.set.members mid.fresh can merged renewed.distinct new_here in
-      step_charged evaluations added removed added total count more set.closed (without_diamond-closed w.n before.set.members d mid.set.members set.closed can merged)
+      step_charged (length before.set.members - length mid.set.members) (merge_roles w.n before.set.members set d mid.set.members can merged)
+      evaluations added removed added total count more set.closed (without_diamond-closed w.n before.set.members d mid.set.members set.closed can merged)
       (subst (λ z. Run w.n w.budget w.priority w.start mid.set.members added z) (sym summed) (merge before.set.members mid.set.members added removed c.run step))
-      (omega (arith, summed)) (omega (arith, summed, few)) counted c
+      (omega (arith, summed)) counted c
 
   -- each stamp is that of the start or was taken now
   pub step_stamped : (start : SeenMesh) (first count more : ℕ) → (more < 2 ^ 64 - 1 → count + length mid.fresh ≤ more) →
@@ -181,7 +186,7 @@ module _ (w : DeferredFrame) (before mid after : SeenMesh) (settled : IsSettled 
         ⊎_elim
         (λ (new : among mid.fresh a ≡ true). inr (caught.stamp a ∙ cond-true (among mid.fresh a) (Some (stamp_now r odometer a)) (mid.stamps a) new, among_left a mid.fresh s.read new))
         (λ (old : among mid.fresh a ≡ false).
-        let was = kept_entry before mid a renewed here old in
+        let was = renewed.kept a here old in
         let stamp : after.stamps a ≡ before.stamps a = caught.stamp a ∙ cond-false (among mid.fresh a) (Some (stamp_now r odometer a)) (mid.stamps a) old ∙ was.1.stamp in
         ⊎_elim
         (λ (kept : (before.stamps a ≡ start.stamps a) × (is_due odometer (start.stamps a) ≡ false)). inl (stamp ∙ kept.0, kept.1))

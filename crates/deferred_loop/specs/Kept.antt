@@ -62,8 +62,8 @@ pub record IsOldMember (w : DeferredFrame) (s : SeenMesh) (asked : List ℕ) (a 
   pub unasked : IsTrue (among asked a) → ⊥
   pub lower : (b : ℕ) → IsInDiamond w.n a b → lower_of (s.stamps b) ≡ w.lower b
 
--- Every evaluation so far is charged, and so is one more for each entry of the reserve: the entries that were due, or
--- were made anew in this frame. An entry that is not known is in the reserve or was one at the start.
+-- Every evaluation so far is charged, and so is one more for each entry of the reserve: the entries that were due, and the roles
+-- that steps of this frame gave out. An entry that is not known is in the reserve, or has the role that it had at the start.
 pub record IsCharged (w : DeferredFrame) (evaluations : ℕ) (s : SeenMesh) (added removed count : ℕ) : Type 0 where
   pub run : Run w.n w.budget w.priority w.start s.set.members added removed
   pub asked : List ℕ

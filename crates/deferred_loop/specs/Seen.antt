@@ -106,21 +106,18 @@ pub record IsSame (before after : SeenMesh) (a : ℕ) : Type 0 where
   pub exact : after.exact a ≡ before.exact a
   pub stamp : after.stamps a ≡ before.stamps a
 
--- a is a leaf and was none, or can be merged and could not
+-- a is an entry and was none
 abbrev pub IsNewEntry : ℕ → (ℕ → Bool) → (ℕ → Bool) → ℕ → Type 0
-IsNewEntry n before after a =
-    (Contains (leaves_of n after) a × (Contains (leaves_of n before) a → ⊥))
-    ⊎ (CanMerge n after a × (CanMerge n before a → ⊥))
+IsNewEntry n before after a = IsEntry n after a × (IsEntry n before a → ⊥)
 
--- the fresh entries are new ones, each once and not known, and all others were entries and are as they were
+-- The fresh entries are new ones, each once and not known. All others were entries and are as they were, also a leaf that can be
+-- merged now, and a triangle of a merged diamond that is a leaf now.
 pub record IsRenewed (before after : SeenMesh) : Type 0 where
   pub distinct : IsDistinct nat_eq after.fresh
   pub each : (a : ℕ) → IsTrue (among after.fresh a) → IsNewEntry after.set.n (among before.set.members) (among after.set.members) a
   pub unknown : (a : ℕ) → IsTrue (among after.fresh a) → after.known a ≡ false
-  pub leaf : (a : ℕ) → Contains (leaves_of after.set.n (among after.set.members)) a → among after.fresh a ≡ false →
-      Contains (leaves_of after.set.n (among before.set.members)) a × IsSame before after a
-  pub member : (a : ℕ) → CanMerge after.set.n (among after.set.members) a → among after.fresh a ≡ false →
-      CanMerge after.set.n (among before.set.members) a × IsSame before after a
+  pub kept : (a : ℕ) → IsEntry after.set.n (among after.set.members) a → among after.fresh a ≡ false →
+      IsEntry after.set.n (among before.set.members) a × IsSame before after a
 
 -- a pool with room for so many leaves holds every set within the budget
 abbrev pub HasRoom : ℕ → ℕ → ℕ → Type 0

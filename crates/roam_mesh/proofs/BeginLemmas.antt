@@ -13,7 +13,7 @@ use Rattle.frame_steps.specs.Stamps.{is_due}
 use Rattle.frame_steps.specs.Deferred.{IsEntry}
 use Rattle.deferred_loop.specs.Seen.{IsQuiet, IsBegun}
 use Rattle.roam_mesh.specs.Mesh.{slot_of, pool_set, members_of}
-use Rattle.roam_mesh.specs.Parts.{PartsState, entry_at, entry_of, is_leaf_at, is_entry_at, deadline_of, stamp_in, seen_parts, IsWhole, IsPlaced, IsParts}
+use Rattle.roam_mesh.specs.Parts.{PartsState, entry_at, entry_of, is_leaf_at, is_entry_at, deadline_of, stamp_in, seen_parts, IsWhole, IsPlaced, IsNear, IsParts}
 use Rattle.roam_mesh.specs.Change.{chief_slot, taken_out, begun}
 use Rattle.roam_mesh.specs.declared.entry.Entry.{Entry}
 use Rattle.roam_mesh.proofs.PlaceLemmas.{slot_of-at}
@@ -119,6 +119,7 @@ pub beginning_step : (start now : PartsState) (odometer : ℕ) (s : Slot) → Is
 beginning_step start now odometer s whole due is = record {
   parts = record {
     pool = subst (λ (p : PoolState). IsPool p.n p.pairs) (sym has.pool) is.parts.pool;
+    near = λ r. subst IsNear (sym (has.entries r)) (is.parts.near r);
     placed = placed_same (begun now s.0) (with_triangle (among now.fresh) s.0) (among (begun now s.0).fresh) tests
         (has.placed (with_triangle (among now.fresh) s.0) (taken_placed now (among now.fresh) s.0 whole is.parts.pool slot.0 is.parts.placed));
     entries = λ r fresh. subst (λ (p : PoolState). is_entry_at p.pairs r ≡ true) (sym has.pool) (⊎_elim

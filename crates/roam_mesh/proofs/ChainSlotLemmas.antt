@@ -9,7 +9,7 @@ use Rattle.edge_laws.proofs.SlotLemmas.{member_parent}
 use Rattle.force_split.specs.Chain.{IsChain}
 use Rattle.roam_mesh.specs.Mesh.{slot_of}
 use Rattle.roam_mesh.specs.Parts.{is_ready}
-use Rattle.roam_mesh.specs.Change.{diamond_slots, with_above, with_mate, with_chain}
+use Rattle.roam_mesh.specs.Change.{diamond_slots, above_slots, with_above, with_mate, with_chain}
 use Rattle.roam_mesh.proofs.PlaceLemmas.{address-slot_of}
 use Rattle.roam_mesh.proofs.SlotListLemmas.{in_left, in_right, in_either, in_first, in_later, in_cases, in_choice, choice_in}
 use Rattle.roam_mesh.proofs.RoleLemmas.{ready_parts, mate_leaf}
@@ -18,17 +18,17 @@ use Rattle.roam_mesh.proofs.RoleLemmas.{ready_parts, mate_leaf}
 pub diamond_cases : (pairs : List ℕ) (s r : ℕ) → among (diamond_slots pairs s) r ≡ true →
     (r ≡ s) ⊎ ((1 ≤ mate_of (address_at pairs s)) × (r ≡ slot_of pairs (mate_of (address_at pairs s))))
 diamond_cases pairs s r h = ⊎_elim
-    (λ own. inl own)
-    (λ rest.
-    let chosen = in_choice r (nat_lt 0 (mate_of (address_at pairs s))) (slot_of pairs (mate_of (address_at pairs s)) ∷ []) rest in
+    (λ other.
+    let chosen = in_choice r (nat_lt 0 (mate_of (address_at pairs s))) (slot_of pairs (mate_of (address_at pairs s)) ∷ []) other in
     inr (ltb-true 0 (mate_of (address_at pairs s)) chosen.0, ⊎_elim (λ is. is) (λ none. absurd (false≢true none)) (in_cases r (slot_of pairs (mate_of (address_at pairs s))) [] chosen.1)))
-    (in_cases r s (cond (nat_lt 0 (mate_of (address_at pairs s))) (slot_of pairs (mate_of (address_at pairs s)) ∷ []) []) h)
+    (λ own. inl (⊎_elim (λ is. is) (λ none. absurd (false≢true none)) (in_cases r s [] own)))
+    (in_either r (cond (nat_lt 0 (mate_of (address_at pairs s))) (slot_of pairs (mate_of (address_at pairs s)) ∷ []) []) (s ∷ []) h)
 
 -- and both are of it
 pub in_diamond : (pairs : List ℕ) (s r : ℕ) → (r ≡ s) ⊎ ((1 ≤ mate_of (address_at pairs s)) × (r ≡ slot_of pairs (mate_of (address_at pairs s)))) →
     among (diamond_slots pairs s) r ≡ true
-in_diamond pairs s r (inl own) = in_first r s (cond (nat_lt 0 (mate_of (address_at pairs s))) (slot_of pairs (mate_of (address_at pairs s)) ∷ []) []) (sym own)
-in_diamond pairs s r (inr other) = in_later r s (cond (nat_lt 0 (mate_of (address_at pairs s))) (slot_of pairs (mate_of (address_at pairs s)) ∷ []) [])
+in_diamond pairs s r (inl own) = in_right r (cond (nat_lt 0 (mate_of (address_at pairs s))) (slot_of pairs (mate_of (address_at pairs s)) ∷ []) []) (s ∷ []) (in_first r s [] (sym own))
+in_diamond pairs s r (inr other) = in_left r (cond (nat_lt 0 (mate_of (address_at pairs s))) (slot_of pairs (mate_of (address_at pairs s)) ∷ []) []) (s ∷ [])
     (choice_in r (nat_lt 0 (mate_of (address_at pairs s))) (slot_of pairs (mate_of (address_at pairs s)) ∷ []) (lt-ltb 0 (mate_of (address_at pairs s)) other.0)
     (in_first r (slot_of pairs (mate_of (address_at pairs s))) [] (sym other.1)))
 
@@ -43,22 +43,23 @@ pub above_at : (n : ℕ) (pairs : List ℕ) (b : ℕ) → IsPool n pairs → 2 �
 above_at n pairs b pool low ready = address-slot_of n pairs b pool low (member_parent n pairs b pool low (ready_parts pairs b ready).own.split)
 
 module _ (n : ℕ) (pairs : List ℕ) (pool : IsPool n pairs) (s r : ℕ) where
-  -- a slot with those above it
-  pub above_cases : among (with_above pairs s) r ≡ true → (r ≡ s) ⊎ IsAbove pairs s r
-  above_cases h = ⊎_elim
-      (λ own. inl own)
-      (λ rest.
-      let chosen = in_choice r (nat_le 4 (address_at pairs s) && is_ready pairs (address_at pairs s / 2)) (diamond_slots pairs (slot_of pairs (address_at pairs s / 2))) rest in
+  -- a slot above
+  pub above_only : among (above_slots pairs s) r ≡ true → IsAbove pairs s r
+  above_only h =
+      let chosen = in_choice r (nat_le 4 (address_at pairs s) && is_ready pairs (address_at pairs s / 2)) (diamond_slots pairs (slot_of pairs (address_at pairs s / 2))) h in
       let tests = and_parts (nat_le 4 (address_at pairs s)) (is_ready pairs (address_at pairs s / 2)) chosen.0 in
       let big = leb-true 4 (address_at pairs s) tests.0 in
       let there = above_at n pairs (address_at pairs s / 2) pool (omega arith) tests.1 in
-      inr record {
+      record {
         big = big;
         ready = tests.1;
         slot = subst (λ z. (r ≡ slot_of pairs (address_at pairs s / 2)) ⊎ ((1 ≤ mate_of z) × (r ≡ slot_of pairs (mate_of z)))) there
             (diamond_cases pairs (slot_of pairs (address_at pairs s / 2)) r chosen.1);
-      })
-      (in_cases r s (cond (nat_le 4 (address_at pairs s) && is_ready pairs (address_at pairs s / 2)) (diamond_slots pairs (slot_of pairs (address_at pairs s / 2))) []) h)
+      }
+
+  -- a slot with those above it
+  pub above_cases : among (with_above pairs s) r ≡ true → (r ≡ s) ⊎ IsAbove pairs s r
+  above_cases h = ⊎_elim (λ own. inl own) (λ rest. inr (above_only rest)) (in_cases r s (above_slots pairs s) h)
 
   -- and each of those is one of them
   pub in_above : IsAbove pairs s r → among (with_above pairs s) r ≡ true

@@ -1,8 +1,8 @@
 -- What entering the next fresh slot does.
-use Rattle.std.proofs.Common.{◌≡◌, ℕ, ◌+◌, ◌*◌, ◌<◌, ◌≤◌, ◌||◌, Bool, true, false, not, ◌&&◌, cond, eqb, nat_eq, nat_lt, List, [], ◌∷◌, ◌++◌, length, map, reverse, Option, None, Some, slice_index_or, slice_set, length-set, refl, sym, ◌∙◌, ap, subst, arith, ⊎_elim}
+use Rattle.std.proofs.Common.{◌≡◌, ℕ, ◌+◌, ◌-◌, ◌*◌, ◌^◌, ◌<◌, ◌≤◌, ◌||◌, Bool, true, false, not, ◌&&◌, cond, eqb, nat_eq, nat_lt, List, [], ◌∷◌, ◌++◌, length, map, reverse, Option, None, Some, slice_index_or, slice_set, length-set, take, refl, sym, ◌∙◌, ap, ap₂, subst, arith, ⊎_elim}
 use Rattle.std.specs.List.{IsDistinct}
 use Rattle.std.proofs.lemmas.Bool.{cases_Bool, cond-true, cond-false, cond_both, both_ways, eqb-true, eqb-false, eq-eqb, ne_eqb, or_left, or_right, or_from, or_parts, and_from, and_parts, not_from_false, lt-ltb, ltb-true}
-use Rattle.std.proofs.lemmas.List.{map-append, reverse-append, get_or-set_same, get_or-set_other}
+use Rattle.std.proofs.lemmas.List.{length-append, map-append, reverse-append, get_or-set_same, get_or-set_other}
 use Rattle.mesh_defs.specs.ClosedSet.{among}
 use Rattle.mesh_defs.specs.Greedy.{with_triangle}
 use Rattle.closure_laws.proofs.ClosureLemmas.{same_tests}
@@ -10,18 +10,20 @@ use Rattle.edge_laws.specs.Edge.{mate_of}
 use Rattle.edge_laws.specs.Slots.{address_at, IsLive, IsPool}
 use Rattle.edge_laws.proofs.MateLemmas.{mate_of-back}
 use Rattle.merge_queue.specs.Chief.{chief_of}
+use Rattle.bintree_addr.specs.declared.slot.Slot.{Slot}
 use Rattle.triangle_pool.specs.Slots.{PoolState}
 use Rattle.deferred_loop.specs.declared.gauge.Reading.{Reading}
 use Rattle.deferred_loop.specs.Seen.{IsEntered}
 use Rattle.roam_mesh.specs.Mesh.{slot_of}
-use Rattle.roam_mesh.specs.Parts.{PartsState, blank, entry_at, is_leaf_at, is_ready_at, is_chief_at, is_entry_at, is_out, deadline_of, leaf_rank, diamond_rank, stamp_in, entry_of, seen_parts, IsWhole, IsPlaced, IsParts}
-use Rattle.roam_mesh.specs.Change.{chief_slot, rekeyed, is_mate_fresh, put_in, read_entry, entered}
+use Rattle.roam_mesh.specs.Parts.{PartsState, blank, entry_at, is_leaf_at, is_ready_at, is_chief_at, is_entry_at, is_out, deadline_of, leaf_rank, diamond_rank, stamp_in, entry_of, seen_parts, IsWhole, IsPlaced, IsNear, IsParts}
+use Rattle.roam_mesh.specs.Change.{chief_slot, rekeyed, is_mate_fresh, put_in, read_entry, entered, seated}
+use Rattle.roam_mesh.specs.Keeping.{CanTakeBack}
 use Rattle.roam_mesh.specs.declared.entry.Entry.{Entry}
 use Rattle.roam_mesh.proofs.PlaceLemmas.{live_below, entry_at-set, entry_of-set, slot_of-at}
 use Rattle.roam_mesh.proofs.RoleLemmas.{entry_live, ready_live, entry_cases, ready_mate, chief_ready, chief_cases, IsChiefIn, chief_in, in_chief}
-use Rattle.roam_mesh.proofs.PlacedLemmas.{away_placed, placed_same, leaf_apart, chief_apart, role_none, rekeyed_as}
+use Rattle.roam_mesh.proofs.PlacedLemmas.{length-cond_set, away_placed, placed_same, leaf_apart, chief_apart, role_none, rekeyed_as}
 use Rattle.roam_mesh.proofs.TestLemmas.{by_bool, or_false}
-use Rattle.roam_mesh.proofs.SlotListLemmas.{among-push, listed_below, among_last, distinct_front}
+use Rattle.roam_mesh.proofs.SlotListLemmas.{numbers_count, numbers_pop, among-push, listed_below, among_last, distinct_front}
 
 -- the last fresh slot has an entry
 pub last_entry : (parts : PartsState) (rest : List ℕ) (s : ℕ) → IsParts parts → parts.fresh ≡ rest ++ (s ∷ []) → IsLive parts.pool.pairs s
@@ -37,7 +39,7 @@ with_read parts rest s e due = record parts { entries = slice_set parts.entries 
 
 -- it is whole
 pub read_whole : (parts : PartsState) (rest : List ℕ) (s : ℕ) (e : Entry) (due : Option ℕ) → IsWhole parts → parts.fresh ≡ rest ++ (s ∷ []) →
-    e.fresh ≡ false → e.listed ≡ (entry_at parts s).listed → e.known ≡ (entry_at parts s).known → IsWhole (with_read parts rest s e due)
+    e.fresh ≡ false → e.listed ≡ (entry_at parts s).listed → (e.known ≡ true → e.listed ≡ true) → IsWhole (with_read parts rest s e due)
 read_whole parts rest s e due whole last stale listed known = record {
   few = whole.few;
   pairs = whole.pairs;
@@ -48,7 +50,14 @@ read_whole parts rest s e due whole last stale listed known = record {
   due = length-set parts.due s due ∙ whole.due;
   asked = record { distinct = whole.asked.distinct; marked = λ r. same (λ f. f.listed) listed r ∙ whole.asked.marked r };
   fresh = record { distinct = front.0; marked = fresh };
-  known = λ r is. same (λ f. f.listed) listed r ∙ whole.known r (sym (same (λ f. f.known) known r) ∙ is);
+  known = λ r is. ⊎_elim
+      (λ (own : eqb s r ≡ true).
+      let here : slice_index_or (slice_set parts.entries s e) r blank ≡ e = entry_at-set parts.entries s e r below ∙ cond-true (eqb s r) e (entry_at parts r) own in
+      ap (λ (f : Entry). f.listed) here ∙ known (sym (ap (λ (f : Entry). f.known) here) ∙ is))
+      (λ (other : eqb s r ≡ false).
+      let here : slice_index_or (slice_set parts.entries s e) r blank ≡ entry_at parts r = entry_at-set parts.entries s e r below ∙ cond-false (eqb s r) e (entry_at parts r) other in
+      ap (λ (f : Entry). f.listed) here ∙ whole.known r (sym (ap (λ (f : Entry). f.known) here) ∙ is))
+      (cases_Bool (eqb s r));
 }
   where
     front : IsDistinct nat_eq rest × (among rest s ≡ false)
@@ -243,21 +252,64 @@ cond-map f false x y = refl
 refreshed : (p : PartsState) (fresh : List ℕ) (out : ℕ → Bool) → IsPlaced p out → IsPlaced (record p { fresh = fresh }) out
 refreshed p fresh out placed = record { split = placed.split; merge = placed.merge; due = placed.due; stamped = placed.stamped; known = placed.known }
 
--- after an entering all entries are in their places but those that are still fresh
-pub entered_parts : (parts : PartsState) (rest : List ℕ) (s : ℕ) (reading : Reading) (odometer : ℕ) → IsWhole parts → IsParts parts → parts.fresh ≡ rest ++ (s ∷ []) →
-    IsParts (entered parts rest s reading odometer)
-entered_parts parts rest s reading odometer whole is last = record {
-  pool = subst (λ (q : PoolState). IsPool q.n q.pairs) (sym (put_in-pool middle s)) is.pool;
-  placed = subst (λ l. IsPlaced (put_in middle s) (among l)) (sym (put_in-fresh middle s)) placed;
-  entries = λ r listed. subst (λ (q : PoolState). is_entry_at q.pairs r ≡ true) (sym (put_in-pool middle s))
-      (is.entries r (ap (λ l. among l r) last ∙ among-push rest s r ∙ or_left (among rest r) (among (s ∷ []) r) (ap (λ l. among l r) (sym (put_in-fresh middle s)) ∙ listed)));
+-- what is kept of a slot after one has another stamp
+near_set : (parts : PartsState) (s : ℕ) (e : Entry) → s < length parts.entries → IsNear e → ((r : ℕ) → IsNear (entry_at parts r)) → (r : ℕ) → IsNear (slice_index_or (slice_set parts.entries s e) r blank)
+near_set parts s e below near all r =
+    subst IsNear (sym (entry_at-set parts.entries s e r below)) (cond_both (nat_eq s r) e (entry_at parts r) IsNear (λ _. near) (λ _. all r))
+
+-- what is kept of a slot after it was put in
+put_in-entry : (p : PartsState) (s r : ℕ) → entry_at (put_in p s) r ≡ entry_at p r
+put_in-entry p s r = cond_both (is_leaf_at p.pool.pairs s || cond (is_mate_fresh p s) false true) (rekeyed p s) p (λ q. entry_at q r ≡ entry_at p r) (λ _. refl) (λ _. refl)
+
+-- putting in leaves all whole
+put_whole : (p : PartsState) (s : ℕ) → IsWhole p → IsWhole (put_in p s)
+put_whole p s whole = cond_both (is_leaf_at p.pool.pairs s || cond (is_mate_fresh p s) false true) (rekeyed p s) p IsWhole
+    (λ _. record {
+      few = whole.few;
+      pairs = whole.pairs;
+      root = whole.root;
+      entries = whole.entries;
+      split = (length-cond_set (is_leaf_at p.pool.pairs s) p.split s (Some (leaf_rank p s))).0 ∙ whole.split;
+      merge = (length-cond_set (is_leaf_at p.pool.pairs s) p.merge (chief_slot p.pool.pairs s) (Some (diamond_rank p (chief_of (address_at p.pool.pairs s))))).1 ∙ whole.merge;
+      due = whole.due;
+      asked = whole.asked;
+      fresh = whole.fresh;
+      known = whole.known;
+    })
+    (λ _. whole)
+
+-- what seating the last fresh slot does: pool and lists stay but for that slot, which has what was kept of it
+pub record HasSeated (before after : PartsState) (rest : List ℕ) (s : ℕ) (e : Entry) : Type 0 where
+  pub pool : after.pool ≡ before.pool
+  pub fresh : after.fresh ≡ rest
+  pub whole : IsWhole after
+  pub parts : IsParts after
+  pub entries : (r : ℕ) → entry_at after r ≡ cond (nat_eq s r) e (entry_at before r)
+
+-- so all entries are in their places but those that are still fresh
+pub seated_has : (parts : PartsState) (rest : List ℕ) (s : ℕ) (e : Entry) → IsWhole parts → CanTakeBack parts rest s e → HasSeated parts (seated parts rest s e) rest s e
+seated_has parts rest s e whole can = record {
+  pool = put_in-pool middle s;
+  fresh = put_in-fresh middle s;
+  whole = put_whole middle s whole_after;
+  parts = record {
+    pool = subst (λ (q : PoolState). IsPool q.n q.pairs) (sym (put_in-pool middle s)) is.pool;
+    near = λ r. subst IsNear (sym (put_in-entry middle s r)) (near_set parts s e below can.near is.near r);
+    placed = subst (λ l. IsPlaced (put_in middle s) (among l)) (sym (put_in-fresh middle s)) placed;
+    entries = λ r listed. subst (λ (q : PoolState). is_entry_at q.pairs r ≡ true) (sym (put_in-pool middle s))
+        (is.entries r (ap (λ l. among l r) last ∙ among-push rest s r ∙ or_left (among rest r) (among (s ∷ []) r) (ap (λ l. among l r) (sym (put_in-fresh middle s)) ∙ listed)));
+  };
+  entries = λ r. put_in-entry middle s r ∙ entry_at-set parts.entries s e r below;
 }
   where
-    e : Entry
-    e = read_entry (entry_at parts s) reading odometer
+    is : IsParts parts
+    is = can.parts_are
+
+    last : parts.fresh ≡ rest ++ (s ∷ [])
+    last = can.last
 
     middle : PartsState
-    middle = with_read parts rest s e (Some (odometer + reading.slack + 1))
+    middle = with_read parts rest s e (Some (deadline_of e))
 
     there : among parts.fresh s ≡ true
     there = ap (λ l. among l s) last ∙ among_last rest s
@@ -269,7 +321,7 @@ entered_parts parts rest s reading odometer whole is last = record {
     below = listed_below parts.entries (λ f. f.fresh) parts.fresh s whole.fresh refl there
 
     whole_after : IsWhole middle
-    whole_after = read_whole parts rest s e (Some (odometer + reading.slack + 1)) whole last refl refl refl
+    whole_after = read_whole parts rest s e (Some (deadline_of e)) whole last can.stale can.listed can.known
 
     front : IsDistinct nat_eq rest × (among rest s ≡ false)
     front = distinct_front rest s (subst (IsDistinct nat_eq) last whole.fresh.distinct)
@@ -292,6 +344,65 @@ entered_parts parts rest s reading odometer whole is last = record {
         (ap (λ (f : Entry). slice_set parts.due s (Some (deadline_of f))) (sym own_entry))
         (ap (λ b. nat_lt 0 (mate_of (address_at parts.pool.pairs s)) && b) (whole_after.fresh.marked (slot_of parts.pool.pairs (mate_of (address_at parts.pool.pairs s)))))
         (refreshed (record parts { entries = slice_set parts.entries s e }) rest (with_triangle (among rest) s) before)
+
+-- two lists that end with one number each and are equal are equal in both parts
+pub last_same : (xs ys : List ℕ) (a b : ℕ) → xs ++ (a ∷ []) ≡ ys ++ (b ∷ []) → (xs ≡ ys) × (a ≡ b)
+last_same [] [] a b same = (refl, heads a b [] [] same)
+  where
+    heads : (a b : ℕ) (xs ys : List ℕ) → a ∷ xs ≡ b ∷ ys → a ≡ b
+    heads a b xs ys same = cc
+last_same [] (y ∷ ys) a b same = absurd (let short : length (a ∷ []) ≡ length (y ∷ (ys ++ (b ∷ []))) = ap (λ (l : List ℕ). length l) same in let long = length-append ys (b ∷ []) in let e : ⊥ = omega arith in e)
+last_same (x ∷ xs) [] a b same = absurd (let short : length (x ∷ (xs ++ (a ∷ []))) ≡ length (b ∷ []) = ap (λ (l : List ℕ). length l) same in let long = length-append xs (a ∷ []) in let e : ⊥ = omega arith in e)
+last_same (x ∷ xs) (y ∷ ys) a b same =
+    let rest = last_same xs ys a b (tails x y (xs ++ (a ∷ [])) (ys ++ (b ∷ [])) same) in
+    (ap₂ (λ z zs. z ∷ zs) (heads x y (xs ++ (a ∷ [])) (ys ++ (b ∷ [])) same) rest.0, rest.1)
+  where
+    heads : (a b : ℕ) (xs ys : List ℕ) → a ∷ xs ≡ b ∷ ys → a ≡ b
+    heads a b xs ys same = cc
+
+    tails : (a b : ℕ) (xs ys : List ℕ) → a ∷ xs ≡ b ∷ ys → xs ≡ ys
+    tails a b xs ys same = cc
+
+-- the last one of an array of fresh slots can have back what was kept of it, where the last one of the parts can
+pub back_last : (parts old : PartsState) (items : List Slot) (count : ℕ) (s : Slot) (was : Entry) → parts ≡ old → parts.fresh ≡ map (λ t. t.0) (take count items) → count ≤ length items →
+    s ≡ slice_index_or items (count - 1) s → ((rest : List ℕ) × (t : ℕ) × CanTakeBack old rest t was) → (1 ≤ count) × CanTakeBack parts (map (λ t. t.0) (take (count - 1) items)) s.0 was
+back_last parts old items count s was same fresh within at can =
+    let back = can.2 in
+    let long : length (map (λ (t : Slot). t.0) (take count items)) ≡ length (can.0 ++ (can.1 ∷ [])) = ap (λ (l : List ℕ). length l) (sym fresh ∙ ap (λ (p : PartsState). p.fresh) same ∙ back.last) in
+    let counted = numbers_count items count within in
+    let sum = length-append can.0 (can.1 ∷ []) in
+    let some : 1 ≤ count = omega arith in
+    let last : parts.fresh ≡ map (λ (t : Slot). t.0) (take (count - 1) items) ++ (s.0 ∷ []) = fresh ∙ numbers_pop items count s some within at in
+    let both = last_same (map (λ (t : Slot). t.0) (take (count - 1) items)) can.0 s.0 can.1 (sym last ∙ ap (λ (p : PartsState). p.fresh) same ∙ back.last) in (
+      some,
+      record {
+        parts_are = subst IsParts (sym same) back.parts_are;
+        last = last;
+        near = back.near;
+        stale = back.stale;
+        listed = back.listed ∙ ap₂ (λ (p : PartsState) (r : ℕ). (entry_at p r).listed) (sym same) (sym both.1);
+        known = back.known;
+      },
+    )
+
+-- the same for any way to say which one is last
+pub seated_same : (parts old : PartsState) (front rest : List ℕ) (s t : ℕ) (was : Entry) → parts ≡ old → parts.fresh ≡ front ++ (s ∷ []) → old.fresh ≡ rest ++ (t ∷ []) →
+    seated parts front s was ≡ seated old rest t was
+seated_same parts old front rest s t was same here there =
+    let both = last_same front rest s t (sym here ∙ ap (λ (p : PartsState). p.fresh) same ∙ there) in
+    ap (λ p. seated p front s was) same ∙ ap₂ (λ l r. seated old l r was) both.0 both.1
+
+-- and so they are after an entering
+pub entered_parts : (parts : PartsState) (rest : List ℕ) (s : ℕ) (reading : Reading) (odometer : ℕ) → IsWhole parts → IsParts parts → parts.fresh ≡ rest ++ (s ∷ []) →
+    odometer ≤ 2 ^ 62 → reading.slack ≤ 2 ^ 32 → IsParts (entered parts rest s reading odometer)
+entered_parts parts rest s reading odometer whole is last far small = (seated_has parts rest s (read_entry (entry_at parts s) reading odometer) whole record {
+  parts_are = is;
+  last = last;
+  near = (far, small);
+  stale = refl;
+  listed = refl;
+  known = whole.known s;
+}).parts
 
 -- and the loop sees it entered
 pub entered_seen : (parts : PartsState) (rest : List ℕ) (s : ℕ) (reading : Reading) (odometer : ℕ) → IsWhole parts → IsParts parts → parts.fresh ≡ rest ++ (s ∷ []) →

@@ -17,6 +17,7 @@ pub mod MergeRoleLemmas
 pub mod MergeLaws
 pub mod BeginLemmas
 pub mod EnterLemmas
+pub mod KeepLemmas
 pub mod ToldLemmas
 pub mod HeadLemmas
 pub mod LastLemmas

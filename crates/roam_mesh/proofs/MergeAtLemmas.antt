@@ -1,5 +1,5 @@
 -- What the steps of a merge do to the parts.
-use Rattle.std.proofs.Common.{◌≡◌, ℕ, ◌+◌, ◌*◌, ◌/◌, ◌≤◌, ◌⊎◌, inl, inr, true, false, cond, nat_lt, List, [], ◌++◌, slice_index, sym, ◌∙◌, ap, subst, arith, ⊎_elim}
+use Rattle.std.proofs.Common.{◌≡◌, ℕ, ◌+◌, ◌*◌, ◌/◌, ◌≤◌, ◌⊎◌, inl, inr, true, false, cond, nat_lt, List, [], ◌∷◌, ◌++◌, slice_index, refl, sym, ◌∙◌, ap, subst, arith, ⊎_elim}
 use Rattle.std.proofs.lemmas.Bool.{both_ways, false_from_ne_true, lt-ltb}
 use Rattle.edge_laws.specs.Edge.{mate_of}
 use Rattle.edge_laws.specs.Slots.{address_at, has_children, split_set, room_of, diamond_size, IsLive, IsPool, IsMergeReady, IsUnder, IsMerge}
@@ -8,12 +8,15 @@ use Rattle.edge_laws.proofs.SlotLemmas.{has_children-set}
 use Rattle.triangle_pool.specs.Slots.{PoolState}
 use Rattle.roam_mesh.specs.Mesh.{slot_of}
 use Rattle.roam_mesh.specs.Parts.{PartsState, is_leaf_at, is_ready_at}
-use Rattle.roam_mesh.specs.Change.{child_slots, with_children, with_above, diamond_slots, left, left_all, pushed_all}
-use Rattle.roam_mesh.specs.Merging.{IsMergeAt}
+use Rattle.roam_mesh.specs.Change.{child_slots, with_children, above_slots, with_above, diamond_slots, left, left_all, pushed, pushed_all}
+use Rattle.roam_mesh.specs.Merging.{mate_slots, IsMergeAt}
 use Rattle.roam_mesh.proofs.PlaceLemmas.{one_slot}
 use Rattle.roam_mesh.proofs.RoleLemmas.{leaf_from, ready_live, ready_at_parts}
 use Rattle.roam_mesh.proofs.PlacedLemmas.{left_all-append, left_all-pool}
-use Rattle.roam_mesh.proofs.FreshLemmas.{pushed_all-pool}
+use Rattle.roam_mesh.proofs.FreshLemmas.{pushed_all-pool, pushed_all-append}
+use Rattle.roam_mesh.proofs.SlotListLemmas.{in_left, in_right, in_either, in_first, in_later, in_cases, in_choice, choice_in}
+use Rattle.closure_laws.proofs.ClosureLemmas.{same_tests}
+use Rattle.mesh_defs.specs.ClosedSet.{among}
 use Rattle.roam_mesh.proofs.PoolChangeLemmas.{root_kept}
 
 -- two slots that have the children of a triangle are its child slots
@@ -103,24 +106,73 @@ pub record IsPooled (before after : PoolState) (s : ℕ) : Type 0 where
   pub merge : IsMerge before.pairs after.pairs (address_at before.pairs s)
   pub valid : IsPool after.n after.pairs
 
--- the slots that are fresh after a merge
+-- the slots that are fresh after a merge, in any order
 abbrev pub fresh_slots : List ℕ → ℕ → ℕ → List ℕ
 fresh_slots pairs m s = with_above pairs s ++ cond (nat_lt 0 m) (with_above pairs (slot_of pairs m)) []
 
+-- and in the order in which they are listed
+abbrev pub listed_slots : List ℕ → ℕ → ℕ → List ℕ
+listed_slots pairs m s = (above_slots pairs s ++ mate_slots pairs m) ++ (s ∷ [])
+
+-- both are the same slots
+pub listed_fresh : (pairs : List ℕ) (m s r : ℕ) → among (listed_slots pairs m s) r ≡ among (fresh_slots pairs m s) r
+listed_fresh pairs m s r = same_tests (among (listed_slots pairs m s) r) (among (fresh_slots pairs m s) r) to from
+  where
+    above : List ℕ
+    above = above_slots pairs s
+
+    t : ℕ
+    t = slot_of pairs m
+
+    other : List ℕ
+    other = above_slots pairs (slot_of pairs m)
+
+    across : List ℕ
+    across = cond (nat_lt 0 m) (with_above pairs (slot_of pairs m)) []
+
+    to : among (listed_slots pairs m s) r ≡ true → among (fresh_slots pairs m s) r ≡ true
+    to h = ⊎_elim
+        (λ first. ⊎_elim
+        (λ a. in_left r (s ∷ above) across (in_later r s above a))
+        (λ b.
+        let chosen = in_choice r (nat_lt 0 m) (other ++ (t ∷ [])) b in
+        in_right r (s ∷ above) across (choice_in r (nat_lt 0 m) (t ∷ other) chosen.0 (⊎_elim
+        (λ o. in_later r t other o)
+        (λ own. ⊎_elim (λ (is : r ≡ t). in_first r t other (sym is)) (λ none. absurd (both_ways false refl none)) (in_cases r t [] own))
+        (in_either r other (t ∷ []) chosen.1))))
+        (in_either r above (mate_slots pairs m) first))
+        (λ own. ⊎_elim (λ (is : r ≡ s). in_left r (s ∷ above) across (in_first r s above (sym is))) (λ none. absurd (both_ways false refl none)) (in_cases r s [] own))
+        (in_either r (above ++ mate_slots pairs m) (s ∷ []) h)
+
+    from : among (fresh_slots pairs m s) r ≡ true → among (listed_slots pairs m s) r ≡ true
+    from h = ⊎_elim
+        (λ first. ⊎_elim
+        (λ (is : r ≡ s). in_right r (above ++ mate_slots pairs m) (s ∷ []) (in_first r s [] (sym is)))
+        (λ a. in_left r (above ++ mate_slots pairs m) (s ∷ []) (in_left r above (mate_slots pairs m) a))
+        (in_cases r s above first))
+        (λ b.
+        let chosen = in_choice r (nat_lt 0 m) (t ∷ other) b in
+        in_left r (above ++ mate_slots pairs m) (s ∷ []) (in_right r above (mate_slots pairs m) (choice_in r (nat_lt 0 m) (other ++ (t ∷ [])) chosen.0 (⊎_elim
+        (λ (is : r ≡ t). in_right r other (t ∷ []) (in_first r t [] (sym is)))
+        (λ o. in_left r other (t ∷ []) o)
+        (in_cases r t other chosen.1)))))
+        (in_either r (s ∷ above) across h)
+
+-- the parts once all is listed
+abbrev pub merged_state : PartsState → PoolState → ℕ → PartsState
+merged_state before pool s = pushed_all (pushed_all (pushed_all (record (left_all before (with_children before.pool.pairs s)) { pool = pool }) (above_slots pool.pairs s))
+    (mate_slots pool.pairs (mate_of (address_at before.pool.pairs s)))) (s ∷ [])
+
 abbrev IsAtPool : PartsState → PartsState → ℕ → PoolState → Type 0
-IsAtPool before after s pool = IsPooled before.pool pool s
-    × (after ≡ pushed_all (pushed_all (record (left_all before (with_children before.pool.pairs s)) { pool = pool }) (with_above pool.pairs s))
-    (cond (nat_lt 0 (mate_of (address_at before.pool.pairs s))) (with_above pool.pairs (slot_of pool.pairs (mate_of (address_at before.pool.pairs s)))) []))
+IsAtPool before after s pool = IsPooled before.pool pool s × (after ≡ merged_state before pool s)
 
 -- so the parts are as they must be once both triangles are listed
-pub merged_at : (before after : PartsState) (s : ℕ) (pool : PoolState) → IsPooled before.pool pool s →
-    after ≡ pushed_all (pushed_all (record (left_all before (with_children before.pool.pairs s)) { pool = pool }) (with_above pool.pairs s))
-    (cond (nat_lt 0 (mate_of (address_at before.pool.pairs s))) (with_above pool.pairs (slot_of pool.pairs (mate_of (address_at before.pool.pairs s)))) []) →
-    IsMergeAt before after s
+pub merged_at : (before after : PartsState) (s : ℕ) (pool : PoolState) → IsPooled before.pool pool s → after ≡ merged_state before pool s → IsMergeAt before after s
 merged_at before after s pool pooled state =
     let start : PartsState = record (left_all before (with_children before.pool.pairs s)) { pool = pool } in
-    let more : List ℕ = cond (nat_lt 0 (mate_of (address_at before.pool.pairs s))) (with_above pool.pairs (slot_of pool.pairs (mate_of (address_at before.pool.pairs s)))) [] in
-    let same : after.pool ≡ pool = ap (λ (z : PartsState). z.pool) state ∙ pushed_all-pool (pushed_all start (with_above pool.pairs s)) more ∙ pushed_all-pool start (with_above pool.pairs s) in
+    let first : PartsState = pushed_all start (above_slots pool.pairs s) in
+    let more : List ℕ = mate_slots pool.pairs (mate_of (address_at before.pool.pairs s)) in
+    let same : after.pool ≡ pool = ap (λ (z : PartsState). z.pool) state ∙ pushed_all-pool (pushed_all first more) (s ∷ []) ∙ pushed_all-pool first more ∙ pushed_all-pool start (above_slots pool.pairs s) in
     let all : IsAtPool before after s after.pool = subst (IsAtPool before after s) (sym same) (pooled, state) in
     record {
       n = all.0.n;
@@ -134,32 +186,34 @@ merged_at before after s pool pooled state =
     }
 
 -- one triangle
-pub alone_state : (before was after : PartsState) (s kept : ℕ) (pool : PoolState) → was ≡ left_all before (with_children before.pool.pairs s) → kept ≡ s →
-    mate_of (address_at before.pool.pairs s) ≡ 0 → after ≡ pushed_all (record was { pool = pool }) (with_above pool.pairs kept) →
-    after ≡ pushed_all (pushed_all (record (left_all before (with_children before.pool.pairs s)) { pool = pool }) (with_above pool.pairs s))
-    (cond (nat_lt 0 (mate_of (address_at before.pool.pairs s))) (with_above pool.pairs (slot_of pool.pairs (mate_of (address_at before.pool.pairs s)))) [])
-alone_state before was after s kept pool gone same none state =
-    state ∙ ap (λ z. pushed_all (record was { pool = pool }) (with_above pool.pairs z)) same
-    ∙ ap (λ (z : PartsState). pushed_all (record z { pool = pool }) (with_above pool.pairs s)) gone
-    ∙ ap (λ m. pushed_all (pushed_all (record (left_all before (with_children before.pool.pairs s)) { pool = pool }) (with_above pool.pairs s))
-    (cond (nat_lt 0 m) (with_above pool.pairs (slot_of pool.pairs (mate_of (address_at before.pool.pairs s)))) [])) (sym none)
+pub alone_state : (before was first after : PartsState) (s kept : ℕ) (pool : PoolState) → was ≡ left_all before (with_children before.pool.pairs s) → kept ≡ s →
+    mate_of (address_at before.pool.pairs s) ≡ 0 → first ≡ pushed_all (record was { pool = pool }) (above_slots pool.pairs kept) → after ≡ pushed first kept →
+    after ≡ merged_state before pool s
+alone_state before was first after s kept pool gone same none one state =
+    state ∙ ap (λ z. pushed z kept) one
+    ∙ ap (λ k. pushed (pushed_all (record was { pool = pool }) (above_slots pool.pairs k)) k) same
+    ∙ ap (λ (z : PartsState). pushed (pushed_all (record z { pool = pool }) (above_slots pool.pairs s)) s) gone
+    ∙ ap (λ m. pushed (pushed_all (pushed_all (record (left_all before (with_children before.pool.pairs s)) { pool = pool }) (above_slots pool.pairs s)) (mate_slots pool.pairs m)) s) (sym none)
 
 -- two
-pub both_state : (before was first after : PartsState) (s kept t : ℕ) (pool : PoolState) → was ≡ left_all before (with_children before.pool.pairs s) → kept ≡ s →
+pub both_state : (before was first second third after : PartsState) (s kept t : ℕ) (pool : PoolState) → was ≡ left_all before (with_children before.pool.pairs s) → kept ≡ s →
     1 ≤ mate_of (address_at before.pool.pairs s) → slot_of pool.pairs (mate_of (address_at before.pool.pairs s)) ≡ t →
-    first ≡ pushed_all (record was { pool = pool }) (with_above pool.pairs kept) → after ≡ pushed_all first (with_above first.pool.pairs t) →
-    after ≡ pushed_all (pushed_all (record (left_all before (with_children before.pool.pairs s)) { pool = pool }) (with_above pool.pairs s))
-    (cond (nat_lt 0 (mate_of (address_at before.pool.pairs s))) (with_above pool.pairs (slot_of pool.pairs (mate_of (address_at before.pool.pairs s)))) [])
-both_state before was first after s kept t pool gone same some slot one two =
+    first ≡ pushed_all (record was { pool = pool }) (above_slots pool.pairs kept) → second ≡ pushed_all first (above_slots first.pool.pairs t) →
+    third ≡ pushed second t → after ≡ pushed third kept → after ≡ merged_state before pool s
+both_state before was first second third after s kept t pool gone same some slot one two three state =
+    let m : ℕ = mate_of (address_at before.pool.pairs s) in
     let start : PartsState = record (left_all before (with_children before.pool.pairs s)) { pool = pool } in
-    let to : first ≡ pushed_all start (with_above pool.pairs s) = one ∙ ap (λ z. pushed_all (record was { pool = pool }) (with_above pool.pairs z)) same
-    ∙ ap (λ (z : PartsState). pushed_all (record z { pool = pool }) (with_above pool.pairs s)) gone in
-    let kept_pool : first.pool ≡ pool = ap (λ (z : PartsState). z.pool) to ∙ pushed_all-pool start (with_above pool.pairs s) in
-    two ∙ ap (λ (z : PoolState). pushed_all first (with_above z.pairs t)) kept_pool
-    ∙ ap (λ z. pushed_all z (with_above pool.pairs t)) to
-    ∙ ap (λ z. pushed_all (pushed_all start (with_above pool.pairs s)) (with_above pool.pairs z)) (sym slot)
-    ∙ ap (λ b. pushed_all (pushed_all start (with_above pool.pairs s)) (cond b (with_above pool.pairs (slot_of pool.pairs (mate_of (address_at before.pool.pairs s)))) []))
-    (sym (lt-ltb 0 (mate_of (address_at before.pool.pairs s)) some))
+    let to : first ≡ pushed_all start (above_slots pool.pairs s) = one ∙ ap (λ z. pushed_all (record was { pool = pool }) (above_slots pool.pairs z)) same
+    ∙ ap (λ (z : PartsState). pushed_all (record z { pool = pool }) (above_slots pool.pairs s)) gone in
+    let kept_pool : first.pool ≡ pool = ap (λ (z : PartsState). z.pool) to ∙ pushed_all-pool start (above_slots pool.pairs s) in
+    let upper : second ≡ pushed_all (pushed_all start (above_slots pool.pairs s)) (above_slots pool.pairs t) =
+    two ∙ ap (λ (z : PoolState). pushed_all first (above_slots z.pairs t)) kept_pool ∙ ap (λ z. pushed_all z (above_slots pool.pairs t)) to in
+    let both : third ≡ pushed_all (pushed_all start (above_slots pool.pairs s)) (above_slots pool.pairs t ++ (t ∷ [])) =
+    three ∙ ap (λ z. pushed z t) upper ∙ sym (pushed_all-append (pushed_all start (above_slots pool.pairs s)) (above_slots pool.pairs t) (t ∷ [])) in
+    state ∙ ap (λ k. pushed third k) same ∙ ap (λ z. pushed z s) both
+    ∙ ap (λ z. pushed (pushed_all (pushed_all start (above_slots pool.pairs s)) (above_slots pool.pairs z ++ (z ∷ []))) s) (sym slot)
+    ∙ ap (λ b. pushed (pushed_all (pushed_all start (above_slots pool.pairs s)) (cond b (above_slots pool.pairs (slot_of pool.pairs m) ++ (slot_of pool.pairs m ∷ [])) [])) s)
+    (sym (lt-ltb 0 m some))
 
 -- the mate stays at its slot
 pub mate_kept : (before after : PoolState) (s t : ℕ) → IsPooled before after s → IsLive before.pairs s → 1 ≤ mate_of (address_at before.pairs s) →

@@ -1,8 +1,9 @@
 -- What a merge of a diamond does to the roles of slots.
-use Rattle.std.proofs.Common.{◌≡◌, ℕ, ◌+◌, ◌*◌, ◌/◌, ◌%◌, ◌<◌, ◌≤◌, ◌⊎◌, inl, inr, ◌&&◌, true, false, cond, nat_le, nat_lt, List, [], ◌∷◌, ◌++◌, Contains, refl, sym, ◌∙◌, ap, subst, arith, ⊎_elim}
+use Rattle.std.proofs.Common.{◌≡◌, ℕ, ◌+◌, ◌*◌, ◌/◌, ◌%◌, ◌<◌, ◌≤◌, ◌⊎◌, inl, inr, ◌&&◌, true, false, cond, nat_le, nat_lt, List, [], ◌∷◌, ◌++◌, refl, sym, ◌∙◌, ap, subst, arith, ⊎_elim}
 use Rattle.std.proofs.lemmas.Bool.{cases_lt, both_ways, false_from_ne_true, false≢true, lt-ltb, ltb-true, le-leb, and_from}
 use Rattle.mesh_defs.specs.Triangle.{level_of}
-use Rattle.mesh_defs.specs.ClosedSet.{among, leaves_of, IsClosed}
+use Rattle.mesh_defs.specs.ClosedSet.{among, IsClosed}
+use Rattle.frame_steps.specs.Deferred.{IsEntry}
 use Rattle.closure_laws.specs.Diamond.{IsInDiamond, CanMerge, IsWithoutDiamond}
 use Rattle.closure_laws.proofs.ClosureLemmas.{same_tests}
 use Rattle.closure_laws.proofs.ChangeLemmas.{merge_keeps_mergeable, merge_new_mergeable}
@@ -13,10 +14,10 @@ use Rattle.edge_laws.proofs.SlotLemmas.{set-has_children, has_children-set}
 use Rattle.triangle_pool.specs.Slots.{PoolState}
 use Rattle.roam_mesh.specs.Mesh.{slot_of, members_of}
 use Rattle.roam_mesh.specs.Parts.{is_leaf_at, is_ready, is_ready_at, is_entry_at}
-use Rattle.roam_mesh.specs.Change.{child_slots, diamond_slots, with_above, with_children}
+use Rattle.roam_mesh.specs.Change.{child_slots, diamond_slots, above_slots, with_above, with_children}
 use Rattle.roam_mesh.proofs.PlaceLemmas.{one_slot, address-slot_of}
-use Rattle.roam_mesh.proofs.RoleLemmas.{among-members, members_closed, leaf_parts, leaf_from, ready_from, ready_at_parts, ready_at_from, ready_live, entry_live, leaf_entry, ready_entry, leaf_at-of, ready_of-at, ready_at-of, entry_level, ready_mate, diamond_mate, mate_diamond, ready_turned}
-use Rattle.roam_mesh.proofs.ChainSlotLemmas.{diamond_cases, in_diamond, IsAbove, above_at, above_cases, in_above, own_above}
+use Rattle.roam_mesh.proofs.RoleLemmas.{among-members, members_closed, leaf_parts, leaf_from, ready_from, ready_at_parts, ready_at_from, ready_live, entry_live, leaf_entry, ready_entry, entry_cases, entry_at-of, ready_of-at, ready_at-of, entry_level, ready_mate, diamond_mate, mate_diamond, ready_turned}
+use Rattle.roam_mesh.proofs.ChainSlotLemmas.{diamond_cases, in_diamond, IsAbove, above_at, above_only, above_cases, in_above, own_above}
 use Rattle.roam_mesh.proofs.SlotListLemmas.{in_left, in_right, in_either, in_first, in_later, in_cases, in_choice, choice_in}
 use Rattle.roam_mesh.proofs.PoolChangeLemmas.{IsRepooled}
 use Rattle.roam_mesh.proofs.MergeAtLemmas.{IsOf, IsPooled, fresh_slots, kept_slot, of_whole, slot_merge}
@@ -390,28 +391,62 @@ module _ (before after : PoolState) (s : ℕ) (pooled : IsPooled before after s)
     same = λ r entry stays. (same_live r (entry_live before.pairs r entry) stays).1;
   }
 
-  -- and what is fresh is a new leaf, or can be merged and could not
-  pub merge_fresh : (r : ℕ) → among (fresh_slots after.pairs (mate_of top) s) r ≡ true →
-      ((is_leaf_at after.pairs r ≡ true) × (Contains (leaves_of before.n (among (members_of before))) (address_at after.pairs r) → ⊥))
-      ⊎ ((is_ready_at after.pairs r ≡ true) × (CanMerge before.n (among (members_of before)) (address_at after.pairs r) → ⊥))
+  -- and what is fresh is an entry
+  pub merge_fresh : (r : ℕ) → among (fresh_slots after.pairs (mate_of top) s) r ≡ true → is_entry_at after.pairs r ≡ true
   merge_fresh r h =
+      let is = later_cases r h in
+      ⊎_elim
+      (λ (own : IsOf top (address_at after.pairs r)). leaf_entry after.pairs r (leaf_from after.pairs r record { live = is.0; leaf = whole_of (address_at after.pairs r) own }))
+      (λ (up : IsUp after.pairs top r). ready_entry after.pairs r up.ready)
+      is.1
+
+  -- and was none, but for the triangles of the diamond
+  pub merge_new : (r : ℕ) → among (fresh_slots after.pairs (mate_of top) s) r ≡ true →
+      (r ≡ s) ⊎ (((1 ≤ mate_of top) × (r ≡ slot_of before.pairs (mate_of top))) ⊎ (IsEntry before.n (among (members_of before)) (address_at after.pairs r) → ⊥))
+  merge_new r h =
       let is = later_cases r h in
       let was = live_was r is.0 in
       ⊎_elim
-      (λ (own : IsOf top (address_at after.pairs r)). inl (
-        leaf_from after.pairs r record { live = is.0; leaf = whole_of (address_at after.pairs r) own },
-        λ leaf.
-            let at = leaf_at-of before (address_at after.pairs r) old leaf in
-            let whole : has_children before.pairs (address_at after.pairs r) ≡ false = ap (has_children before.pairs) (sym at.1) ∙ (leaf_parts before.pairs (slot_of before.pairs (address_at after.pairs r)) at.0).leaf in
-            both_ways (has_children before.pairs (address_at after.pairs r)) whole (two_of (address_at after.pairs r) own).split,
-      ))
-      (λ (up : IsUp after.pairs top r). inr (
-        up.ready,
-        λ can.
-            let at = ready_at-of before (address_at after.pairs r) old can in
-            not_up r (subst (λ z. is_ready_at before.pairs z ≡ true) (one_slot before.n before.pairs r (address_at after.pairs r) old is.0 (sym was.2)) at.0) up was.2,
-      ))
+      (λ (own : IsOf top (address_at after.pairs r)). ⊎_elim
+      (λ (same : address_at after.pairs r ≡ top). inl (old.once r s was.0 (sym was.2 ∙ same)))
+      (λ (mate : (1 ≤ mate_of top) × (address_at after.pairs r ≡ mate_of top)).
+      inr (inl (mate.0, sym (one_slot before.n before.pairs r (mate_of top) old (mate_of-low top low mate.0) (sym was.2 ∙ mate.1)))))
+      own)
+      (λ (up : IsUp after.pairs top r). inr (inr (λ entry.
+      let there = entry_at-of before (address_at after.pairs r) old entry in
+      let here : slot_of before.pairs (address_at after.pairs r) ≡ r = one_slot before.n before.pairs r (address_at after.pairs r) old is.0 (sym was.2) in
+      let split = (ready_at_parts after.pairs r up.ready).1.own.split in
+      let apart : IsOf top (address_at after.pairs r) → ⊥ = λ own. both_ways (has_children after.pairs (address_at after.pairs r)) (whole_of (address_at after.pairs r) own) split in
+      ⊎_elim
+      (λ leaf.
+      let whole : has_children before.pairs (address_at after.pairs r) ≡ false =
+      ap (has_children before.pairs) (sym there.1) ∙ (leaf_parts before.pairs (slot_of before.pairs (address_at after.pairs r)) leaf).leaf in
+      both_ways (has_children before.pairs (address_at after.pairs r)) whole (sym (children_kept (address_at after.pairs r) is.0 apart) ∙ split))
+      (λ diamond. not_up r (subst (λ z. is_ready_at before.pairs z ≡ true) here diamond.1) up was.2)
+      (entry_cases before.pairs (slot_of before.pairs (address_at after.pairs r)) there.0))))
       is.1
+
+  -- the triangles of the diamond were entries, and stand where they stood
+  pub own_stays : (is_entry_at before.pairs s ≡ true) × (address_at after.pairs s ≡ address_at before.pairs s)
+  own_stays = (ready_entry before.pairs s ready, top_kept)
+
+  pub mate_stays : 1 ≤ mate_of top → (is_entry_at before.pairs (slot_of before.pairs (mate_of top)) ≡ true)
+      × (address_at after.pairs (slot_of before.pairs (mate_of top)) ≡ address_at before.pairs (slot_of before.pairs (mate_of top)))
+      × (slot_of after.pairs (mate_of top) ≡ slot_of before.pairs (mate_of top))
+  mate_stays some =
+      let place = mate_place some in
+      let live : IsLive before.pairs (slot_of before.pairs (mate_of top)) = subst (λ z. 2 ≤ z) (sym place) (mate_of-low top low some) in
+      let same = kept_slot before.pairs after.pairs top (slot_of before.pairs (mate_of top)) pooled.merge low live (inr (some, place)) in (
+        ready_entry before.pairs (slot_of before.pairs (mate_of top)) (ready_mate before.n before.pairs s old ready some).0,
+        same,
+        one_slot after.n after.pairs (slot_of before.pairs (mate_of top)) (mate_of top) pooled.valid (mate_of-low top low some) (same ∙ place),
+      )
+
+  -- no slot above one of them is one of them: those are leaves now
+  pub above_apart : (t r : ℕ) → IsLive after.pairs r → IsOf top (address_at after.pairs r) → among (above_slots after.pairs t) r ≡ false
+  above_apart t r live own = false_from_ne_true (among (above_slots after.pairs t) r) (λ h.
+      let up = above_up after.n after.pairs (address_at after.pairs t) t r pooled.valid (inl refl) (above_only after.n after.pairs pooled.valid t r h) in
+      both_ways (has_children after.pairs (address_at after.pairs r)) (whole_of (address_at after.pairs r) own) (ready_at_parts after.pairs r up.ready).1.own.split)
 
   -- a slot that is fresh is live
   pub later_live : (r : ℕ) → among (fresh_slots after.pairs (mate_of top) s) r ≡ true → IsLive after.pairs r

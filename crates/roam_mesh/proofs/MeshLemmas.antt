@@ -1,5 +1,5 @@
 -- A mesh between frames, by the parts that it is made of.
-use Rattle.std.proofs.Common.{◌≡◌, ℕ, ◌+◌, ◌≤◌, ◌<◌, ◌&&◌, Bool, true, false, cond, not, nat_eq, nat_lt, List, [], map, reverse, length, get_or, get_or-set_same, get_or-set_other, Option, None, Some, option_map, slice_index, slice_index_or, slice_set, refl, sym, ◌∙◌, ap, subst, arith, ⊎_elim}
+use Rattle.std.proofs.Common.{◌≡◌, ℕ, ◌+◌, ◌≤◌, ◌^◌, ◌<◌, ◌&&◌, Bool, true, false, cond, not, nat_eq, nat_lt, List, [], map, reverse, length, get_or, get_or-set_same, get_or-set_other, Option, None, Some, option_map, slice_index, slice_index_or, slice_set, refl, sym, ◌∙◌, ap, subst, arith, ⊎_elim}
 use Rattle.std.proofs.lemmas.Bool.{cases_eq, eq-eqb, ne_eqb, and_parts, ltb-true, false_from_ne_true, true_from_ne_false}
 use Rattle.std.proofs.Math.ListN.{get_or-map}
 use Rattle.std.proofs.lemmas.Option.{none-some}
@@ -96,6 +96,10 @@ expired_parts parts s whole live is =
     let test : ℕ → Bool = λ r. is_entry_at pairs r && not (among parts.fresh r) in
     record {
       pool = is.pool;
+      near = λ r. (
+        subst (λ z. z ≤ 2 ^ 62) (sym (expired_read (λ e. e.odometer) (λ e. refl) parts s r below)) (is.near r).0,
+        subst (λ z. z ≤ 2 ^ 32) (sym (expired_read (λ e. e.slack) (λ e. refl) parts s r below)) (is.near r).1,
+      );
       placed = record {
         split = λ r. is.placed.split r
             ∙ ap (λ p. cond (is_leaf_at pairs r && not (among parts.fresh r)) (Some (record { p = p; tri = address_at pairs r })) None)

@@ -10,7 +10,7 @@ use Rattle.edge_laws.specs.Slots.{address_at, has_children, split_set, room_of, 
 use Rattle.edge_laws.proofs.SlotLemmas.{pair_of}
 use Rattle.merge_queue.specs.Chief.{chief_of}
 use Rattle.triangle_pool.specs.Slots.{PoolState}
-use Rattle.roam_mesh.specs.Parts.{PartsState, blank, entry_at, is_leaf_at, is_bare, is_ready, is_ready_at, is_chief_at, is_entry_at, is_out, leaf_rank, diamond_rank, IsSlotList, IsWhole, IsParts}
+use Rattle.roam_mesh.specs.Parts.{PartsState, blank, entry_at, is_leaf_at, is_bare, is_ready, is_ready_at, is_chief_at, is_entry_at, is_out, leaf_rank, diamond_rank, IsSlotList, IsWhole, IsNear, IsParts}
 use Rattle.roam_mesh.specs.Base.{AreEmpty}
 use Rattle.roam_mesh.specs.declared.entry.Entry.{Entry}
 use Rattle.roam_mesh.proofs.PoolChangeLemmas.{pairs_counted}
@@ -84,6 +84,7 @@ pub base_parts : (parts : PartsState) → IsPool parts.pool.n parts.pool.pairs �
     parts.fresh ≡ [] → IsParts parts
 base_parts parts pool base entries split merge due none = record {
   pool = pool;
+  near = λ r. subst IsNear (sym (entries r)) (omega arith, omega arith);
   placed = record {
     split = λ r. split r ∙ ap (λ b. cond b (Some (leaf_rank parts r)) None) (sym (role (is_leaf_at parts.pool.pairs r) (nat_lt r 2) r (base_leaf parts.pool.pairs base r)));
     merge = λ r. merge r ∙ ap (λ b. cond b (Some (diamond_rank parts (address_at parts.pool.pairs r))) None)

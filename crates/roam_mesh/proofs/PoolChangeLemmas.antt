@@ -1,15 +1,16 @@
 -- A change of the pool: entries leave, the pool is another one, and slots are fresh. What holds then of the sizes, of the places, and of what the loop sees.
-use Rattle.std.proofs.Common.{◌≡◌, ℕ, zero, suc, ◌≤◌, ◌&&◌, Bool, true, false, not, cond, nat_eq, List, Option, None, Some, refl, sym, ◌∙◌, ap, subst, arith, ⊎_elim, ◌+◌, ◌*◌, length, slice_index, ◌||◌, [], ◌⊎◌, inl, inr, IsTrue, Contains}
-use Rattle.std.proofs.lemmas.Bool.{true≢false, both_ways, and_parts, and_from, not_from_false, false_from_ne_true, cond-true, cond-false, not-true}
+use Rattle.std.proofs.Common.{◌≡◌, ℕ, zero, suc, ◌≤◌, ◌&&◌, Bool, true, false, not, cond, nat_eq, List, Option, None, Some, refl, sym, ◌∙◌, ap, subst, arith, ⊎_elim, ◌+◌, ◌*◌, length, slice_index, ◌||◌, [], IsTrue}
+use Rattle.std.specs.List.{IsDistinct}
+use Rattle.std.proofs.lemmas.Bool.{true≢false, both_ways, and_parts, and_from, not_from_false, false_from_ne_true, cond-true, cond-false, cond_both, not-true}
 use Rattle.edge_laws.specs.Edge.{mate_of}
 use Rattle.edge_laws.specs.Slots.{address_at, IsPool, room_of, split_set}
 use Rattle.merge_queue.specs.Chief.{chief_of}
 use Rattle.triangle_pool.specs.Slots.{PoolState}
 use Rattle.bintree_addr.specs.declared.rank.Rank.{Rank}
 use Rattle.roam_mesh.specs.Mesh.{slot_of, members_of}
-use Rattle.roam_mesh.specs.Parts.{PartsState, entry_at, worst_of, is_leaf_at, is_ready_at, is_chief_at, is_entry_at, is_out, leaf_rank, better_of, diamond_rank, deadline_of, IsPlaced, IsWhole, seen_parts, stamp_in}
+use Rattle.roam_mesh.specs.Parts.{PartsState, entry_at, worst_of, is_leaf_at, is_ready_at, is_chief_at, is_entry_at, is_out, leaf_rank, better_of, diamond_rank, deadline_of, IsPlaced, IsWhole, seen_parts, stamp_in, IsNear}
 use Rattle.roam_mesh.proofs.PlaceLemmas.{slot_of-at, one_slot}
-use Rattle.roam_mesh.proofs.RoleLemmas.{leaf_entry, ready_entry, entry_cases, ready_live, ready_mate, entry_live, leaf_of-at, leaf_at-of, ready_of-at, ready_at-of, IsChiefIn, chief_in, in_chief}
+use Rattle.roam_mesh.proofs.RoleLemmas.{leaf_entry, ready_entry, entry_cases, ready_live, ready_mate, entry_live, entry_of-at, entry_at-of, IsChiefIn, chief_in, in_chief}
 use Rattle.roam_mesh.proofs.TestLemmas.{by_bool, same_cond}
 use Rattle.edge_laws.proofs.SlotLemmas.{leaves_count}
 use Rattle.mesh_defs.specs.ClosedSet.{leaves_of, among}
@@ -17,7 +18,7 @@ use Rattle.roam_mesh.specs.declared.entry.Entry.{Entry}
 use Rattle.roam_mesh.specs.Change.{gone_entry}
 use Rattle.roam_mesh.proofs.PlacedLemmas.{HasLeft, placed_same}
 use Rattle.roam_mesh.proofs.FreshLemmas.{HasPushed}
-use Rattle.closure_laws.specs.Diamond.{CanMerge}
+use Rattle.frame_steps.specs.Deferred.{IsEntry}
 use Rattle.deferred_loop.specs.Seen.{IsSame, IsNewEntry, IsRenewed}
 use Rattle.roam_mesh.proofs.SlotListLemmas.{seen_in, in_seen, seen_distinct}
 
@@ -242,7 +243,7 @@ module _ (before middle after : PartsState) (gone slots : List ℕ) (is : HasMov
 
 -- ---- what the loop sees
 
--- The pool is another one, the entries that are gone are marked so, and each fresh slot has an entry that was none.
+-- The pool is another one, the entries that are gone are marked so, and each fresh slot has an entry.
 pub record IsChanged (before after : PartsState) (gone : List ℕ) : Type 0 where
   pub old : IsPool before.pool.n before.pool.pairs
   pub new : IsPool after.pool.n after.pool.pairs
@@ -251,18 +252,9 @@ pub record IsChanged (before after : PartsState) (gone : List ℕ) : Type 0 wher
   pub entries : (r : ℕ) → entry_at after r ≡ record (cond (among gone r) (gone_entry (entry_at before r)) (entry_at before r)) { fresh = among after.fresh r }
   pub known : (r : ℕ) → (entry_at before r).known ≡ true → is_entry_at before.pool.pairs r ≡ true
   pub repooled : IsRepooled before.pool after.pool (among gone) (among after.fresh)
-  pub fresh : (r : ℕ) → among after.fresh r ≡ true →
-      ((is_leaf_at after.pool.pairs r ≡ true) × (Contains (leaves_of before.pool.n (among (members_of before.pool))) (address_at after.pool.pairs r) → ⊥))
-      ⊎ ((is_ready_at after.pool.pairs r ≡ true) × (CanMerge before.pool.n (among (members_of before.pool)) (address_at after.pool.pairs r) → ⊥))
+  pub fresh : (r : ℕ) → among after.fresh r ≡ true → is_entry_at after.pool.pairs r ≡ true
 
 module _ (before after : PartsState) (gone : List ℕ) (is : IsChanged before after gone) where
-  -- a fresh slot has an entry
-  pub fresh_entry : (r : ℕ) → among after.fresh r ≡ true → is_entry_at after.pool.pairs r ≡ true
-  fresh_entry r h = ⊎_elim
-      (λ leaf. leaf_entry after.pool.pairs r leaf.0)
-      (λ ready. ready_entry after.pool.pairs r ready.0)
-      (is.fresh r h)
-
   -- an entry that is not gone is as it was
   entry_same : (r : ℕ) → among gone r ≡ false → entry_at after r ≡ record (entry_at before r) { fresh = among after.fresh r }
   entry_same r stays =
@@ -288,81 +280,105 @@ module _ (before after : PartsState) (gone : List ℕ) (is : IsChanged before af
       let was = known_was r known in
       both_ways (among after.fresh r) (entry_stays r (is.known r was.1) was.0) fresh)
 
-  -- an entry that stays looks the same
-  same_seen : (a r : ℕ) → slot_of after.pool.pairs a ≡ r → slot_of before.pool.pairs a ≡ r → among gone r ≡ false → IsSame (seen_parts before) (seen_parts after) a
-  same_seen a r there was stays =
-      let same : entry_at after (slot_of after.pool.pairs a) ≡ record (entry_at before (slot_of before.pool.pairs a)) { fresh = among after.fresh r } =
-      ap (entry_at after) there ∙ entry_same r stays
-      ∙ ap (λ t. let e : Entry = record (entry_at before t) { fresh = among after.fresh r } in e) (sym was) in
-      record {
-        known = ap (λ (e : Entry). e.known) same;
-        exact = ap (λ (e : Entry). e.exact) same;
-        stamp = ap (λ (e : Entry). stamp_in e) same;
-      }
+  -- what is kept of it has the listed mark that it had
+  pub listed_same : (r : ℕ) → (entry_at after r).listed ≡ (entry_at before r).listed
+  listed_same r = ap (λ (e : Entry). e.listed) (is.entries r)
+      ∙ cond_both (among gone r) (gone_entry (entry_at before r)) (entry_at before r) (λ (e : Entry). e.listed ≡ (entry_at before r).listed) (λ _. refl) (λ _. refl)
 
-  -- what is not seen as fresh is not fresh
-  not_seen : (a r : ℕ) → address_at after.pool.pairs r ≡ a → among (seen_parts after).fresh a ≡ false → among after.fresh r ≡ false
-  not_seen a r at none = false_from_ne_true (among after.fresh r) (λ fresh.
-      both_ways (among (seen_parts after).fresh a) none
-      (subst (λ z. among (seen_parts after).fresh z ≡ true) at (seen_in after.pool.pairs after.fresh r fresh)))
+-- what is kept is near still
+pub near_moved : (before after : PartsState) (gone : List ℕ) →
+    ((r : ℕ) → entry_at after r ≡ record (cond (among gone r) (gone_entry (entry_at before r)) (entry_at before r)) { fresh = among after.fresh r }) →
+    ((r : ℕ) → IsNear (entry_at before r)) → (r : ℕ) → IsNear (entry_at after r)
+near_moved before after gone entries near r =
+    subst IsNear (sym (entries r)) (cond_both (among gone r) (gone_entry (entry_at before r)) (entry_at before r) IsNear (λ _. near r) (λ _. near r))
 
-  renewed_leaf : (a : ℕ) → Contains (leaves_of after.pool.n (among (members_of after.pool))) a → among (seen_parts after).fresh a ≡ false →
-      Contains (leaves_of after.pool.n (among (members_of before.pool))) a × IsSame (seen_parts before) (seen_parts after) a
-  renewed_leaf a leaf none =
-      let at = leaf_at-of after.pool a is.new leaf in
-      let r : ℕ = slot_of after.pool.pairs a in
-      let was = is.repooled.leaf r at.0 (not_seen a r at.1 none) in
-      let entry = leaf_entry before.pool.pairs r was.0 in
-      let there : address_at before.pool.pairs r ≡ a = sym (is.repooled.same r entry was.1) ∙ at.1 in
-      let low : 2 ≤ a = subst (λ z. 2 ≤ z) there (entry_live before.pool.pairs r entry) in
-      let old_leaf = leaf_of-at before.pool r is.old was.0 in
-      let own : Contains (leaves_of before.pool.n (among (members_of before.pool))) a = subst (λ z. Contains (leaves_of before.pool.n (among (members_of before.pool))) z) there old_leaf in (
-        subst (λ z. Contains (leaves_of z (among (members_of before.pool))) a) (sym is.n) own,
-        same_seen a r refl (one_slot before.pool.n before.pool.pairs r a is.old low there) was.1,
+-- The pool changed, and then some slots, of entries before and after, had back what was kept of them. What is fresh in the end is an entry
+-- and was none.
+pub record IsKept (before changed after : PartsState) (gone : List ℕ) (kept : ℕ → Bool) : Type 0 where
+  pub change : IsChanged before changed gone
+  pub pool : after.pool ≡ changed.pool
+  pub distinct : IsDistinct nat_eq after.fresh
+  pub others : (r : ℕ) → kept r ≡ false → (entry_at after r ≡ entry_at changed r) × (among after.fresh r ≡ among changed.fresh r)
+  pub own : (r : ℕ) → kept r ≡ true → (entry_at after r ≡ entry_at before r) × (among after.fresh r ≡ false)
+  pub entry : (r : ℕ) → kept r ≡ true → (is_entry_at before.pool.pairs r ≡ true) × (address_at changed.pool.pairs r ≡ address_at before.pool.pairs r)
+  pub new : (r : ℕ) → kept r ≡ false → among changed.fresh r ≡ true → IsEntry before.pool.n (among (members_of before.pool)) (address_at changed.pool.pairs r) → ⊥
+
+-- an entry with another mark
+abbrev with_mark : Entry → Bool → Entry
+with_mark e b = record e { fresh = b }
+
+module _ (before changed after : PartsState) (gone : List ℕ) (kept : ℕ → Bool) (is : IsKept before changed after gone kept) where
+  -- the same with the pool that is equal to its
+  abbrev there : PartsState
+  there = record after { pool = changed.pool }
+
+  -- a fresh slot was fresh after the change, and had nothing back
+  fresh_was : (r : ℕ) → among after.fresh r ≡ true → (kept r ≡ false) × (among changed.fresh r ≡ true)
+  fresh_was r fresh = by_bool (kept r)
+      (λ own. absurd (both_ways (among after.fresh r) (is.own r own).1 fresh))
+      (λ other. (other, sym (is.others r other).1 ∙ fresh))
+
+  -- an entry that stood at this slot and is kept there is as it was
+  as_before : (a r : ℕ) (b : Bool) → slot_of changed.pool.pairs a ≡ r → is_entry_at before.pool.pairs r ≡ true → address_at before.pool.pairs r ≡ a →
+      entry_at after r ≡ with_mark (entry_at before r) b → IsEntry changed.pool.n (among (members_of before.pool)) a × IsSame (seen_parts before) (seen_parts there) a
+  as_before a r b here entry at same =
+      let low : 2 ≤ a = subst (λ z. 2 ≤ z) at (entry_live before.pool.pairs r entry) in
+      let was : slot_of before.pool.pairs a ≡ r = one_slot before.pool.n before.pool.pairs r a is.change.old low at in
+      let own : IsEntry before.pool.n (among (members_of before.pool)) a = subst (λ z. IsEntry before.pool.n (among (members_of before.pool)) z) at (entry_of-at before.pool r is.change.old entry) in
+      let same_entry : entry_at after (slot_of changed.pool.pairs a) ≡ with_mark (entry_at before (slot_of before.pool.pairs a)) b =
+      ap (entry_at after) here ∙ same ∙ ap (λ t. with_mark (entry_at before t) b) (sym was) in (
+        subst (λ z. IsEntry z (among (members_of before.pool)) a) (sym is.change.n) own,
+        record {
+          known = ap (λ (e : Entry). e.known) same_entry;
+          exact = ap (λ (e : Entry). e.exact) same_entry;
+          stamp = ap (λ (e : Entry). stamp_in e) same_entry;
+        },
       )
 
-  renewed_member : (a : ℕ) → CanMerge after.pool.n (among (members_of after.pool)) a → among (seen_parts after).fresh a ≡ false →
-      CanMerge after.pool.n (among (members_of before.pool)) a × IsSame (seen_parts before) (seen_parts after) a
-  renewed_member a can none =
-      let at = ready_at-of after.pool a is.new can in
-      let r : ℕ = slot_of after.pool.pairs a in
-      let was = is.repooled.ready r at.0 (not_seen a r at.1 none) in
-      let entry = ready_entry before.pool.pairs r was.0 in
-      let there : address_at before.pool.pairs r ≡ a = sym (is.repooled.same r entry was.1) ∙ at.1 in
-      let low : 2 ≤ a = subst (λ z. 2 ≤ z) there (entry_live before.pool.pairs r entry) in
-      let old_can = ready_of-at before.pool r is.old was.0 in
-      let own : CanMerge before.pool.n (among (members_of before.pool)) a = subst (λ z. CanMerge before.pool.n (among (members_of before.pool)) z) there old_can in (
-        subst (λ z. CanMerge z (among (members_of before.pool)) a) (sym is.n) own,
-        same_seen a r refl (one_slot before.pool.n before.pool.pairs r a is.old low there) was.1,
+  -- an entry that is not fresh was one, and is as it was
+  kept_seen : (a : ℕ) → IsEntry changed.pool.n (among (members_of changed.pool)) a → among (seen_parts there).fresh a ≡ false →
+      IsEntry changed.pool.n (among (members_of before.pool)) a × IsSame (seen_parts before) (seen_parts there) a
+  kept_seen a entry none =
+      let at = entry_at-of changed.pool a is.change.new entry in
+      let r : ℕ = slot_of changed.pool.pairs a in
+      let out : among after.fresh r ≡ false = false_from_ne_true (among after.fresh r) (λ fresh.
+      both_ways (among (seen_parts there).fresh a) none (subst (λ z. among (seen_parts there).fresh z ≡ true) at.1 (seen_in changed.pool.pairs after.fresh r fresh))) in
+      by_bool (kept r)
+      (λ own.
+      let was = is.entry r own in
+      as_before a r (entry_at before r).fresh refl was.0 (sym was.1 ∙ at.1) (is.own r own).0)
+      (λ other.
+      let rest = is.others r other in
+      let was = entry_was before changed.pool (among gone) (among changed.fresh) is.change.old is.change.new is.change.repooled r at.0 (sym rest.1 ∙ out) in
+      as_before a r (among changed.fresh r) refl was.0 (sym (is.change.repooled.same r was.0 was.1) ∙ at.1) (rest.0 ∙ entry_same before changed gone is.change r was.1))
+
+  -- what is fresh is an entry and was none, and is not known
+  fresh_seen : (a : ℕ) → IsTrue (among (seen_parts there).fresh a) →
+      IsNewEntry changed.pool.n (among (members_of before.pool)) (among (members_of changed.pool)) a × ((entry_at after (slot_of changed.pool.pairs a)).known ≡ false)
+  fresh_seen a h =
+      let found = in_seen changed.pool.pairs after.fresh a h in
+      let r : ℕ = found.0 in
+      let was = fresh_was r found.1 in
+      let entry = is.change.fresh r was.1 in
+      let low : 2 ≤ a = subst (λ z. 2 ≤ z) found.2 (entry_live changed.pool.pairs r entry) in
+      let here = one_slot changed.pool.n changed.pool.pairs r a is.change.new low found.2 in (
+        (
+          subst (λ z. IsEntry changed.pool.n (among (members_of changed.pool)) z) found.2 (entry_of-at changed.pool r is.change.new entry),
+          λ old. is.new r was.0 was.1 (subst (λ z. IsEntry before.pool.n (among (members_of before.pool)) z) (sym found.2)
+              (subst (λ z. IsEntry z (among (members_of before.pool)) a) is.change.n old)),
+        ),
+        ap (λ t. (entry_at after t).known) here ∙ ap (λ (e : Entry). e.known) (is.others r was.0).0 ∙ fresh_unknown before changed gone is.change r was.1,
       )
 
-  renewed_each : (a : ℕ) → IsTrue (among (seen_parts after).fresh a) → IsNewEntry after.pool.n (among (members_of before.pool)) (among (members_of after.pool)) a
-  renewed_each a h =
-      let found = in_seen after.pool.pairs after.fresh a h in
-      subst (λ z. IsNewEntry after.pool.n (among (members_of before.pool)) (among (members_of after.pool)) z) found.2 (⊎_elim
-      (λ leaf. inl (
-        leaf_of-at after.pool found.0 is.new leaf.0,
-        λ was. leaf.1 (subst (λ z. Contains (leaves_of z (among (members_of before.pool))) (address_at after.pool.pairs found.0)) is.n was),
-      ))
-      (λ ready. inr (
-        ready_of-at after.pool found.0 is.new ready.0,
-        λ was. ready.1 (subst (λ z. CanMerge z (among (members_of before.pool)) (address_at after.pool.pairs found.0)) is.n was),
-      ))
-      (is.fresh found.0 found.1))
-
-  renewed_unknown : (a : ℕ) → IsTrue (among (seen_parts after).fresh a) → (entry_at after (slot_of after.pool.pairs a)).known ≡ false
-  renewed_unknown a h =
-      let found = in_seen after.pool.pairs after.fresh a h in
-      let live : 2 ≤ address_at after.pool.pairs found.0 = entry_live after.pool.pairs found.0 (fresh_entry found.0 found.1) in
-      let there = one_slot after.pool.n after.pool.pairs found.0 a is.new (subst (λ z. 2 ≤ z) found.2 live) found.2 in
-      ap (λ t. (entry_at after t).known) there ∙ fresh_unknown found.0 found.1
+  renewed_there : IsRenewed (seen_parts before) (seen_parts there)
+  renewed_there = record {
+    distinct = seen_distinct changed.pool.n changed.pool.pairs after.fresh is.change.new is.distinct
+        (λ r h. entry_live changed.pool.pairs r (is.change.fresh r (fresh_was r h).1));
+    each = λ a h. (fresh_seen a h).0;
+    unknown = λ a h. (fresh_seen a h).1;
+    kept = kept_seen;
+  }
 
   -- so the fresh entries are new ones, and all others are as they were
-  pub changed_renewed : IsRenewed (seen_parts before) (seen_parts after)
-  changed_renewed = record {
-    distinct = seen_distinct after.pool.n after.pool.pairs after.fresh is.new is.whole.fresh.distinct (λ r h. entry_live after.pool.pairs r (fresh_entry r h));
-    each = renewed_each;
-    unknown = renewed_unknown;
-    leaf = renewed_leaf;
-    member = renewed_member;
-  }
+  pub kept_renewed : IsRenewed (seen_parts before) (seen_parts after)
+  kept_renewed = subst (λ (z : PoolState). IsRenewed (seen_parts before) (seen_parts (record after { pool = z }))) (sym is.pool) renewed_there

@@ -1,5 +1,5 @@
 -- What a priority that is told, or forgotten again, changes.
-use Rattle.std.proofs.Common.{◌≡◌, ◌≢◌, ℕ, ◌+◌, ◌*◌, ◌<◌, ◌≤◌, ◌&&◌, not, Bool, true, false, cond, nat_eq, nat_lt, List, [], ◌∷◌, ◌++◌, length, map, take, reverse, Option, Some, None, slice_index_or, slice_set, refl, sym, ◌∙◌, ap, ap₂, subst, arith, ⊎_elim}
+use Rattle.std.proofs.Common.{◌≡◌, ◌≢◌, ℕ, ◌+◌, ◌*◌, ◌^◌, ◌<◌, ◌≤◌, ◌&&◌, not, Bool, true, false, cond, nat_eq, nat_lt, List, [], ◌∷◌, ◌++◌, length, map, take, reverse, Option, Some, None, slice_index_or, slice_set, refl, sym, ◌∙◌, ap, ap₂, subst, arith, ⊎_elim}
 use Rattle.std.specs.List.{IsDistinct}
 use Rattle.std.proofs.lemmas.Bool.{cases_lt, both_ways, cond-true, cond-false, and_parts, and_right, and_from, or_from, or_left, or_right, not_from_false, eqb-true, eqb-false, eq-eqb}
 use Rattle.std.proofs.lemmas.Cmp.{nat_eq_equiv}
@@ -15,14 +15,14 @@ use Rattle.merge_queue.specs.Chief.{chief_of}
 use Rattle.deferred_loop.specs.Seen.{IsTold, IsForgotten}
 use Rattle.frame_steps.specs.Deferred.{IsEntry}
 use Rattle.roam_mesh.specs.Mesh.{slot_of, members_of, pool_set}
-use Rattle.roam_mesh.specs.Parts.{PartsState, parts_of, blank, stamp_in, best_of, worst_of, deadline_of, entry_at, entry_of, seen_parts, is_leaf_at, is_ready_at, is_chief_at, is_entry_at, is_out, leaf_rank, better_of, diamond_rank, IsSlotList, IsWhole, IsPlaced, IsParts}
+use Rattle.roam_mesh.specs.Parts.{PartsState, parts_of, blank, stamp_in, best_of, worst_of, deadline_of, entry_at, entry_of, seen_parts, is_leaf_at, is_ready_at, is_chief_at, is_entry_at, is_out, leaf_rank, better_of, diamond_rank, IsSlotList, IsWhole, IsPlaced, IsNear, IsParts}
 use Rattle.roam_mesh.specs.Change.{chief_slot, rekeyed, heard, told, unheard, forgotten}
 use Rattle.roam_mesh.specs.declared.entry.Entry.{Entry}
 use Rattle.roam_mesh.proofs.PlaceLemmas.{live_below, slot_of-at, one_slot, entry_at-set, entry_of-set}
 use Rattle.roam_mesh.proofs.RoleLemmas.{entry_live, entry_at-of, ready_live, entry_cases, ready_mate, chief_ready}
 use Rattle.roam_mesh.proofs.KeyLemmas.{diamond_alone, diamond_two}
 use Rattle.roam_mesh.proofs.SlotListLemmas.{any-among, among-push, listed_below, numbers_push, distinct_front, among_last}
-use Rattle.roam_mesh.proofs.PlacedLemmas.{placed_same, leaf_apart, chief_apart, entry_other, marks_kept, rekeyed_as}
+use Rattle.roam_mesh.proofs.PlacedLemmas.{entry_below, placed_same, leaf_apart, chief_apart, entry_other, marks_kept, rekeyed_as}
 use Rattle.roam_mesh.proofs.TestLemmas.{by_bool, cond_same, or_none}
 
 -- a key that is set
@@ -255,6 +255,12 @@ told_placed parts out s p whole pool entry none placed = renewed_placed parts ou
 pub told_parts : (parts : PartsState) (s p : ℕ) → IsWhole parts → IsParts parts → parts.fresh ≡ [] → is_entry_at parts.pool.pairs s ≡ true → IsParts (told parts s p)
 told_parts parts s p whole is none entry = record {
   pool = is.pool;
+  near = λ r.
+      let e : Entry = heard (entry_at parts s) p in
+      let below = entry_below parts s whole entry in
+      let odometer = field_kept (λ (z : Entry). z.odometer) parts s e (asked_with parts s) below refl r in
+      let slack = field_kept (λ (z : Entry). z.slack) parts s e (asked_with parts s) below refl r in
+      (subst (λ z. z ≤ 2 ^ 62) odometer (is.near r).0, subst (λ z. z ≤ 2 ^ 32) slack (is.near r).1);
   placed = told_placed parts (among parts.fresh) s p whole is.pool entry (λ q. ap (λ l. among l q) none) is.placed;
   entries = is.entries;
 }
@@ -291,6 +297,7 @@ pub record HasForgotten (before after : PartsState) : Type 0 where
   pub pool : after.pool ≡ before.pool
   pub fresh : after.fresh ≡ before.fresh
   pub stamp : (r : ℕ) → stamp_in (entry_at after r) ≡ stamp_in (entry_at before r)
+  pub near : (r : ℕ) → IsNear (entry_at after r)
   pub placed : IsPlaced after (λ r. false)
 
 -- nothing was forgotten yet
@@ -299,6 +306,7 @@ forgotten_start parts is none = record {
   pool = refl;
   fresh = refl;
   stamp = λ r. refl;
+  near = is.near;
   placed = placed_same parts (among parts.fresh) (λ r. false) (λ r. sym (ap (λ l. among l r) none)) is.placed;
 }
 
@@ -308,19 +316,21 @@ forgotten_parts before after is none kept =
     let empty : after.fresh ≡ [] = kept.fresh ∙ none in
     record {
       pool = subst (λ (z : PoolState). IsPool z.n z.pairs) (sym kept.pool) is.pool;
+      near = kept.near;
       placed = placed_same after (λ r. false) (among after.fresh) (λ r. ap (λ l. among l r) empty) kept.placed;
       entries = λ s there. absurd (both_ways (among after.fresh s) (ap (λ l. among l s) empty) there);
     }
 
 -- the last slot that was asked is forgotten
-pub forgotten_has : (parts : PartsState) (rest : List ℕ) (s : ℕ) → IsWhole parts → IsPool parts.pool.n parts.pool.pairs → IsPlaced parts (λ r. false) → parts.asked ≡ rest ++ (s ∷ []) →
-    HasForgotten parts (forgotten parts rest s) × ((forgotten parts rest s).asked ≡ rest)
-forgotten_has parts rest s whole pool placed asked = by_bool (entry_at parts s).known
+pub forgotten_has : (parts : PartsState) (rest : List ℕ) (s : ℕ) → IsWhole parts → IsPool parts.pool.n parts.pool.pairs → IsPlaced parts (λ r. false) → ((r : ℕ) → IsNear (entry_at parts r)) →
+    parts.asked ≡ rest ++ (s ∷ []) → HasForgotten parts (forgotten parts rest s) × ((forgotten parts rest s).asked ≡ rest)
+forgotten_has parts rest s whole pool placed near asked = by_bool (entry_at parts s).known
     (λ known. subst (λ (z : PartsState). HasForgotten parts z × (z.asked ≡ rest)) (sym (cond-true (entry_at parts s).known (rekeyed now s) now known)) (
       record {
         pool = refl;
         fresh = refl;
         stamp = λ r. sym (field_kept stamp_in parts s (unheard (entry_at parts s)) rest below refl r);
+        near = near_still;
         placed = renewed_placed parts (λ r. false) s (unheard (entry_at parts s)) rest whole pool (placed.known s known) (λ q. refl) refl placed;
       },
       refl,
@@ -330,6 +340,7 @@ forgotten_has parts rest s whole pool placed asked = by_bool (entry_at parts s).
         pool = refl;
         fresh = refl;
         stamp = λ r. sym (field_kept stamp_in parts s (unheard (entry_at parts s)) rest below refl r);
+        near = near_still;
         placed = kept_placed parts (λ r. false) s (unheard (entry_at parts s)) rest below
             (ap (λ b. cond b (entry_at parts s).exact (cond (entry_at parts s).stamped (entry_at parts s).upper 0)) (sym unknown))
             (ap (λ b. cond b (entry_at parts s).exact (cond (entry_at parts s).stamped (entry_at parts s).lower 0)) (sym unknown))
@@ -344,12 +355,19 @@ forgotten_has parts rest s whole pool placed asked = by_bool (entry_at parts s).
     now : PartsState
     now = changed parts s (unheard (entry_at parts s)) rest
 
+    near_still : (r : ℕ) → IsNear (entry_at now r)
+    near_still r =
+        let odometer = field_kept (λ (z : Entry). z.odometer) parts s (unheard (entry_at parts s)) rest below refl r in
+        let slack = field_kept (λ (z : Entry). z.slack) parts s (unheard (entry_at parts s)) rest below refl r in
+        (subst (λ z. z ≤ 2 ^ 62) odometer (near r).0, subst (λ z. z ≤ 2 ^ 32) slack (near r).1)
+
 -- one after the other
 pub forgotten_then : (first second third : PartsState) → HasForgotten first second → HasForgotten second third → HasForgotten first third
 forgotten_then first second third one two = record {
   pool = two.pool ∙ one.pool;
   fresh = two.fresh ∙ one.fresh;
   stamp = λ r. two.stamp r ∙ one.stamp r;
+  near = two.near;
   placed = two.placed;
 }
 

@@ -1,7 +1,7 @@
 -- What each call does to the parts of a mesh, as functions.
 -- All of it is this project's own.
--- Words: chief_slot, diamond_slots, child_slots, with_above, with_mate, with_chain, gone_entry, taken_out, left, left_all, pushed,
--- pushed_all, rekeyed, is_mate_fresh, put_in, heard, told, read_entry, entered, unheard, forgotten, begun, expired_at.
+-- Words: chief_slot, diamond_slots, child_slots, above_slots, with_above, with_mate, with_chain, gone_entry, taken_out, left, left_all,
+-- pushed, pushed_all, rekeyed, is_mate_fresh, put_in, heard, told, read_entry, entered, seated, unheard, forgotten, begun, expired_at.
 use Rattle.std.specs.Prelude.{ℕ, ◌+◌, ◌*◌, ◌/◌, ◌&&◌, ◌||◌, Bool, true, false, cond, nat_le, nat_lt, List, [], ◌∷◌, ◌++◌, None, Some, option_map, slice_index_or, slice_set}
 use Rattle.edge_laws.specs.Edge.{mate_of}
 use Rattle.edge_laws.specs.Slots.{address_at, has_children}
@@ -9,24 +9,28 @@ use Rattle.merge_queue.specs.Chief.{chief_of}
 use Rattle.deferred_loop.specs.declared.gauge.Reading.{Reading}
 use Rattle.roam_mesh.specs.Mesh.{slot_of}
 use Rattle.roam_mesh.specs.declared.entry.Entry.{Entry}
-use Rattle.roam_mesh.specs.Parts.{PartsState, entry_at, is_leaf_at, is_ready, leaf_rank, diamond_rank}
+use Rattle.roam_mesh.specs.Parts.{PartsState, deadline_of, entry_at, is_leaf_at, is_ready, leaf_rank, diamond_rank}
 
 -- the slot under which the diamond of a slot's triangle stands in the merge queue
 abbrev pub chief_slot : List ℕ → ℕ → ℕ
 chief_slot pairs s = slot_of pairs (chief_of (address_at pairs s))
 
--- the slots of a diamond
+-- the slots of a diamond, the other triangle's first
 abbrev pub diamond_slots : List ℕ → ℕ → List ℕ
-diamond_slots pairs s = s ∷ cond (nat_lt 0 (mate_of (address_at pairs s))) (slot_of pairs (mate_of (address_at pairs s)) ∷ []) []
+diamond_slots pairs s = cond (nat_lt 0 (mate_of (address_at pairs s))) (slot_of pairs (mate_of (address_at pairs s)) ∷ []) [] ++ (s ∷ [])
 
 -- the slots of the children of a split triangle
 abbrev pub child_slots : List ℕ → ℕ → List ℕ
 child_slots pairs s = slot_of pairs (2 * address_at pairs s) ∷ (slot_of pairs (2 * address_at pairs s + 1) ∷ [])
 
--- a leaf, and the diamond above it where it can be merged
+-- the diamond above a leaf, where it can be merged
+abbrev pub above_slots : List ℕ → ℕ → List ℕ
+above_slots pairs s =
+    cond (nat_le 4 (address_at pairs s) && is_ready pairs (address_at pairs s / 2)) (diamond_slots pairs (slot_of pairs (address_at pairs s / 2))) []
+
+-- a leaf, and that diamond
 abbrev pub with_above : List ℕ → ℕ → List ℕ
-with_above pairs s =
-    s ∷ cond (nat_le 4 (address_at pairs s) && is_ready pairs (address_at pairs s / 2)) (diamond_slots pairs (slot_of pairs (address_at pairs s / 2))) []
+with_above pairs s = s ∷ above_slots pairs s
 
 -- and the same of its mate, where that is a leaf
 abbrev pub with_mate : List ℕ → ℕ → List ℕ
@@ -120,6 +124,14 @@ abbrev pub entered : PartsState → List ℕ → ℕ → Reading → ℕ → Par
 entered parts rest s reading odometer = put_in (record parts {
   entries = slice_set parts.entries s (read_entry (entry_at parts s) reading odometer);
   due = slice_set parts.due s (Some (odometer + reading.slack + 1));
+  fresh = rest;
+}) s
+
+-- the slot s, the last fresh one, has what was kept of it, and rest are the others
+abbrev pub seated : PartsState → List ℕ → ℕ → Entry → PartsState
+seated parts rest s was = put_in (record parts {
+  entries = slice_set parts.entries s was;
+  due = slice_set parts.due s (Some (deadline_of was));
   fresh = rest;
 }) s
 

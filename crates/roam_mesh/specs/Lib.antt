@@ -4,5 +4,6 @@ pub mod Change
 pub mod Keys
 pub mod Splitting
 pub mod Merging
+pub mod Keeping
 pub mod Places
 pub mod Base

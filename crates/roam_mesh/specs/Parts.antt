@@ -2,8 +2,8 @@
 -- All of it is this project's own.
 -- Words: PartsState, parts_of, stamp_in, best_of, worst_of, deadline_of, blank, entry_at, entry_of, seen_parts, mesh_of, is_leaf_at, is_bare,
 -- is_ready, is_ready_at, is_chief_at, is_entry_at, is_out, leaf_rank, worst_rank, better_of, diamond_rank, IsSlotList, IsWhole,
--- IsPlaced, IsParts.
-use Rattle.std.specs.Prelude.{◌≡◌, ℕ, ◌+◌, ◌*◌, ◌≤◌, Bool, true, false, not, ◌&&◌, ◌||◌, cond, nat_eq, nat_le, nat_lt, List, length, map, take, reverse, Option, None, Some, slice_index, slice_index_or}
+-- IsPlaced, IsNear, IsParts.
+use Rattle.std.specs.Prelude.{◌≡◌, ℕ, ◌+◌, ◌*◌, ◌^◌, ◌≤◌, Bool, true, false, not, ◌&&◌, ◌||◌, cond, nat_eq, nat_le, nat_lt, List, length, map, take, reverse, Option, None, Some, slice_index, slice_index_or}
 use Rattle.std.specs.List.{IsDistinct}
 use Rattle.mesh_defs.specs.ClosedSet.{among}
 use Rattle.edge_laws.specs.Edge.{mate_of}
@@ -155,8 +155,13 @@ pub record IsPlaced (parts : PartsState) (out : ℕ → Bool) : Type 0 where
   pub stamped : (s : ℕ) → (entry_at parts s).stamped ≡ true → is_entry_at parts.pool.pairs s ≡ true
   pub known : (s : ℕ) → (entry_at parts s).known ≡ true → is_entry_at parts.pool.pairs s ≡ true
 
+-- a stamp is small enough for a deadline
+abbrev pub IsNear : Entry → Type 0
+IsNear e = (e.odometer ≤ 2 ^ 62) × (e.slack ≤ 2 ^ 32)
+
 -- what holds between two calls of the loop: all entries are in their places but the fresh ones
 pub record IsParts (parts : PartsState) : Type 0 where
   pub pool : IsPool parts.pool.n parts.pool.pairs
+  pub near : (s : ℕ) → IsNear (entry_at parts s)
   pub placed : IsPlaced parts (among parts.fresh)
   pub entries : (s : ℕ) → among parts.fresh s ≡ true → is_entry_at parts.pool.pairs s ≡ true

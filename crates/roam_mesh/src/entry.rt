@@ -1,10 +1,12 @@
 //! What is kept of a slot.
 
-ghost use Rattle.std.specs.Prelude.{◌≡◌, ◌||◌, nat_eq, cond, true};
-ghost use Rattle.roam_mesh.specs.Parts.{best_of, worst_of, blank};
+ghost use Rattle.std.specs.Prelude.{◌≡◌, ◌<◌, ◌||◌, nat_eq, cond, true, length, Some, slice_set};
+ghost use Rattle.roam_mesh.specs.Parts.{best_of, worst_of, deadline_of, blank, IsNear};
 ghost use Rattle.roam_mesh.specs.Change.{gone_entry, heard, read_entry, unheard};
 
+use bintree_addr::Slot;
 use deferred_loop::Reading;
+use lazy_priority::Lazy;
 
 /// The stamp of an entry and what was told of it in this frame.
 #[derive(Clone, Copy, Debug)]
@@ -94,6 +96,20 @@ impl Entry {
         self.upper = reading.hi.p;
         self.lower = reading.lo.p;
         self.fresh = false;
+    }
+
+    /// Makes the deadline of a slot that of this stamp: 0 where there is none, or where it has expired.
+    pub fn renew(&self, s: Slot, deadlines: &mut Lazy)
+        requires place { s.0 < length deadlines.old }
+        requires near { IsNear self.now }
+        ensures { deadlines.new ≡ slice_set deadlines.old s.0 (Some (deadline_of self.now)) }
+    {
+        if self.stamped && !self.expired {
+            deadlines.stamp(s, self.odometer, self.slack);
+        } else {
+            deadlines.stamp(s, 0, 0);
+            deadlines.expire(s);
+        }
     }
 
     /// No entry any more.

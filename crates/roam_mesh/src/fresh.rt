@@ -2,9 +2,11 @@
 
 ghost use Rattle.std.specs.Prelude.{◌≡◌, ℕ, ◌<◌, ◌≤◌, ◌+◌, ◌*◌, ◌^◌, ◌++◌, ◌∷◌, List, [], true, false, None, Some, IfNone, IfSome, IsNone, IsSome, length, slice_index_or};
 ghost use Rattle.lazy_priority.specs.Due.{IsDue, NoneIsDue};
-ghost use Rattle.roam_mesh.specs.Parts.{is_leaf_at, is_entry_at, is_ready_at, entry_at, IsWhole, IsPlaced};
-ghost use Rattle.roam_mesh.specs.Change.{chief_slot, diamond_slots, with_above, pushed, pushed_all, told, entered, forgotten, begun};
+ghost use Rattle.roam_mesh.specs.Parts.{is_leaf_at, is_entry_at, is_ready_at, entry_at, IsWhole, IsPlaced, IsParts};
+ghost use Rattle.roam_mesh.specs.Change.{chief_slot, diamond_slots, above_slots, pushed, pushed_all, told, entered, seated, forgotten, begun};
+ghost use Rattle.roam_mesh.specs.Keeping.{CanTakeBack};
 
+use crate::entry::Entry;
 use crate::parts::Parts;
 use bintree_addr::Slot;
 use deferred_loop::Reading;
@@ -23,26 +25,23 @@ impl Parts {
         self.fresh_count += 1;
     }
 
-    /// Lists a diamond as fresh.
+    /// Lists a diamond as fresh, this triangle last.
     pub fn push_diamond(&mut self, s: Slot)
         requires ready { is_ready_at self.old.pool.pairs s.0 ≡ true }
         ensures { self.new ≡ pushed_all self.old (diamond_slots self.old.pool.pairs s.0) }
     {
-        let mate = self.mate(s);
-        self.push_fresh(s);
-        if let Some(mate) = mate {
+        if let Some(mate) = self.mate(s) {
             self.push_fresh(mate);
         }
+        self.push_fresh(s);
     }
 
-    /// Lists a leaf as fresh, and the diamond above it where it can be merged.
-    pub fn push_with_above(&mut self, s: Slot)
+    /// Lists the diamond above a leaf as fresh, where it can be merged.
+    pub fn push_above(&mut self, s: Slot)
         requires leaf { is_leaf_at self.old.pool.pairs s.0 ≡ true }
-        ensures { self.new ≡ pushed_all self.old (with_above self.old.pool.pairs s.0) }
+        ensures { self.new ≡ pushed_all self.old (above_slots self.old.pool.pairs s.0) }
     {
-        let above = self.above(s);
-        self.push_fresh(s);
-        if let Some(above) = above {
+        if let Some(above) = self.above(s) {
             self.push_diamond(above);
         }
     }
@@ -100,6 +99,19 @@ impl Parts {
         let s = self.fresh[self.fresh_count as usize];
         self.entries[s.0 as usize].read(reading, odometer);
         self.deadlines.stamp(s, odometer, reading.slack);
+        self.put_in(s);
+    }
+
+    /// Gives the next fresh slot back what was kept of it, and puts it in its place.
+    pub fn take_back(&mut self, was: &Entry)
+        requires last { (rest : List ℕ) × (s : ℕ) × CanTakeBack self.old rest s was.now }
+        ensures parts { IsParts self.new }
+        ensures seated { (rest : List ℕ) (s : ℕ) → self.old.fresh ≡ rest ++ (s ∷ []) → self.new ≡ seated self.old rest s was.now }
+    {
+        self.fresh_count -= 1;
+        let s = self.fresh[self.fresh_count as usize];
+        self.entries[s.0 as usize] = *was;
+        was.renew(s, &mut self.deadlines);
         self.put_in(s);
     }
 

@@ -130,10 +130,10 @@ impl Parts {
         requires ready { is_ready_at self.old.pool.pairs s.0 ≡ true }
         ensures { self.new ≡ left_all self.old (diamond_slots self.old.pool.pairs s.0) }
     {
-        self.leave(s);
         if let Some(mate) = self.mate(s) {
             self.leave(mate);
         }
+        self.leave(s);
     }
 
     /// Takes a leaf out of its place that will be split, and the diamond above it.

@@ -115,15 +115,14 @@ impl QueuedMesh for QueuedParts {
     fn split(&mut self, t: Tri) {
         if let Some(s) = self.slot(t) {
             let _before = self.parts.pool.n();
-            self.parts.split_at(s);
-            let _after = self.parts.pool.n();
+            self.parts.split(s);
         }
     }
 
     fn merge(&mut self, t: Tri) {
         let _n = self.parts.pool.n();
         if let Some(s) = self.slot(t) {
-            self.parts.merge_at(s);
+            self.parts.merge(s);
         }
     }
 

@@ -7,10 +7,13 @@ ghost use Rattle.edge_laws.specs.Edge.{mate_of};
 ghost use Rattle.edge_laws.specs.Slots.{address_at, has_children, IsLive, room_of};
 ghost use Rattle.force_split.specs.Chain.{IsChain, IsGainOf, chain_size};
 ghost use Rattle.triangle_pool.specs.Answer.{numbers};
-ghost use Rattle.roam_mesh.specs.Parts.{is_leaf_at};
+ghost use Rattle.deferred_loop.specs.Seen.{IsSplitOf};
+ghost use Rattle.roam_mesh.specs.Parts.{is_leaf_at, seen_parts, IsParts};
+ghost use Rattle.roam_mesh.specs.Keeping.{IsKeptMate};
 ghost use Rattle.roam_mesh.specs.Change.{with_mate, with_chain, left_all, pushed_all};
 ghost use Rattle.roam_mesh.specs.Splitting.{IsLeafMate, IsCarriedOut, IsSplitAt, pair_slots, second_slots, born_slots, born_leaves};
 
+use crate::entry::Entry;
 use crate::parts::Parts;
 use arrayvec::ArrayVec;
 use bintree_addr::Slot;
@@ -18,12 +21,45 @@ use force_split::{Chain, carry_out, plan};
 use triangle_pool::Born;
 
 impl Parts {
-    /// Splits a leaf with what it forces.
+    /// Splits a leaf with what it forces. The leaf keeps what it has, and so does its mate where that is a leaf.
+    pub fn split(&mut self, s: Slot)
+        requires parts { IsParts self.old }
+        requires settled { self.old.fresh ≡ [] }
+        requires leaf { is_leaf_at self.old.pool.pairs s.0 ≡ true }
+        requires coarse { level_of (address_at self.old.pool.pairs s.0) < 2 * self.old.pool.n }
+        requires room { (gain : ℕ) → IsGainOf self.old.pool.n self.old.pool.pairs (address_at self.old.pool.pairs s.0) gain → gain ≤ room_of self.old.pool.pairs }
+        requires count { self.old.pool.splits + 48 < 2 ^ 62 }
+        ensures parts { IsParts self.new }
+        ensures split { IsSplitOf (seen_parts self.old) (seen_parts self.new) (address_at self.old.pool.pairs s.0) }
+    {
+        let own = self.entries[s.0 as usize];
+        let other = self.kept_mate(s);
+        self.split_at(s);
+        let _n = self.pool.n();
+        self.take_back(&own);
+        if let Some(other) = other {
+            self.take_back(&other);
+        }
+    }
+
+    /// What is kept of the mate of a leaf, where it is a leaf.
+    fn kept_mate(&self, s: Slot) -> Option<Entry>
+        requires leaf { is_leaf_at self.now.pool.pairs s.0 ≡ true }
+        ensures none { IsNone result → 1 ≤ mate_of (address_at self.now.pool.pairs s.0) → has_children self.now.pool.pairs (mate_of (address_at self.now.pool.pairs s.0) / 2) ≡ false }
+        ensures some { IfSome result (IsKeptMate self.now s.0) }
+    {
+        match self.leaf_mate(s) {
+            Some(t) => Some(self.entries[t.0 as usize]),
+            None => None,
+        }
+    }
+
+    /// Splits a leaf with what it forces, as if all that is new in its role were fresh.
     ///
     /// First all leaves that will be split leave their places, and the diamonds above them, which can be merged no longer.
     /// Then the pool splits the chain. Last the new leaves are fresh, and the diamond of the leaf itself, the one of the
-    /// chain that can be merged.
-    pub fn split_at(&mut self, s: Slot)
+    /// chain that can be merged, the leaf last.
+    fn split_at(&mut self, s: Slot)
         requires leaf { is_leaf_at self.old.pool.pairs s.0 ≡ true }
         requires coarse { level_of (address_at self.old.pool.pairs s.0) < 2 * self.old.pool.n }
         requires room { (gain : ℕ) → IsGainOf self.old.pool.n self.old.pool.pairs (address_at self.old.pool.pairs s.0) gain → gain ≤ room_of self.old.pool.pairs }

@@ -1,7 +1,7 @@
-use Rattle.std.proofs.Common.{rules, ◌≡◌, ℕ, ◌+◌, ◌*◌, ◌^◌, ◌≤◌, true, List, length, get_or, arith, refl}
+use Rattle.std.proofs.Common.{rules, ◌≡◌, ℕ, ◌+◌, ◌*◌, ◌^◌, ◌≤◌, true, List, length, get_or, arith}
 use Rattle.std.proofs.Math.ListN.{get_or-eq_default}
 use Rattle.bintree_laws.proofs.LevelLemmas.{IsAtLevel-level_of, pow_next}
-use Rattle.mesh_defs.specs.Triangle.{level_of, IsAddress}
+use Rattle.mesh_defs.specs.Triangle.{level_of}
 use Rattle.roam_mesh.proofs.tests.check_falling.Goals as goal
 
 -- past the end of a list that ends where the finest triangles begin there are none

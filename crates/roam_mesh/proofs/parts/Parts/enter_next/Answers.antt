@@ -22,7 +22,7 @@ invariant_of-self c =
     let last = numbers_pop m.fresh.items m.fresh_count s some within c.index-s.ensures in
     let below = listed_below m.entries.items (λ f. f.fresh) parts.fresh s.0 whole.fresh refl (ap (λ l. among l s.0) last ∙ among_last rest s.0) in
     let entry = c.read.ensures ∙ ap (λ e. read_entry e c.args.reading.now c.args.odometer) (get_or_read m.entries.items _ _ below c.index_mut.ensures.value blank) in
-    let is = read_whole parts rest s.0 (read_entry (entry_at parts s.0) c.args.reading.now c.args.odometer) (Some (c.args.odometer + c.args.reading.now.slack + 1)) whole last refl refl refl in (
+    let is = read_whole parts rest s.0 (read_entry (entry_at parts s.0) c.args.reading.now c.args.odometer) (Some (c.args.odometer + c.args.reading.now.slack + 1)) whole last refl refl (whole.known s.0) in (
       subst IsWhole (sym (ap₂ (λ (e : Entry) (d : List (Option ℕ)). record parts { entries = slice_set m.entries.items s.0 e; due = d; fresh = rest }) entry c.stamp.ensures)) is,
       c.self.invariant.1,
       (c.self.invariant.2.0, omega arith),

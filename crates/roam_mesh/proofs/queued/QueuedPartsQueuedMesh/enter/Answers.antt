@@ -32,7 +32,7 @@ pub invariant_of-self : goal.invariant_of-self
 invariant_of-self c =
     let parts = c.self.inside.parts in
     let after = c.enter_next.ensures.entered in
-    subst IsParts (sym after.3) (entered_parts parts after.0 after.1 c.args.reading.now c.args.odometer c.enter_next.ensures.whole c.self.invariant after.2)
+    subst IsParts (sym after.3) (entered_parts parts after.0 after.1 c.args.reading.now c.args.odometer c.enter_next.ensures.whole c.self.invariant after.2 c.requires.far c.requires.small)
 
 -- equal lists begin alike
 same_head : (a b : ℕ) (xs ys : List ℕ) → a ∷ xs ≡ b ∷ ys → a ≡ b

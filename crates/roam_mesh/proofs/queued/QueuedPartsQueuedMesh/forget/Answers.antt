@@ -20,7 +20,7 @@ loop-self-preserved c =
     let kept : HasForgotten c.args.self.now c.loop-self.self-inside.parts = c.loop-self.invariant in
     let pool : IsPool c.loop-self.self-inside.parts.pool.n c.loop-self.self-inside.parts.pool.pairs = subst (λ (z : PoolState). IsPool z.n z.pairs) (sym kept.pool) is.pool in
     let step = c.forget_last.ensures.some c.loop-self-test.true in
-    let has = forgotten_has c.loop-self.self-inside.parts step.0 step.1 c.forget_last.ensures.whole pool kept.placed step.2 in
+    let has = forgotten_has c.loop-self.self-inside.parts step.0 step.1 c.forget_last.ensures.whole pool kept.placed kept.near step.2 in
     subst (λ (z : PartsState). HasForgotten c.args.self.now z) (sym step.3) (forgotten_then c.args.self.now c.loop-self.self-inside.parts (forgotten c.loop-self.self-inside.parts step.0 step.1) kept has.0)
 
 pub invariant_of-self : goal.invariant_of-self

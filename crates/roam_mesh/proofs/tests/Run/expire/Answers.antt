@@ -1,6 +1,6 @@
-use Rattle.std.proofs.Common.{◌≡◌, ℕ, ◌+◌, ◌≤◌, Bool, true, false, cond, Option, None, Some, option_map, nat_eq, refl, ap, sym, ◌∙◌, arith}
+use Rattle.std.proofs.Common.{◌≡◌, ℕ, Bool, true, false, cond, Option, None, Some, option_map, nat_eq, refl, sym, ◌∙◌, arith}
 use Rattle.frame_steps.specs.Stamps.{Stamp}
-use Rattle.roam_mesh.specs.Mesh.{MeshState, stamp_of, with_expired}
+use Rattle.roam_mesh.specs.Mesh.{stamp_of, with_expired}
 use Rattle.roam_mesh.proofs.tests.Run.expire.Goals as goal
 
 -- the stamp that was there before, with the same bounds

@@ -1,4 +1,4 @@
-use Rattle.std.proofs.Common.{rules, ◌≡◌, ℕ, ◌+◌, ◌≤◌, ◌||◌, ◌⊎◌, Bool, true, false, nat_lt, List, Option, Some, get_or, max, inl, inr, sym, ◌∙◌, arith, ⊎_elim}
+use Rattle.std.proofs.Common.{◌≡◌, ℕ, ◌+◌, ◌≤◌, ◌||◌, ◌⊎◌, Bool, true, false, nat_lt, List, Some, get_or, inl, inr, sym, ◌∙◌, arith, ⊎_elim}
 use Rattle.std.proofs.lemmas.Bool.{ltb-false}
 use Rattle.frame_steps.specs.Stamps.{Stamp, Readings, is_due, stamp_now, StampsHold}
 use Rattle.deferred_loop.specs.Promise.{AreStampsGood}

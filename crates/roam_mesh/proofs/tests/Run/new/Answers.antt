@@ -1,4 +1,4 @@
-use Rattle.std.proofs.Common.{◌≡◌, ℕ, ◌≤◌, List, None, Some, sym, ◌∙◌, arith}
+use Rattle.std.proofs.Common.{◌≡◌, ℕ, None, Some, arith}
 use Rattle.frame_steps.specs.Stamps.{Stamp}
 use Rattle.roam_mesh.specs.Mesh.{MeshState, stamp_of}
 use Rattle.roam_mesh.proofs.tests.Run.new.Goals as goal

@@ -1,4 +1,4 @@
-use Rattle.std.proofs.Common.{◌≡◌, ℕ, ◌+◌, ◌≤◌, arith}
+use Rattle.std.proofs.Common.{arith}
 use Rattle.roam_mesh.proofs.tests.Run.renew.Goals as goal
 
 pub invariant_of-self : goal.invariant_of-self
