@@ -105,6 +105,10 @@ IsWithin-wider m k c le w = record {
   v1_y = omega arith;
 }
 
+-- and within the largest square
+pub IsWithin-largest : (n : ℕ) (c : Corners) → n ≤ 11 → IsWithin (2 ^ n) c → IsWithin (2 ^ 11) c
+IsWithin-largest n c small w = IsWithin-wider (2 ^ n) (2 ^ 11) c (pow_mono small) w
+
 -- what is reached on the way down lies within the largest square
 pub IsWithin-reached : (level n a : ℕ) (c : Corners) → n ≤ 11 → c ≡ corners_at level (2 ^ n) a → IsWithin (2 ^ 11) c
 IsWithin-reached level n a c small reached =

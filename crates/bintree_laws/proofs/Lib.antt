@@ -5,3 +5,4 @@ pub mod UnitLemmas
 pub mod PairLemmas
 pub mod MateLemmas
 pub mod CentreLemmas
+pub mod WeightLemmas

@@ -1,6 +1,6 @@
 -- The leaves of a closed set: which addresses they are, that each stands once, how many there can be, and that
 -- they determine the set.
-use Rattle.std.proofs.Common.{◌≡◌, ℕ, zero, suc, ◌+◌, ◌-◌, ◌*◌, ◌/◌, ◌^◌, ◌<◌, ◌≤◌, ◌↔◌, Bool, true, false, eqb, IsTrue, List, [], ◌∷◌, ◌++◌, length, Contains, refl, sym, subst, arith, ⊎_elim, length-append, count_by, pow_pos, pow-add}
+use Rattle.std.proofs.Common.{◌≡◌, ℕ, zero, suc, ◌+◌, ◌-◌, ◌*◌, ◌/◌, ◌^◌, ◌<◌, ◌≤◌, ◌↔◌, Bool, true, false, eqb, IsTrue, List, [], ◌∷◌, ◌++◌, length, Contains, refl, sym, subst, arith, ⊎_elim, length-append, count_by, pow_pos, pow-add, ◌∙◌, ap}
 use Rattle.std.proofs.Math.Nat.{pow-succ'}
 use Rattle.std.proofs.lemmas.Bool.{cases_lt, cases_Bool, eqb-true, both_ways}
 use Rattle.std.proofs.lemmas.List.Elements.{All-contains}
@@ -40,6 +40,26 @@ leaf-once n has a = ⊎_elim
     (λ t same. subst (λ z. is_inside n s.0 s.1 z ≡ true) (sym (eqb-true t a same)) s.3) in omega arith)
     (cases_lt (count_by (λ t. eqb t a) (leaves_of n has)) 1)
 
+-- at and below a triangle
+
+-- the leaves at and below a, by whether it is split
+abbrev fork : List ℕ → List ℕ → ℕ → Bool → List ℕ
+fork left right a split = elim split as (λ _. List ℕ) [ true ↦ left ++ right | false ↦ a ∷ [] ]
+
+-- a member has the leaves of its left child, and then those of its right child
+pub leaves_under-split : (levels : ℕ) (has : ℕ → Bool) (a : ℕ) → 1 ≤ levels → has a ≡ true →
+    leaves_under levels has a ≡ leaves_under (levels - 1) has (2 * a) ++ leaves_under (levels - 1) has (2 * a + 1)
+leaves_under-split zero has a some split = absurd (omega arith)
+leaves_under-split (suc levels) has a some split =
+    let less : levels ≡ suc levels - 1 = omega arith in
+    ap (fork (leaves_under levels has (2 * a)) (leaves_under levels has (2 * a + 1)) a) split
+    ∙ ap (λ l. leaves_under l has (2 * a) ++ leaves_under l has (2 * a + 1)) less
+
+-- what is no member is its own leaf
+pub leaves_under-whole : (levels : ℕ) (has : ℕ → Bool) (a : ℕ) → has a ≡ false → leaves_under levels has a ≡ a ∷ []
+leaves_under-whole zero has a whole = refl
+leaves_under-whole (suc levels) has a whole = ap (fork (leaves_under levels has (2 * a)) (leaves_under levels has (2 * a + 1)) a) whole
+
 -- how many
 
 -- at and below a triangle there are at most as many as finest ones
@@ -55,7 +75,7 @@ length-leaves_under (suc levels) has a =
     step false left right l r = let some : 0 < 2 ^ suc levels = pow_pos (suc levels) in omega arith
 
 -- 4 ^ n is 2 ^ (2 n)
-four-power : (n : ℕ) → 4 ^ n ≡ 2 ^ (2 * n)
+pub four-power : (n : ℕ) → 4 ^ n ≡ 2 ^ (2 * n)
 four-power zero = refl
 four-power (suc n) =
     let rest = four-power n in let p = pow-succ' 4 n in let q = pow-add 2 (2 * n) 2 in

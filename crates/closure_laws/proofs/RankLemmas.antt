@@ -145,6 +145,23 @@ prefix-next n xs has next j within p q = record {
       (with-cases has (get_or xs j 0) a h));
 }
 
+-- falling priorities
+
+module _ (n : ℕ) (priority : ℕ → ℕ) (falling : IsFalling n priority) where
+  -- what lies below has no greater priority
+  pub priority-under : (v u : ℕ) → IsAddress n u → IsUnder v u → priority u ≤ priority v
+  priority-under v u address self = omega arith
+  priority-under v u address (below w big k) =
+      let falls = falling.child w address big in
+      let rest : priority (w / 2) ≤ priority v = priority-under v (w / 2) (IsAddress-parent n w address big) k in omega arith
+
+  -- an address of positive priority is splittable
+  pub splittable-positive : (a : ℕ) → IsAddress n a → 0 < priority a → IsSplittable n a
+  splittable-positive a address some = ⊎_elim
+      (λ coarse. record { low = address.low; coarse = coarse })
+      (λ fine. let fits = level-le n a address in let none = falling.finest a address (omega arith) in absurd (omega arith))
+      (cases_lt (level_of a) (2 * n))
+
 -- greedy refinement
 
 module _ (n : ℕ) (priority : ℕ → ℕ) (ranking : List ℕ) (ranked : IsRanking n priority ranking) (falling : IsFalling n priority) where
@@ -152,16 +169,9 @@ module _ (n : ℕ) (priority : ℕ → ℕ) (ranking : List ℕ) (ranked : IsRan
   pub entry : (i : ℕ) → i < length ranking → IsSplittable n (get_or ranking i 0) × (0 < priority (get_or ranking i 0))
   entry i b = (ranked.members (get_or ranking i 0)).0 (at_place i ranking b)
 
-  -- an address of positive priority is splittable
-  splittable_positive : (a : ℕ) → IsAddress n a → 0 < priority a → IsSplittable n a
-  splittable_positive a address some = ⊎_elim
-      (λ coarse. record { low = address.low; coarse = coarse })
-      (λ fine. let fits = level-le n a address in let none = falling.finest a address (omega arith) in absurd (omega arith))
-      (cases_lt (level_of a) (2 * n))
-
   -- where an address of positive priority stands
   pub place_of : (a : ℕ) → IsAddress n a → 0 < priority a → (i : ℕ) × (i < length ranking) × (get_or ranking i 0 ≡ a)
-  place_of a address some = place_in a ranking ((ranked.members a).1 (splittable_positive a address some, some))
+  place_of a address some = place_in a ranking ((ranked.members a).1 (splittable-positive n priority falling a address some, some))
 
   -- the first missing entry is a leaf
   missing_leaf : (has : ℕ → Bool) → IsClosed n has → (m : HasMissing has ranking) → IsOuter n has (get_or ranking m.0 0)
@@ -404,13 +414,6 @@ module _ (n : ℕ) (priority : ℕ → ℕ) (ranking : List ℕ) (ranked : IsRan
 
   -- the best mesh
 
-  -- what lies below has no greater priority
-  priority-under : (v u : ℕ) → IsAddress n u → IsUnder v u → priority u ≤ priority v
-  priority-under v u address self = omega arith
-  priority-under v u address (below w big k) =
-      let falls = falling.child w address big in
-      let rest : priority (w / 2) ≤ priority v = priority-under v (w / 2) (IsAddress-parent n w address big) k in omega arith
-
   -- no leaf has a greater priority than the first missing entry
   leaf-le : (has : ℕ → Bool) → IsClosed n has → (m : HasMissing has ranking) → (a : ℕ) → IsIn a (leaves_of n has) → priority a ≤ priority (get_or ranking m.0 0)
   leaf-le has closed m a leaf = ⊎_elim
@@ -449,7 +452,7 @@ module _ (n : ℕ) (priority : ℕ → ℕ) (ranking : List ℕ) (ranked : IsRan
       (⊎_elim
       (λ member. member)
       (λ (c : IsCovered n others conforming (get_or ranking r.0 0)).
-      let over = priority-under c.entry (get_or ranking r.0 0) (IsAddress-splittable n (get_or ranking r.0 0) e.0) c.under in
+      let over = priority-under n priority falling c.entry (get_or ranking r.0 0) (IsAddress-splittable n (get_or ranking r.0 0) e.0) c.under in
       let worst = le-worst priority c.entry others c.listed in absurd (omega arith))
       (member_or_covered n others conforming (get_or ranking r.0 0) (IsAddress-splittable n (get_or ranking r.0 0) e.0)))
     where

@@ -8,7 +8,7 @@ use Rattle.mesh_defs.specs.Tiling.{is_inside}
 use Rattle.bintree_laws.proofs.LevelLemmas.{splittable-below, level_of-root, level_of-left, level_of-right}
 use Rattle.tiling_laws.specs.Ancestors.{is_above}
 use Rattle.mesh_defs.specs.GridSet.{IsAscending, IsGridSet}
-use Rattle.mesh_defs.proofs.ListLemmas.{one_if}
+use Rattle.mesh_defs.proofs.ListLemmas.{one_if, one_if-no}
 use Rattle.tiling_laws.proofs.DescentLemmas.{IsDown, IsDown-left, IsDown-right, IsDown-2, IsDown-3, IsDown-address, IsAddress-down, IsAddress-splittable, one_base, sample_of}
 use Rattle.tiling_laws.proofs.ConformityLemmas.{IsUnder, self, below, IsUnder-left, IsUnder-right, member_above}
 use Rattle.mesh_defs.proofs.ListLemmas.{IsIn, IsIn-among, among-in, Contains-in, count-cons, count-yes, some-count}
@@ -61,14 +61,10 @@ count-ascending a (x ∷ xs) o (inl e) =
 count-ascending a (x ∷ xs) o (inr h) =
     let c = count-cons (λ t. eqb t a) x xs in
     let rest : count_by (λ t. eqb t a) xs ≡ 1 = count-ascending a xs o.1 h in
-    let none : one_if (eqb x a) ≡ 0 = not_same (eqb x a) (λ same.
+    let none : one_if (eqb x a) ≡ 0 = one_if-no (eqb x a) (λ same.
     let less : x < a = All-contains (λ y. x < y) xs a o.0 (Contains-in a xs h) in
     let f = eqb-true x a same in omega arith) in
     omega arith
-  where
-    not_same : (b : Bool) → (b ≡ true → ⊥) → one_if b ≡ 0
-    not_same true h = absurd (h refl)
-    not_same false h = refl
 
 -- at and below a
 
@@ -89,7 +85,7 @@ true-under a m low self = or_left (eqb a a) (is_above a a) (eq-eqb a a refl)
 true-under a m low (below y big u) = or_right (eqb y a) (is_above a y) (above-under a y low big u)
 
 -- it is a or lies at and below one of its children
-under-cases : (a m : ℕ) → IsUnder a m → (m ≡ a) ⊎ (IsUnder (2 * a) m ⊎ IsUnder (2 * a + 1) m)
+pub under-cases : (a m : ℕ) → IsUnder a m → (m ≡ a) ⊎ (IsUnder (2 * a) m ⊎ IsUnder (2 * a + 1) m)
 under-cases a m self = inl refl
 under-cases a m (below y big u) = ⊎_elim
     (λ same. ⊎_elim

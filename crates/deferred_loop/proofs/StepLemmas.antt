@@ -4,7 +4,7 @@ use Rattle.std.proofs.lemmas.List.{length-append}
 use Rattle.std.proofs.lemmas.Bool.{cases_Bool, cond-true, cond-false, false_from_ne_true}
 use Rattle.mesh_defs.specs.Triangle.{IsAddress, IsSplittable}
 use Rattle.mesh_defs.specs.ClosedSet.{IsClosed, leaves_of, among}
-use Rattle.mesh_defs.proofs.ListLemmas.{IsIn-among, among-in}
+use Rattle.mesh_defs.proofs.ListLemmas.{IsIn-among, among-in, IsIn-append-left, IsIn-append-right}
 use Rattle.deferred_loop.specs.Seen.{PoolSet, SeenMesh, IsSame, IsRenewed, IsNewEntry, lower_of, upper_of, IsMergeOf, IsSplitOf}
 use Rattle.mesh_defs.specs.GridSet.{IsGridSet, IsForced}
 use Rattle.closure_laws.specs.Diamond.{IsInDiamond, CanMerge, IsWithoutDiamond}
@@ -17,15 +17,14 @@ use Rattle.deferred_loop.specs.Choice.{IsNextSplit, IsNextMerge}
 use Rattle.frame_steps.specs.Stamps.{Stamp, Readings, is_due, stamp_now}
 use Rattle.deferred_loop.specs.Kept.{IsTrueKey, IsSound, IsSettled, IsOldLeaf, IsOldMember, IsCharged, IsAskedOnly, IsCaughtUp, IsStamped}
 use Rattle.deferred_loop.proofs.KeyLemmas.{can_merge_with}
-use Rattle.deferred_loop.proofs.TellLemmas.{in_append_left, in_append_right}
 use Rattle.deferred_loop.proofs.HeadLemmas.{entry_address}
 use Rattle.deferred_loop.proofs.FreshLemmas.{NewRoles, split_roles, merge_roles, few_fresh}
 
 among_left : (a : ℕ) (xs ys : List ℕ) → IsTrue (among xs a) → IsTrue (among (xs ++ ys) a)
-among_left a xs ys h = among-in a (xs ++ ys) (in_append_left a xs ys (IsIn-among a xs h))
+among_left a xs ys h = among-in a (xs ++ ys) (IsIn-append-left a xs ys (IsIn-among a xs h))
 
 among_right : (a : ℕ) (xs ys : List ℕ) → IsTrue (among ys a) → IsTrue (among (xs ++ ys) a)
-among_right a xs ys h = among-in a (xs ++ ys) (in_append_right a xs ys (IsIn-among a ys h))
+among_right a xs ys h = among-in a (xs ++ ys) (IsIn-append-right a xs ys (IsIn-among a ys h))
 
 -- with the key that it had
 same_key : (w : DeferredFrame) (before mid : SeenMesh) (a : ℕ) → IsSame before mid a → IsTrueKey w before a → IsTrueKey w mid a

@@ -1,25 +1,19 @@
 -- What a told rank changes.
-use Rattle.std.proofs.Common.{◌≡◌, ℕ, ◌+◌, ◌<◌, ◌≤◌, inl, inr, Bool, true, false, not, cond, eqb, eq-eqb, ◌||◌, List, [], ◌∷◌, ◌++◌, length, refl, sym, ◌∙◌, ap, subst, arith, ⊎_elim, Option}
+use Rattle.std.proofs.Common.{◌≡◌, ℕ, ◌+◌, ◌<◌, ◌≤◌, Bool, true, false, not, cond, eqb, eq-eqb, List, ◌++◌, length, refl, sym, ◌∙◌, ap, subst, arith, ⊎_elim, Option}
 use Rattle.mesh_defs.specs.GridSet.{IsGridSet}
 use Rattle.std.specs.List.{count_by}
-use Rattle.std.proofs.lemmas.Bool.{cases_Bool, both_ways, cond-true, cond-false, or_left, or_right, or_from, or_parts, eqb-true, not-true, not_from_false, not_from_true}
+use Rattle.std.proofs.lemmas.Bool.{cases_Bool, both_ways, cond-true, cond-false, or_right, or_parts, eqb-true, not-true, not_from_false, not_from_true}
 use Rattle.std.proofs.lemmas.List.{length-append}
 use Rattle.mesh_defs.specs.ClosedSet.{leaves_of, among}
 use Rattle.mesh_defs.specs.Greedy.{with_triangle}
-use Rattle.mesh_defs.proofs.ListLemmas.{IsIn, IsIn-contains, IsIn-among}
+use Rattle.mesh_defs.proofs.ListLemmas.{IsIn, IsIn-contains, IsIn-among, IsIn-append-left, IsIn-append-right}
 use Rattle.deferred_loop.specs.Seen.{PoolSet, SeenMesh, IsTold, upper_of, lower_of}
 use Rattle.bintree_addr.specs.declared.rank.Rank.{Rank}
 use Rattle.closure_laws.proofs.SetListLemmas.{count-less}
 use Rattle.frame_steps.specs.Deferred.{DeferredFrame, IsEntry, leaf, member}
 use Rattle.frame_steps.specs.Stamps.{Stamp}
 use Rattle.deferred_loop.specs.Kept.{IsTrueKey, IsSettled, IsCharged, IsAskedOnly}
-
--- one test more that fails changes nothing
-pub or_false : (x y : Bool) → y ≡ false → (x || y) ≡ x
-or_false x y none = ⊎_elim
-    (λ (is : x ≡ true). or_left x y is ∙ sym is)
-    (λ (not_so : x ≡ false). or_from x y not_so none ∙ sym not_so)
-    (cases_Bool x)
+use Rattle.mesh_defs.proofs.TestLemmas.{or_none}
 
 -- the key of the told one
 pub told_own : (w : DeferredFrame) (after : SeenMesh) (before_known : ℕ → Bool) (before_exact : ℕ → ℕ) (t p a : ℕ) → p ≡ w.priority t → eqb t a ≡ true →
@@ -36,7 +30,7 @@ told_own w after before_known before_exact t p a value own known exact =
 pub told_other : (w : DeferredFrame) (before after : SeenMesh) (t p a : ℕ) → IsTrueKey w before a → eqb t a ≡ false →
     after.known a ≡ with_triangle before.known t a → after.exact a ≡ cond (eqb t a) p (before.exact a) → after.stamps a ≡ before.stamps a → IsTrueKey w after a
 told_other w before after t p a key other known exact stamp =
-    let same : after.known a ≡ before.known a = known ∙ or_false (before.known a) (eqb t a) other in
+    let same : after.known a ≡ before.known a = known ∙ or_none (before.known a) (eqb t a) other in
     record {
       exact = λ told. exact ∙ cond-false (eqb t a) p (before.exact a) other ∙ key.exact (sym same ∙ told);
       upper = λ new. subst (λ (z : Option Stamp). w.priority a ≤ upper_of z) (sym stamp) (key.upper (sym same ∙ new));
@@ -94,21 +88,11 @@ entries_of n members = leaves_of n (among members) ++ members
 pub unasked : SeenMesh → ℕ
 unasked s = count_by (λ a. not (s.known a)) (entries_of s.set.n s.set.members)
 
--- what is in one of two lists is in both together
-pub in_append_left : (a : ℕ) (xs ys : List ℕ) → IsIn a xs → IsIn a (xs ++ ys)
-in_append_left a [] ys h = absurd h
-in_append_left a (x ∷ xs) ys (inl e) = inl e
-in_append_left a (x ∷ xs) ys (inr h) = inr (in_append_left a xs ys h)
-
-pub in_append_right : (a : ℕ) (xs ys : List ℕ) → IsIn a ys → IsIn a (xs ++ ys)
-in_append_right a [] ys h = h
-in_append_right a (x ∷ xs) ys h = inr (in_append_right a xs ys h)
-
 -- an entry is one of all
 pub in_entries : (n : ℕ) (members : List ℕ) (a : ℕ) → IsEntry n (among members) a → IsIn a (entries_of n members)
 unfolding entries_of
-in_entries n members a (leaf h) = in_append_left a (leaves_of n (among members)) members (IsIn-contains a (leaves_of n (among members)) h)
-in_entries n members a (member h) = in_append_right a (leaves_of n (among members)) members (IsIn-among a members h.member)
+in_entries n members a (leaf h) = IsIn-append-left a (leaves_of n (among members)) members (IsIn-contains a (leaves_of n (among members)) h)
+in_entries n members a (member h) = IsIn-append-right a (leaves_of n (among members)) members (IsIn-among a members h.member)
 
 -- how many entries there are
 pub length-entries : (n : ℕ) (members : List ℕ) → length (entries_of n members) ≡ length (leaves_of n (among members)) + length members

@@ -2,16 +2,16 @@
 -- total at the corners of a child: the lesser weight of the base's ends, twice, goes to the midpoint. The mean
 -- of the corners' heights changes by at most half the total times the deviation at the midpoint. At the finest
 -- level all weight is at one corner, and the point is that corner.
-use Rattle.std.proofs.Common.{◌≡◌, ℕ, zero, suc, ◌+◌, ◌-◌, ◌*◌, ◌/◌, ◌<◌, ◌≤◌, ◌⊎◌, inl, inr, max, List, sym, ◌∙◌, ap, subst, arith, ⊎_elim, mul-le-mul_left}
+use Rattle.std.proofs.Common.{◌≡◌, ℕ, zero, suc, ◌+◌, ◌-◌, ◌*◌, ◌/◌, ◌<◌, ◌≤◌, ◌⊎◌, inl, inr, max, List, sym, ap, subst, arith, ⊎_elim, mul-le-mul_left}
 use Rattle.std.proofs.lemmas.Bool.{cases_lt}
 use Rattle.mesh_defs.specs.declared.point.Point.{Point}
 use Rattle.mesh_defs.specs.declared.point.Corners.{Corners}
 use Rattle.mesh_defs.specs.Triangle.{corners_of, child, midpoint}
 use Rattle.mesh_defs.specs.Thickness.{height_of, apart, deviation, thickness_under}
 use Rattle.bintree_laws.specs.Corners.{HasEvenBase}
-use Rattle.bintree_laws.proofs.LatticeLemmas.{HasEvenBase-corners_of}
+use Rattle.bintree_laws.proofs.LatticeLemmas.{HasEvenBase-corners_of, same_point}
 use Rattle.bintree_laws.proofs.CornerLemmas.{corners_of-left, corners_of-right}
-use Rattle.tiling_laws.proofs.WayLemmas.{Way, east, north_east, north, north_west, west, south_west, south, south_east, point}
+use Rattle.tiling_laws.proofs.WayLemmas.{Way, east, north_east, north, north_west, west, south_west, south, south_east}
 use Rattle.tiling_laws.proofs.TurnLemmas.{IsTurned, IsAxis}
 use Rattle.tiling_laws.proofs.DescentLemmas.{IsDown, IsDown-left, IsDown-right, IsSplittable-down, finest_of}
 
@@ -116,10 +116,6 @@ abbrev IsOneCorner : Corners → Point → ℕ → ℕ → ℕ → Type 0
 IsOneCorner c r u v w =
     ((r ≡ c.apex) × (v ≡ 0) × (w ≡ 0)) ⊎ (((r ≡ c.v0) × (u ≡ 0) × (w ≡ 0)) ⊎ ((r ≡ c.v1) × (u ≡ 0) × (v ≡ 0)))
 
--- points with equal coordinates are equal
-same_point : (p q : Point) → p.x ≡ q.x → p.y ≡ q.y → p ≡ q
-same_point p q x y = ap (λ i. point i p.y) x ∙ ap (λ j. point q.x j) y
-
 -- where r is, by the weights of v0 and of v1, of which each is none or all
 record IsPlacedBy (total : ℕ) (c : Corners) (r : Point) (v w : ℕ) : Type 0 where
   at_apex : v ≡ 0 → w ≡ 0 → (r.x ≡ c.apex.x) × (r.y ≡ c.apex.y)
@@ -133,11 +129,11 @@ IsOneCorner-placed : (total : ℕ) (c : Corners) (r : Point) (u v w : ℕ) → 0
     IsPlacedBy total c r v w → IsOneCorner c r u v w
 IsOneCorner-placed total c r u v w some sum p = ⊎_elim
     (λ e. ⊎_elim
-    (λ f. let h = p.at_apex e f in inl (same_point r c.apex h.0 h.1, e, f))
-    (λ f. let h = p.at_v1 e f in inr (inr (same_point r c.v1 h.0 h.1, omega arith, e)))
+    (λ f. let h = p.at_apex e f in inl (same_point r.x r.y c.apex.x c.apex.y h.0 h.1, e, f))
+    (λ f. let h = p.at_v1 e f in inr (inr (same_point r.x r.y c.v1.x c.v1.y h.0 h.1, omega arith, e)))
     p.second)
     (λ e. ⊎_elim
-    (λ f. let h = p.at_v0 e f in inr (inl (same_point r c.v0 h.0 h.1, omega arith, f)))
+    (λ f. let h = p.at_v0 e f in inr (inl (same_point r.x r.y c.v0.x c.v0.y h.0 h.1, omega arith, f)))
     (λ f. absurd (omega arith))
     p.second)
     p.first

@@ -1,5 +1,4 @@
 pub mod AreaLemmas
 pub mod DescentLemmas
 pub mod PlaneLemmas
-pub mod ExtremeLemmas
 pub mod ListLemmas

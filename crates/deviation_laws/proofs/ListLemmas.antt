@@ -7,7 +7,7 @@ use Rattle.mesh_defs.specs.Triangle.{IsAddress, level_of}
 use Rattle.bintree_laws.proofs.LevelLemmas.{level-le}
 use Rattle.mesh_defs.specs.Thickness.{thickness_of}
 use Rattle.mesh_defs.specs.BoundingBox.{points_of, holds_point, greatest}
-use Rattle.deviation_laws.proofs.ExtremeLemmas.{greatest-le}
+use Rattle.mesh_defs.proofs.PointLemmas.{greatest-le}
 use Rattle.deviation_laws.specs.PlaneHeight.{off_plane, offs_in, deviation_of, thickest_of}
 use Rattle.deviation_laws.proofs.PlaneLemmas.{off_plane-le}
 

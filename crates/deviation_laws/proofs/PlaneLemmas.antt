@@ -1,7 +1,7 @@
 -- Plane heights are exact, and the areas across from its corners make a held point the mean of the corners.
-use Rattle.std.proofs.Common.{◌≡◌, ℕ, ◌+◌, ◌-◌, ◌*◌, ◌/◌, ◌^◌, ◌<◌, ◌≤◌, true, ◌&&◌, List, refl, sym, ◌∙◌, ap, arith, inl, inr, ⊎_elim, mul-le-mul_left, pow_pos, pow-add}
-use Rattle.std.proofs.Math.Nat.{mul-sub}
-use Rattle.std.proofs.lemmas.Bool.{cases_lt, and_parts, leb-true}
+use Rattle.std.proofs.Common.{◌≡◌, ℕ, ◌+◌, ◌-◌, ◌*◌, ◌/◌, ◌^◌, ◌<◌, ◌≤◌, true, ◌&&◌, List, refl, sym, ◌∙◌, ap, arith, inl, inr, mul-le-mul_left, pow_pos, pow-add}
+use Rattle.std.proofs.Math.Nat.{mul-sub, le_of_mul-le-mul_left}
+use Rattle.std.proofs.lemmas.Bool.{and_parts, leb-true}
 use Rattle.std.proofs.lemmas.Nat.{div-mul-add}
 use Rattle.mesh_defs.specs.declared.point.Point.{Point}
 use Rattle.mesh_defs.specs.declared.point.Corners.{Corners}
@@ -15,6 +15,7 @@ use Rattle.tiling_laws.proofs.DescentLemmas.{IsDown-address}
 use Rattle.deviation_laws.specs.PlaneHeight.{doubled_area, area_of, weighted, plane_height, off_plane}
 use Rattle.deviation_laws.proofs.AreaLemmas.{area-at}
 use Rattle.deviation_laws.proofs.DescentLemmas.{IsMean, mean-le}
+use Rattle.bintree_laws.proofs.WeightLemmas.{weighted-x, weighted-y}
 
 -- ---- areas
 
@@ -77,23 +78,6 @@ plane_height-exact n heights a r address =
 
 -- ---- weights
 
--- in one coordinate: the areas across from the corners a, p and q
-mean_x : (ax ay px py qx qy rx ry u v w d : ℕ) →
-    ax * py + px * qy + qx * ay ≡ ay * px + py * qx + qy * ax + d →
-    py * qx + qy * rx + ry * px + u ≡ px * qy + qx * ry + rx * py →
-    qy * ax + ay * rx + ry * qx + v ≡ qx * ay + ax * ry + rx * qy →
-    ay * px + py * rx + ry * ax + w ≡ ax * py + px * ry + rx * ay → d * rx ≡ u * ax + v * px + w * qx
-mean_x ax ay px py qx qy rx ry u v w d area hu hv hw =
-    omega (arith, ap (λ t. t * rx) area, ap (λ t. t * ax) hu, ap (λ t. t * px) hv, ap (λ t. t * qx) hw)
-
-mean_y : (ax ay px py qx qy rx ry u v w d : ℕ) →
-    ax * py + px * qy + qx * ay ≡ ay * px + py * qx + qy * ax + d →
-    py * qx + qy * rx + ry * px + u ≡ px * qy + qx * ry + rx * py →
-    qy * ax + ay * rx + ry * qx + v ≡ qx * ay + ax * ry + rx * qy →
-    ay * px + py * rx + ry * ax + w ≡ ax * py + px * ry + rx * ay → d * ry ≡ u * ay + v * py + w * qy
-mean_y ax ay px py qx qy rx ry u v w d area hu hv hw =
-    omega (arith, ap (λ t. t * ry) area, ap (λ t. t * ay) hu, ap (λ t. t * py) hv, ap (λ t. t * qy) hw)
-
 -- where r lies left of a line or on it, the area is the difference of the two sides
 pub difference : (r p q : Point) → is_left_or_on r p q ≡ true →
     p.y * q.x + q.y * r.x + r.y * p.x + doubled_area r p q ≡ p.x * q.y + q.x * r.y + r.x * p.y
@@ -116,20 +100,13 @@ IsMean-held n a r address held =
     omega arith in
     record {
       sum = omega arith;
-      x = mean_x c.apex.x c.apex.y c.v0.x c.v0.y c.v1.x c.v1.y r.x r.y (doubled_area r c.v0 c.v1) (doubled_area r c.v1 c.apex)
+      x = weighted-x c.apex.x c.apex.y c.v0.x c.v0.y c.v1.x c.v1.y r.x r.y (doubled_area r c.v0 c.v1) (doubled_area r c.v1 c.apex)
           (doubled_area r c.apex c.v0) (area_of c) area u v w;
-      y = mean_y c.apex.x c.apex.y c.v0.x c.v0.y c.v1.x c.v1.y r.x r.y (doubled_area r c.v0 c.v1) (doubled_area r c.v1 c.apex)
+      y = weighted-y c.apex.x c.apex.y c.v0.x c.v0.y c.v1.x c.v1.y r.x r.y (doubled_area r c.v0 c.v1) (doubled_area r c.v1 c.apex)
           (doubled_area r c.apex c.v0) (area_of c) area u v w;
     }
 
 -- ---- the bound
-
--- a common factor of an order goes
-pub le-scaled : (k i j : ℕ) → 0 < k → k * i ≤ k * j → i ≤ j
-le-scaled k i j some h = ⊎_elim
-    (λ more. let le : k * (j + 1) ≤ k * i = mul-le-mul_left k (let next : j + 1 ≤ i = omega arith in next) in absurd (omega arith))
-    (λ most. most)
-    (cases_lt j i)
 
 -- a difference times k
 pub apart-scaled : (k i j : ℕ) → k * apart i j ≡ apart (k * i) (k * j)
@@ -143,7 +120,7 @@ scaled_bound area m surface weight z thick some exact bound =
     let near : m * apart (area * surface) weight ≡ apart (m * (area * surface)) (m * weight) = apart-scaled m (area * surface) weight in
     let far : area * apart (m * surface) z ≡ apart (area * (m * surface)) (area * z) = apart-scaled area (m * surface) z in
     let same : apart (area * (m * surface)) (area * z) ≡ apart (m * (area * surface)) (m * weight) = omega arith in
-    le-scaled area (2 * apart (m * surface) z) (m * thick) some (omega arith)
+    le_of_mul-le-mul_left {k = area} (omega arith) some
 
 -- at each held point twice the way off the plane is at most the thickness, times 2 ^ n
 pub off_plane-le : (n : ℕ) (heights : List ℕ) (a : ℕ) (r : Point) → IsAddress n a → holds_point n a r ≡ true →

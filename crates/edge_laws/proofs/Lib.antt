@@ -1,4 +1,5 @@
 pub mod MateLemmas
+pub mod ChiefLemmas
 pub mod IsMateLemmas
 pub mod OwnerLemmas
 pub mod EdgeLemmas

@@ -3,3 +3,4 @@ pub mod LeafAcross
 pub mod Chain
 pub mod Net
 pub mod Slots
+pub mod Chief

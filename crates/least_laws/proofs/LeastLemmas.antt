@@ -6,17 +6,18 @@ use Rattle.mesh_defs.specs.Triangle.{level_of, IsAddress, IsSplittable}
 use Rattle.mesh_defs.specs.Tiling.{IsConforming}
 use Rattle.mesh_defs.specs.ClosedSet.{IsClosed, IsSubset, IsLeastClosed, leaves_of}
 use Rattle.mesh_defs.specs.Priority.{worst_of}
-use Rattle.bintree_laws.proofs.LevelLemmas.{level-le, level_of-parent}
+use Rattle.bintree_laws.proofs.LevelLemmas.{level_of-parent}
 use Rattle.tiling_laws.specs.Ancestors.{is_above, ancestors_of}
 use Rattle.tiling_laws.proofs.DescentLemmas.{IsAddress-splittable}
 use Rattle.tiling_laws.proofs.ConformityLemmas.{IsUnder, self, below, member_above, IsConforming-leaves_of}
 use Rattle.mesh_defs.proofs.ListLemmas.{IsIn, IsIn-contains, Contains-in, Any-in, count-some, some-count, length-counts}
-use Rattle.tiling_laws.proofs.ConverseLemmas.{IsCovered, member_or_covered, above-under, under-above, IsClosed-ancestors_of, AreLeaves-ancestors_of, IsAddress-parent}
+use Rattle.tiling_laws.proofs.ConverseLemmas.{IsCovered, member_or_covered, above-under, under-above, IsClosed-ancestors_of, AreLeaves-ancestors_of}
 use Rattle.mesh_defs.specs.Falling.{IsFalling}
 use Rattle.mesh_defs.proofs.WorstLemmas.{worst-le, le-worst}
 use Rattle.closure_laws.proofs.ClosureLemmas.{same_tests, leaves_of-more, leaves_of-same, IsLeastClosed-unique, IsOuter, IsOuter-leaves_of}
 use Rattle.closure_laws.proofs.ExistenceLemmas.{least_closed_of}
 use Rattle.least_laws.specs.Least.{is_worse, IsLeastList, IsLyingIn, IsLeastMesh}
+use Rattle.closure_laws.proofs.RankLemmas.{priority-under, splittable-positive}
 
 -- the worst of a list
 
@@ -58,27 +59,13 @@ under_cases v a low (below b big u) = inr (above-under v b low big u)
 -- falling priorities
 
 module _ (n : ℕ) (priority : ℕ → ℕ) (falling : IsFalling n priority) where
-  -- what lies below has no greater priority
-  pub priority-under : (v u : ℕ) → IsAddress n u → IsUnder v u → priority u ≤ priority v
-  priority-under v u address self = omega arith
-  priority-under v u address (below w big k) =
-      let falls = falling.child w address big in
-      let rest : priority (w / 2) ≤ priority v = priority-under v (w / 2) (IsAddress-parent n w address big) k in omega arith
-
-  -- an address of positive priority is splittable
-  pub splittable-positive : (a : ℕ) → IsAddress n a → 0 < priority a → IsSplittable n a
-  splittable-positive a address some = ⊎_elim
-      (λ coarse. record { low = address.low; coarse = coarse })
-      (λ fine. let fits = level-le n a address in let none = falling.finest a address (omega arith) in absurd (omega arith))
-      (cases_lt (level_of a) (2 * n))
-
   -- what is worse than each entry of a conforming list is an ancestor of one
   pub ancestor-worse : (others : List ℕ) → IsConforming n others → (a : ℕ) → IsAddress n a → worst_of priority others < priority a →
       IsTrue (ancestors_of others a)
   ancestor-worse others conforming a address worse = ⊎_elim
       (λ member. member)
       (λ (c : IsCovered n others conforming a).
-      let over = priority-under c.entry a address c.under in
+      let over = priority-under n priority falling c.entry a address c.under in
       let worst = le-worst priority c.entry others c.listed in absurd (omega arith))
       (member_or_covered n others conforming a address)
 

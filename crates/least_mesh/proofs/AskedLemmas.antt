@@ -1,5 +1,5 @@
 -- Flags that are set from the first address up.
-use Rattle.std.proofs.Common.{◌≡◌, ℕ, ◌+◌, ◌*◌, ◌^◌, ◌<◌, ◌≤◌, Bool, true, false, ◌||◌, List, length, set, replicate, refl, sym, ◌∙◌, subst, arith, ⊎_elim}
+use Rattle.std.proofs.Common.{◌≡◌, ℕ, ◌+◌, ◌*◌, ◌^◌, ◌<◌, ◌≤◌, Bool, true, false, List, length, set, replicate, sym, ◌∙◌, subst, arith, ⊎_elim}
 use Rattle.std.proofs.lemmas.Bool.{cases_lt, ne_eqb}
 use Rattle.least_laws.specs.Least.{is_worse}
 use Rattle.least_laws.specs.Sweep.{is_flagged}
@@ -8,6 +8,7 @@ use Rattle.least_laws.proofs.SweepLemmas.{splittable-lt}
 use Rattle.least_laws.proofs.LeastLemmas.{not_worse}
 use Rattle.closure_laws.proofs.ForcingLemmas.{with-new}
 use Rattle.least_mesh.specs.Asked.{AreFlagged}
+use Rattle.mesh_defs.proofs.TestLemmas.{or_none}
 
 -- at first none is set, and below 2 none is worse
 pub asked-none : (n tolerance count : ℕ) (priority : ℕ → ℕ) (flags : List Bool) → flags ≡ replicate count false → AreFlagged (is_worse n tolerance priority) flags 2
@@ -32,10 +33,6 @@ asked-yes wanted flags k p room is = record {
   above = λ a late. other a (λ e. omega arith) ∙ p.above a (omega arith);
 }
   where
-    or_none : (b c : Bool) → c ≡ false → (b || c) ≡ b
-    or_none true c e = refl
-    or_none false c e = e
-
     other : (a : ℕ) → (k ≡ a → ⊥) → is_flagged (set flags k true) a ≡ is_flagged flags a
     other a differ = flagged-set flags k a room ∙ or_none (is_flagged flags a) _ (ne_eqb k a differ)
 

@@ -1,29 +1,14 @@
--- The chief of a diamond by cases, and that both members have the same.
-use Rattle.std.proofs.Common.{◌≡◌, ap, sym, ◌∙◌, true, ℕ, ◌≤◌, min, refl, arith, inl, inr, ⊎_elim, List}
-use Rattle.std.proofs.lemmas.Bool.{cases_lt, lt-ltb}
+-- The chief of a diamond in a pool: all members have the same one, and one slot has it.
+use Rattle.std.proofs.Common.{◌≡◌, ap, sym, ◌∙◌, true, ℕ, ◌≤◌, arith, inl, inr, List}
 use Rattle.bintree_addr.specs.declared.slot.Slot.{Slot}
 use Rattle.closure_laws.specs.Diamond.{IsInDiamond}
 use Rattle.edge_laws.specs.Edge.{mate_of}
 use Rattle.edge_laws.specs.Slots.{address_at, has_children, IsLive, IsPool}
-use Rattle.edge_laws.proofs.MateLemmas.{mate_of-low, mate_of-back}
+use Rattle.edge_laws.proofs.MateLemmas.{mate_of-low}
 use Rattle.edge_laws.proofs.IsMateLemmas.{mate_of-IsMate}
 use Rattle.edge_laws.proofs.SlotLemmas.{has_children-set}
-use Rattle.merge_queue.specs.Chief.{chief_of}
-
--- without a mate a triangle is its own chief
-pub chief_of-alone : (a : ℕ) → mate_of a ≡ 0 → chief_of a ≡ a
-chief_of-alone a none = rw (none, chief_of) refl
-
--- with one the chief is the lesser of the two
-pub chief_of-mates : (a : ℕ) → 1 ≤ mate_of a → chief_of a ≡ min a (mate_of a)
-chief_of-mates a some = rw (lt-ltb 0 (mate_of a) some, chief_of) refl
-
--- the chief of an address is an address
-chief_of-low : (a : ℕ) → 2 ≤ a → 2 ≤ chief_of a
-chief_of-low a low = ⊎_elim
-    (λ few. let alone = chief_of-alone a (omega arith) in omega arith)
-    (λ some. let lesser = chief_of-mates a some in let high = mate_of-low a low some in omega arith)
-    (cases_lt (mate_of a) 1)
+use Rattle.edge_laws.specs.Chief.{chief_of}
+use Rattle.edge_laws.proofs.ChiefLemmas.{chief_of-low, chief_of-mate}
 
 -- all members of a split diamond have the same chief
 chief_of-same : (n : ℕ) (pairs : List ℕ) (a b : ℕ) → IsPool n pairs → 2 ≤ a → has_children pairs a ≡ true → IsInDiamond n a b → chief_of b ≡ chief_of a
@@ -32,11 +17,7 @@ chief_of-same n pairs a b pool low is_split (inr mate) =
     let fits = (pool.closed.splittable a (has_children-set pairs a low is_split)).coarse in
     let is : mate_of a ≡ b = mate_of-IsMate n a b low (omega arith) mate in
     let two = mate.address.low in
-    let some : 1 ≤ mate_of a = omega arith in
-    let back : mate_of (mate_of a) ≡ a = mate_of-back a low some in
-    let other : chief_of (mate_of a) ≡ min (mate_of a) (mate_of (mate_of a)) = chief_of-mates (mate_of a) (omega arith) in
-    let own = chief_of-mates a some in
-    let same : chief_of (mate_of a) ≡ chief_of a = omega arith in ap chief_of (sym is) ∙ same
+    ap chief_of (sym is) ∙ chief_of-mate a low (omega arith)
 
 -- a mate's slot is live
 pub mate_live : (pairs : List ℕ) (s t : ℕ) → IsLive pairs s → 1 ≤ mate_of (address_at pairs s) →

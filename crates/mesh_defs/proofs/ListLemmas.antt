@@ -43,6 +43,17 @@ IsIn-append a [] ys h = inr h
 IsIn-append a (x ∷ xs) ys (inl e) = inl (inl e)
 IsIn-append a (x ∷ xs) ys (inr h) = ⊎_elim (λ left. inl (inr left)) (λ right. inr right) (IsIn-append a xs ys h)
 
+-- an entry of the first list is one of both
+pub IsIn-append-left : (a : ℕ) (xs ys : List ℕ) → IsIn a xs → IsIn a (xs ++ ys)
+IsIn-append-left a [] ys h = absurd h
+IsIn-append-left a (x ∷ xs) ys (inl e) = inl e
+IsIn-append-left a (x ∷ xs) ys (inr h) = inr (IsIn-append-left a xs ys h)
+
+-- and so is an entry of the second
+pub IsIn-append-right : (a : ℕ) (xs ys : List ℕ) → IsIn a ys → IsIn a (xs ++ ys)
+IsIn-append-right a [] ys h = h
+IsIn-append-right a (x ∷ xs) ys h = inr (IsIn-append-right a xs ys h)
+
 -- some entry passes
 pub Any-in : (p : ℕ → Bool) (xs : List ℕ) → list_any p xs ≡ true → (e : ℕ) × IsIn e xs × (p e ≡ true)
 Any-in p [] h = absurd (false≢true h)
@@ -62,6 +73,11 @@ list_any-in p (x ∷ xs) e (inr h) is = or_right (p x) (list_any p xs) (list_any
 -- 1 for a test that passes, else 0
 abbrev pub one_if : Bool → ℕ
 one_if b = cond b 1 0
+
+-- a test that fails counts nothing
+pub one_if-no : (b : Bool) → (b ≡ true → ⊥) → one_if b ≡ 0
+one_if-no true h = absurd (h refl)
+one_if-no false h = refl
 
 -- one entry more
 pub count-cons : (p : ℕ → Bool) (x : ℕ) (xs : List ℕ) → count_by p (x ∷ xs) ≡ one_if (p x) + count_by p xs
@@ -120,6 +136,11 @@ without : ℕ → List ℕ → List ℕ
 without a [] = []
 without a (x ∷ xs) = cond (eqb x a) xs (x ∷ without a xs)
 
+-- an entry of the list that is not its first one is an entry of the others
+later : (x a : ℕ) (xs : List ℕ) → eqb x a ≡ false → IsIn a (x ∷ xs) → IsIn a xs
+later x a xs other (inl e) = absurd (false≢true (sym other ∙ eq-eqb x a e))
+later x a xs other (inr k) = k
+
 -- one entry less
 length-without : (a : ℕ) (xs : List ℕ) → IsIn a xs → length xs ≡ 1 + length (without a xs)
 unfolding without
@@ -127,12 +148,8 @@ length-without a [] h = absurd h
 length-without a (x ∷ xs) h = ⊎_elim
     (λ yes. let e = ap length (cond-true (eqb x a) xs (x ∷ without a xs) yes) in omega arith)
     (λ no. let e = ap length (cond-false (eqb x a) xs (x ∷ without a xs) no) in
-    let rest : length xs ≡ 1 + length (without a xs) = length-without a xs (later no h) in omega arith)
+    let rest : length xs ≡ 1 + length (without a xs) = length-without a xs (later x a xs no h) in omega arith)
     (cases_Bool (eqb x a))
-  where
-    later : eqb x a ≡ false → IsIn a (x ∷ xs) → IsIn a xs
-    later other (inl e) = absurd (false≢true (sym other ∙ eq-eqb x a e))
-    later other (inr k) = k
 
 -- and its count goes
 count-without : (p : ℕ → Bool) (a : ℕ) (xs : List ℕ) → IsIn a xs → count_by p xs ≡ one_if (p a) + count_by p (without a xs)
@@ -144,12 +161,8 @@ count-without p a (x ∷ xs) h = ⊎_elim
     let c = count-cons p x xs in omega arith)
     (λ no. let e = ap (count_by p) (cond-false (eqb x a) xs (x ∷ without a xs) no) in
     let c = count-cons p x xs in let d = count-cons p x (without a xs) in
-    let rest : count_by p xs ≡ one_if (p a) + count_by p (without a xs) = count-without p a xs (later no h) in omega arith)
+    let rest : count_by p xs ≡ one_if (p a) + count_by p (without a xs) = count-without p a xs (later x a xs no h) in omega arith)
     (cases_Bool (eqb x a))
-  where
-    later : eqb x a ≡ false → IsIn a (x ∷ xs) → IsIn a xs
-    later other (inl e) = absurd (false≢true (sym other ∙ eq-eqb x a e))
-    later other (inr k) = k
 
 -- each test counts as many in the one as in the other
 pub count-counts : (p : ℕ → Bool) (xs ys : List ℕ) → ((a : ℕ) → count_by (λ t. eqb t a) xs ≡ count_by (λ t. eqb t a) ys) → count_by p xs ≡ count_by p ys

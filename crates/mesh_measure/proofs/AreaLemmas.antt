@@ -53,20 +53,7 @@ AreSmall-across c r s w x y a =
       v1_low = subst (λ k. k ≤ 16777216) (sym a.v1.low) (low-small r c.apex c.v0 x y apex v0);
     }
 
--- the corners of a triangle lie in the largest square
-pub IsWithin-largest : (n : ℕ) (c : Corners) → n ≤ 11 → IsWithin (2 ^ n) c → IsWithin (2 ^ 11) c
-IsWithin-largest n c small w =
-    let le : 2 ^ n ≤ 2 ^ 11 = pow_mono small in
-    record {
-      apex_x = omega arith;
-      apex_y = omega arith;
-      v0_x = omega arith;
-      v0_y = omega arith;
-      v1_x = omega arith;
-      v1_y = omega arith;
-    }
-
--- and so does a point of the grid
+-- a point of the grid lies in the largest square
 pub IsInSquare-largest : (n x y : ℕ) → n ≤ 11 → x ≤ 2 ^ n → y ≤ 2 ^ n → IsInSquare (2 ^ 11) (point x y)
 IsInSquare-largest n x y small fits fits_y = let le : 2 ^ n ≤ 2 ^ 11 = pow_mono small in record { x = omega arith; y = omega arith }
 

@@ -6,10 +6,11 @@ use Rattle.mesh_defs.specs.Triangle.{IsAddress, corners_of}
 use Rattle.mesh_defs.specs.BoundingBox.{points_of, is_in_closed, holds_point, greatest, least_of_3, greatest_of_3}
 use Rattle.bintree_laws.specs.Corners.{IsWithin}
 use Rattle.bintree_laws.proofs.CornerLemmas.{IsWithin-corners_of}
-use Rattle.deviation_laws.proofs.ExtremeLemmas.{IsIn-points_of, greatest-le, le-greatest}
+use Rattle.mesh_defs.proofs.PointLemmas.{IsPointIn-points_of, greatest-le, le-greatest}
 use Rattle.deviation_laws.specs.PlaneHeight.{area_of, off_plane, offs_in}
 use Rattle.mesh_measure.specs.Most.{IsMost, IsInRows}
-use Rattle.deviation_laws.proofs.PlaneLemmas.{area_of-some, IsMean-held, le-scaled}
+use Rattle.deviation_laws.proofs.PlaneLemmas.{area_of-some, IsMean-held}
+use Rattle.std.proofs.Math.Nat.{le_of_mul-le-mul_left}
 
 -- a mean lies between the least and the greatest
 mean-between : (total u v w a p q r : ℕ) → 0 < total → u + v + w ≡ total → total * r ≡ u * a + v * p + w * q →
@@ -25,7 +26,7 @@ mean-between total u v w a p q r some sum e =
     let high_q : w * q ≤ w * high = mul-le-mul_left w (omega arith) in
     let all_low : total * low ≡ u * low + v * low + w * low = ap (λ k. k * low) (sym sum) ∙ omega arith in
     let all_high : total * high ≡ u * high + v * high + w * high = ap (λ k. k * high) (sym sum) ∙ omega arith in
-    (le-scaled total low r some (omega arith), le-scaled total r high some (omega arith))
+    (le_of_mul-le-mul_left {m = low} {n = r} {k = total} (omega arith) some, le_of_mul-le-mul_left {m = r} {n = high} {k = total} (omega arith) some)
 
 -- a held point lies in the box
 record IsInBox (c : Corners) (r : Point) : Type 0 where
@@ -67,7 +68,7 @@ greatest-most n heights a left right low high most c address is l r b t h =
     let box = IsInBox-held n a s.0 address held in
     let x : s.0.x ≤ 2 ^ n = let k = box.x_high in omega arith in
     let y : s.0.y ≤ 2 ^ n = let k = box.y_high in omega arith in
-    let le = le-greatest f (holds_point n a) s.0 held (points_of n) (IsIn-points_of n s.0 x y) in
+    let le = le-greatest f (holds_point n a) s.0 held (points_of n) (IsPointIn-points_of n s.0 x y) in
     subst (λ k. k ≤ greatest (offs_in n heights a)) s.2 le)
     h.reached in
     omega arith

@@ -5,8 +5,9 @@ use Rattle.mesh_defs.specs.declared.point.Point.{Point}
 use Rattle.mesh_defs.specs.Triangle.{IsAddress, corners_of}
 use Rattle.mesh_defs.specs.Thickness.{height_of, apart}
 use Rattle.deviation_laws.specs.PlaneHeight.{area_of, weighted, plane_height, off_plane}
-use Rattle.deviation_laws.proofs.PlaneLemmas.{area_of-some, plane_height-exact, apart-scaled, le-scaled}
+use Rattle.deviation_laws.proofs.PlaneLemmas.{area_of-some, plane_height-exact, apart-scaled}
 use Rattle.mesh_measure.specs.Most.{gap_of, IsMost}
+use Rattle.std.proofs.Math.Nat.{le_of_mul-le-mul_left}
 
 -- a quotient without a rest
 exact : (area z total : ℕ) → 0 < area → area * z ≡ total → total / area ≡ z
@@ -28,7 +29,7 @@ off_plane-gap n heights a r address =
 
 -- a division keeps the order
 div-le : (area i j k : ℕ) → 0 < area → area * i ≤ k → area * j ≡ k → i ≤ j
-div-le area i j k some le e = le-scaled area i j some (omega arith)
+div-le area i j k some le e = le_of_mul-le-mul_left {k = area} (omega arith) some
 
 -- the greatest gap over some points of a triangle, times 2^n over twice the area, is the greatest way off the plane
 pub IsMost-off_plane : (n : ℕ) (heights : List ℕ) (a : ℕ) (P : Point → Type 0) (m area most : ℕ) → IsAddress n a →
@@ -61,5 +62,5 @@ IsMost-off_plane n heights a P m area most address side size h = ⊎_elim
         ap (λ k. k * off_plane n heights a r) size ∙ off_plane-gap n heights a r address in
         let le : 2 ^ n * gap_of (corners_of n a) (height_of n heights) r ≤ 2 ^ n * most = mul-le-mul_left (2 ^ n) (h.bound r p) in
         let same : m * most ≡ 2 ^ n * most = ap (λ k. k * most) side in
-        let smaller : off_plane n heights a r ≤ z = le-scaled area (off_plane n heights a r) z some (omega arith) in
+        let smaller : off_plane n heights a r ≤ z = le_of_mul-le-mul_left {k = area} (omega arith) some in
         omega arith

@@ -5,6 +5,7 @@ use Rattle.mesh_defs.specs.declared.point.Point.{Point}
 use Rattle.mesh_defs.specs.declared.point.Corners.{Corners}
 use Rattle.mesh_defs.specs.BoundingBox.{point, is_in_closed}
 use Rattle.mesh_measure.specs.Most.{IsMost, IsInRow, IsInRows}
+use Rattle.bintree_laws.proofs.LatticeLemmas.{same_point}
 
 -- ---- steps of a loop
 
@@ -40,10 +41,6 @@ IsMost-both P R Q f i j part left right h k = record {
 IsMost-one : (f : Point → ℕ) (s : Point) → IsMost (λ r. r ≡ s) f (f s)
 IsMost-one f s = record { bound = λ r e. (let same : f r ≡ f s = ap f e in omega arith); reached = inr (s, refl, refl) }
 
--- points with equal coordinates are equal
-same_point : (p q : Point) → p.x ≡ q.x → p.y ≡ q.y → p ≡ q
-same_point p q x y = ap (λ i. point i p.y) x ∙ ap (λ j. point q.x j) y
-
 -- ---- rows
 
 -- no column
@@ -57,7 +54,7 @@ IsMost-row_held c y left x f i from held h =
     IsMost-both (IsInRow c y left x) (λ r. r ≡ point x y) (IsInRow c y left (x + 1)) f i (f (point x y))
     (λ r q. ⊎_elim
     (λ less. inl record { held = q.held; row = q.row; from = q.from; before = less })
-    (λ least. inr (same_point r (point x y) (let before = q.before in omega arith) q.row))
+    (λ least. inr (same_point r.x r.y x y (let before = q.before in omega arith) q.row))
     (cases_lt r.x x))
     (λ r p. record { held = p.held; row = p.row; from = p.from; before = let before = p.before in omega arith })
     (λ r e. subst (IsInRow c y left (x + 1)) (sym e) record { held = held; row = refl; from = from; before = omega arith })
@@ -75,7 +72,7 @@ IsMost-row_other c y left x f i other h =
       before = ⊎_elim
           (λ less. less)
           (λ least. absurd (false≢true (sym other
-          ∙ ap (is_in_closed c) (sym (same_point r (point x y) (let before = q.before in omega arith) q.row)) ∙ q.held)))
+          ∙ ap (is_in_closed c) (sym (same_point r.x r.y x y (let before = q.before in omega arith) q.row)) ∙ q.held)))
           (cases_lt r.x x);
     })
     (λ r p. record { held = p.held; row = p.row; from = p.from; before = let before = p.before in omega arith })

@@ -19,7 +19,7 @@ use Rattle.pgm_header.specs.declared.machine.State.TheVariants.{Start, Letter, N
 use Rattle.pgm_header.specs.declared.machine.Step.{Step}
 use Rattle.pgm_header.specs.declared.machine.Step.TheVariants.{Goes, Ends, Fails}
 use Rattle.pgm_header.specs.HeaderText as text
-use Rattle.pgm_header.specs.HeaderText.{GapItem, item_bytes, is_comment_text, is_item, IsGap, IsNumberText, magic_text, IsHeaderText, IsPrefix, IsProperPrefix}
+use Rattle.pgm_header.specs.HeaderText.{GapItem, item_bytes, is_comment_text, is_item, IsGap, IsNumberText, magic_text, IsHeaderText, IsProperPrefix}
 use Rattle.pgm_header.specs.Machine.{number_ended, step_of}
 
 -- Gaps.

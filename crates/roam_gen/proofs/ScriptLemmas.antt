@@ -1,5 +1,5 @@
 -- The lines of the generated script by their numbers.
-use Rattle.std.proofs.Common.{◌≡◌, ℕ, suc, List, [], ◌∷◌, ◌++◌, length, get_or, take, drop, drop-cons, ◌+◌, ◌-◌, ◌≤◌, Some, refl, sym, ap, ◌∙◌, arith, map}
+use Rattle.std.proofs.Common.{◌≡◌, ℕ, suc, List, [], ◌∷◌, ◌++◌, get_or, take, drop, drop-cons, ◌+◌, ◌-◌, ◌≤◌, Some, refl, sym, ap, ◌∙◌, arith, map}
 use Rattle.std.proofs.lemmas.List.FromFn.{length-map-range_with_len, get_or-map-range_with_len}
 use Rattle.std.proofs.lemmas.Option.{slice_get_read, slice_get_within, get_or_from_slice_get}
 use Rattle.std.proofs.lemmas.List.{append-nil, take-append-drop}
@@ -23,10 +23,6 @@ made-at n seed i first last =
     ap (λ l. slice_get l (i - 1)) (lines-at n seed)
     ∙ slice_get_read (map f (range_with_len 1 105)) 105 (i - 1) (f i) (sym (length-map-range_with_len f 1 105)) (omega arith)
     (sym (get_or-map-range_with_len f 1 105 (i - 1) i (f i) (omega arith) (omega arith)))
-
--- the script has 105 lines
-pub lines-count : (n seed : ℕ) → length (made_lines n seed) ≡ 105
-lines-count n seed = ap length (lines-at n seed) ∙ length-map-range_with_len (line_at n seed) 1 105
 
 -- the text of one line more
 pub texts-more : (lines : List Line) (k : ℕ) (line : Line) (piece : List ℕ) → slice_get lines k ≡ Some line → piece ≡ line_text line

@@ -19,10 +19,11 @@ use Rattle.roam_mesh.specs.declared.entry.Entry.{Entry}
 use Rattle.roam_mesh.proofs.PlaceLemmas.{slot_of-at}
 use Rattle.roam_mesh.proofs.RoleLemmas.{entry_live, entry_of-at, entry_at-of}
 use Rattle.roam_mesh.proofs.PlacedLemmas.{taken_placed, placed_same, entry_below, length-cond_set}
-use Rattle.roam_mesh.proofs.TestLemmas.{by_bool, or_false}
 use Rattle.roam_mesh.proofs.HeadLemmas.{settled_fresh}
 use Rattle.roam_mesh.proofs.FreshLemmas.{HasPushed, pushed_has, pushed-fresh}
 use Rattle.roam_mesh.proofs.SlotListLemmas.{distinct_room, seen_in, in_seen, seen_distinct}
+use Rattle.text_laws.proofs.TestLemmas.{by_bool}
+use Rattle.std.proofs.Math.Bool.{or-false}
 
 -- ---- deadlines and stamps
 
@@ -143,7 +144,7 @@ beginning_step start now odometer s whole due is = record {
     has = begun_has now s.0 whole slot.0
 
     tests : (r : ℕ) → among (begun now s.0).fresh r ≡ with_triangle (among now.fresh) s.0 r
-    tests r = has.fresh r ∙ ap (λ b. among now.fresh r || b) (or_false (nat_eq s.0 r))
+    tests r = has.fresh r ∙ ap (λ b. among now.fresh r || b) (or-false (nat_eq s.0 r))
 
 -- and there are more of them
 pub beginning_more : (start now : PartsState) (odometer : ℕ) (s : Slot) → IsWhole now → IsDue now.due odometer s → IsBeginning start now odometer →

@@ -9,7 +9,7 @@ use Rattle.closure_laws.proofs.ClosureLemmas.{same_tests}
 use Rattle.edge_laws.specs.Edge.{mate_of}
 use Rattle.edge_laws.specs.Slots.{address_at, IsLive, IsPool}
 use Rattle.edge_laws.proofs.MateLemmas.{mate_of-back}
-use Rattle.merge_queue.specs.Chief.{chief_of}
+use Rattle.edge_laws.specs.Chief.{chief_of}
 use Rattle.bintree_addr.specs.declared.slot.Slot.{Slot}
 use Rattle.triangle_pool.specs.Slots.{PoolState}
 use Rattle.deferred_loop.specs.declared.gauge.Reading.{Reading}
@@ -20,10 +20,12 @@ use Rattle.roam_mesh.specs.Change.{chief_slot, rekeyed, is_mate_fresh, put_in, r
 use Rattle.roam_mesh.specs.Keeping.{CanTakeBack}
 use Rattle.roam_mesh.specs.declared.entry.Entry.{Entry}
 use Rattle.roam_mesh.proofs.PlaceLemmas.{live_below, entry_at-set, entry_of-set, slot_of-at}
-use Rattle.roam_mesh.proofs.RoleLemmas.{entry_live, ready_live, entry_cases, ready_mate, chief_ready, chief_cases, IsChiefIn, chief_in, in_chief}
+use Rattle.roam_mesh.proofs.RoleLemmas.{entry_live, ready_live, entry_cases, ready_mate, chief_ready, IsChiefIn, chief_in, in_chief}
 use Rattle.roam_mesh.proofs.PlacedLemmas.{length-cond_set, away_placed, placed_same, leaf_apart, chief_apart, role_none, rekeyed_as}
-use Rattle.roam_mesh.proofs.TestLemmas.{by_bool, or_false}
 use Rattle.roam_mesh.proofs.SlotListLemmas.{numbers_count, numbers_pop, among-push, listed_below, among_last, distinct_front}
+use Rattle.edge_laws.proofs.ChiefLemmas.{chief_of-cases}
+use Rattle.text_laws.proofs.TestLemmas.{by_bool}
+use Rattle.std.proofs.Math.Bool.{or-false}
 
 -- the last fresh slot has an entry
 pub last_entry : (parts : PartsState) (rest : List ℕ) (s : ℕ) → IsParts parts → parts.fresh ≡ rest ++ (s ∷ []) → IsLive parts.pool.pairs s
@@ -76,7 +78,7 @@ read_whole parts rest s e due whole last stale listed known = record {
     fresh r = ap (λ f. f.fresh) (entry_at-set parts.entries s e r below) ∙ ⊎_elim
         (λ (is : eqb s r ≡ true). ap (λ f. f.fresh) (cond-true (eqb s r) e (entry_at parts r) is) ∙ stale ∙ sym (subst (λ z. among rest z ≡ false) (eqb-true s r is) front.1))
         (λ (other : eqb s r ≡ false). ap (λ f. f.fresh) (cond-false (eqb s r) e (entry_at parts r) other) ∙ whole.fresh.marked r
-        ∙ ap (λ l. among l r) last ∙ among-push rest s r ∙ ap (λ b. among rest r || (b || false)) other ∙ or_false (among rest r))
+        ∙ ap (λ l. among l r) last ∙ among-push rest s r ∙ ap (λ b. among rest r || (b || false)) other ∙ or-false (among rest r))
         (cases_Bool (eqb s r))
 
 -- ---- putting a slot in its place
@@ -98,7 +100,7 @@ out_more : (out : ℕ → Bool) (s r : ℕ) → out r ≡ false → (s ≡ r →
 out_more out s r in_place other = or_from (out r) (nat_eq s r) in_place (ne_eqb s r other)
 
 out_same : (out : ℕ → Bool) (s r : ℕ) → (s ≡ r → ⊥) → out r ≡ with_triangle out s r
-out_same out s r other = sym (ap (λ b. out r || b) (ne_eqb s r other) ∙ or_false (out r))
+out_same out s r other = sym (ap (λ b. out r || b) (ne_eqb s r other) ∙ or-false (out r))
 
 module _ (n : ℕ) (pairs : List ℕ) (out : ℕ → Bool) (s : ℕ) (pool : IsPool n pairs) (own : out s ≡ false) where
   -- a diamond in its place is in it with one slot less out
@@ -154,7 +156,7 @@ module _ (n : ℕ) (pairs : List ℕ) (out : ℕ → Bool) (s : ℕ) (pool : IsP
       (λ (mate : (1 ≤ mate_of (address_at pairs s)) × (chief_of (address_at pairs s) ≡ mate_of (address_at pairs s))).
       let back : mate_of (address_at pairs (chief_slot pairs s)) ≡ address_at pairs s = ap mate_of (head.1 ∙ mate.1) ∙ mate_of-back (address_at pairs s) live mate.0 in
       (ap out (ap (slot_of pairs) mate.1) ∙ both mate.0, λ _. ap out (ap (slot_of pairs) back ∙ slot) ∙ own))
-      (chief_cases (address_at pairs s)) in
+      (chief_of-cases (address_at pairs s)) in
       record { ready = parts.0; chief = eqb-true (chief_of (address_at pairs (chief_slot pairs s))) (address_at pairs (chief_slot pairs s)) parts.1; own = tests.0; mate = tests.1 }
 
 -- what putting in does by cases
@@ -327,7 +329,7 @@ seated_has parts rest s e whole can = record {
     front = distinct_front rest s (subst (IsDistinct nat_eq) last whole.fresh.distinct)
 
     tests : (r : ℕ) → with_triangle (among rest) s r ≡ among parts.fresh r
-    tests r = sym (ap (λ l. among l r) last ∙ among-push rest s r ∙ ap (λ b. among rest r || b) (or_false (nat_eq s r)))
+    tests r = sym (ap (λ l. among l r) last ∙ among-push rest s r ∙ ap (λ b. among rest r || b) (or-false (nat_eq s r)))
 
     before : IsPlaced (record parts { entries = slice_set parts.entries s e }) (with_triangle (among rest) s)
     before = placed_same (record parts { entries = slice_set parts.entries s e }) (among parts.fresh) (with_triangle (among rest) s) tests

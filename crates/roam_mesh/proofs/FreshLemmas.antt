@@ -15,8 +15,8 @@ use Rattle.roam_mesh.specs.Parts.{PartsState, blank, best_of, worst_of, deadline
 use Rattle.roam_mesh.specs.Change.{pushed, pushed_all}
 use Rattle.roam_mesh.specs.declared.entry.Entry.{Entry}
 use Rattle.roam_mesh.proofs.PlaceLemmas.{entry_at-set}
-use Rattle.roam_mesh.proofs.TestLemmas.{or_false, or_assoc}
 use Rattle.roam_mesh.proofs.SlotListLemmas.{any-among, among-push, numbers_push}
+use Rattle.std.proofs.Math.Bool.{or-false, or_assoc}
 
 -- two lists that are listed one after the other are listed as one
 pub pushed_all-append : (parts : PartsState) (xs ys : List ℕ) → pushed_all parts (xs ++ ys) ≡ pushed_all (pushed_all parts xs) ys
@@ -113,7 +113,7 @@ pushed_one_has parts s whole below new = record {
         ∙ subst (λ z. marked (entry_at parts s) true ≡ marked (entry_at parts z) true) (eqb-true s r same) refl
         ∙ ap (marked (entry_at parts r)) (sym (or_right (among parts.fresh r) (among (s ∷ []) r) (ap (λ b. b || false) same))))
         (λ (other : eqb s r ≡ false). cond-false (eqb s r) (marked (entry_at parts s) true) (entry_at parts r) other
-        ∙ ap (marked (entry_at parts r)) (whole.fresh.marked r ∙ sym (or_false (among parts.fresh r)) ∙ sym (ap (λ b. among parts.fresh r || (b || false)) other)))
+        ∙ ap (marked (entry_at parts r)) (whole.fresh.marked r ∙ sym (or-false (among parts.fresh r)) ∙ sym (ap (λ b. among parts.fresh r || (b || false)) other)))
         (cases_Bool (eqb s r))
         ∙ ap (marked (entry_at parts r)) (sym (among-push parts.fresh s r))
 
@@ -127,7 +127,7 @@ same_has parts whole = record {
   asked = refl;
   whole = whole;
   entries = λ r. ap (marked (entry_at parts r)) (whole.fresh.marked r);
-  fresh = λ r. sym (or_false (among parts.fresh r));
+  fresh = λ r. sym (or-false (among parts.fresh r));
   placed = λ out placed. placed;
 }
 
@@ -147,7 +147,7 @@ pushed_has_one parts s whole below =
           (λ (same : eqb s r ≡ true).
           let there : among parts.fresh r ≡ true = subst (λ z. among parts.fresh z ≡ true) (eqb-true s r same) (sym (whole.fresh.marked s) ∙ old) in
           there ∙ sym (or_left (among parts.fresh r) (among (s ∷ []) r) there))
-          (λ (other : eqb s r ≡ false). sym (or_false (among parts.fresh r)) ∙ sym (ap (λ b. among parts.fresh r || (b || false)) other))
+          (λ (other : eqb s r ≡ false). sym (or-false (among parts.fresh r)) ∙ sym (ap (λ b. among parts.fresh r || (b || false)) other))
           (cases_Bool (eqb s r));
       placed = λ out placed. placed;
     })

@@ -12,7 +12,7 @@ use Rattle.edge_laws.specs.Edge.{mate_of}
 use Rattle.edge_laws.specs.Slots.{address_at, has_children, IsLive, IsPool, HasLeaf, diamond_size}
 use Rattle.edge_laws.proofs.SlotLemmas.{size_one, size_two}
 use Rattle.edge_laws.proofs.MateLemmas.{mate_of-low}
-use Rattle.merge_queue.specs.Chief.{chief_of}
+use Rattle.edge_laws.specs.Chief.{chief_of}
 use Rattle.frame_steps.specs.Stamps.{Stamp}
 use Rattle.split_queue.specs.First.{IsFirstRank}
 use Rattle.force_split.specs.Chain.{chain_size}

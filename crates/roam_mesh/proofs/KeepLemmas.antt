@@ -12,11 +12,12 @@ use Rattle.roam_mesh.specs.Parts.{PartsState, entry_at, is_entry_at, IsWhole, Is
 use Rattle.roam_mesh.specs.Change.{pushed_all}
 use Rattle.roam_mesh.specs.Keeping.{CanTakeBack}
 use Rattle.roam_mesh.specs.declared.entry.Entry.{Entry}
-use Rattle.roam_mesh.proofs.TestLemmas.{by_bool, or_false}
 use Rattle.roam_mesh.proofs.SlotListLemmas.{among-push, distinct_front}
 use Rattle.roam_mesh.proofs.FreshLemmas.{pushed_has, pushed_all-append, pushed-fresh}
 use Rattle.roam_mesh.proofs.EnterLemmas.{HasSeated}
 use Rattle.roam_mesh.proofs.PoolChangeLemmas.{IsChanged, IsKept, listed_same}
+use Rattle.text_laws.proofs.TestLemmas.{by_bool}
+use Rattle.std.proofs.Math.Bool.{or-false}
 
 -- a slot that is listed after all others is the last fresh one
 pub pushed_last : (parts : PartsState) (xs : List ℕ) (s : ℕ) → IsWhole parts → parts.fresh ≡ [] → ((r : ℕ) → among xs r ≡ true → r < length parts.entries) → among xs s ≡ false →
@@ -29,7 +30,7 @@ pushed_last parts xs s whole none below apart =
 -- a slot before the last one is fresh where it is one of all, and not the last
 front_fresh : (fresh rest : List ℕ) (s r : ℕ) → fresh ≡ rest ++ (s ∷ []) → nat_eq s r ≡ false → among rest r ≡ among fresh r
 front_fresh fresh rest s r last other =
-    sym (ap (λ l. among l r) last ∙ among-push rest s r ∙ ap (λ b. among rest r || (b || false)) other ∙ or_false (among rest r))
+    sym (ap (λ l. among l r) last ∙ among-push rest s r ∙ ap (λ b. among rest r || (b || false)) other ∙ or-false (among rest r))
 
 -- the entry that was seated, and another one
 seated_own : (before after : PartsState) (rest : List ℕ) (s r : ℕ) (e : Entry) → HasSeated before after rest s e → nat_eq s r ≡ true → entry_at after r ≡ e

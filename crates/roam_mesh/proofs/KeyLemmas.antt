@@ -8,7 +8,7 @@ use Rattle.edge_laws.specs.Edge.{mate_of}
 use Rattle.edge_laws.proofs.MateLemmas.{mate_of-low, mate_of-back}
 use Rattle.bintree_addr.specs.declared.rank.Rank.{Rank}
 use Rattle.bintree_addr.specs.RankOrder.{ComesFirst}
-use Rattle.merge_queue.specs.Chief.{chief_of}
+use Rattle.edge_laws.specs.Chief.{chief_of}
 use Rattle.edge_laws.specs.Slots.{address_at, IsLive, IsPool}
 use Rattle.bintree_addr.specs.declared.slot.Slot.{Slot}
 use Rattle.roam_mesh.specs.Mesh.{slot_of}
@@ -16,7 +16,8 @@ use Rattle.roam_mesh.specs.Parts.{PartsState, IsWhole, blank, entry_at, entry_of
 use Rattle.roam_mesh.specs.Keys.{is_sure, IsOfDiamond, IsBetterFirst, IsKnownRank, IsUnasked}
 use Rattle.roam_mesh.specs.declared.entry.Entry.{Entry}
 use Rattle.roam_mesh.proofs.PlaceLemmas.{live_below, slot_of-at, one_slot}
-use Rattle.roam_mesh.proofs.RoleLemmas.{ready_live, ready_mate, chief_cases}
+use Rattle.roam_mesh.proofs.RoleLemmas.{ready_live, ready_mate}
+use Rattle.edge_laws.proofs.ChiefLemmas.{chief_of-cases}
 
 -- one of two ranks is no later, or the other comes first
 pub rank_cases : (r q : Rank) → IsNoLater r.p r.tri q.p q.tri ⊎ ComesFirst q r
@@ -102,7 +103,7 @@ pub diamond_chief_rank : (parts : PartsState) (a : ℕ) → 2 ≤ a → diamond_
 diamond_chief_rank parts a low = ⊎_elim
     (λ (own : chief_of a ≡ a). ap (diamond_rank parts) own)
     (λ (mate : (1 ≤ mate_of a) × (chief_of a ≡ mate_of a)). ap (diamond_rank parts) mate.1 ∙ diamond_mate_rank parts a low mate.0)
-    (chief_cases a)
+    (chief_of-cases a)
 
 -- the key of a diamond is that of one of its triangles
 pub diamond_rank_own : (parts : PartsState) (a : ℕ) → (diamond_rank parts a ≡ worst_rank parts a) ⊎ ((1 ≤ mate_of a) × (diamond_rank parts a ≡ worst_rank parts (mate_of a)))

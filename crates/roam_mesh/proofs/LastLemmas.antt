@@ -13,7 +13,7 @@ use Rattle.bintree_addr.specs.declared.rank.Rank.{Rank}
 use Rattle.bintree_addr.specs.declared.slot.Slot.{Slot}
 use Rattle.bintree_addr.specs.RankOrder.{ComesFirst}
 use Rattle.slot_heap.specs.Keys.{IsEmpty}
-use Rattle.merge_queue.specs.Chief.{chief_of}
+use Rattle.edge_laws.specs.Chief.{chief_of}
 use Rattle.merge_queue.specs.Last.{IsLastRank}
 use Rattle.deferred_loop.specs.Seen.{best_key, worst_key, IsDecided, IsLastHead}
 use Rattle.roam_mesh.specs.Mesh.{slot_of, members_of}

@@ -1,5 +1,5 @@
 -- The two halves of the square, as a pool of pairs and as parts.
-use Rattle.std.proofs.Common.{◌≡◌, ◌≢◌, ℕ, zero, suc, ◌+◌, ◌-◌, ◌*◌, ◌/◌, ◌<◌, ◌≤◌, ◌||◌, Bool, true, false, not, ◌&&◌, cond, nat_eq, nat_lt, nat_le, List, [], length, replicate, Option, None, Some, slice_index, slice_index_or, slice_set, length-set, get_or-set_same, get_or-set_other, refl, sym, ◌∙◌, ap, ap₂, subst, arith, ⊎_elim}
+use Rattle.std.proofs.Common.{◌≡◌, ◌≢◌, ℕ, zero, suc, ◌+◌, ◌-◌, ◌*◌, ◌/◌, ◌<◌, ◌≤◌, ◌||◌, Bool, false, not, ◌&&◌, cond, nat_eq, nat_lt, nat_le, List, [], length, replicate, Option, None, Some, slice_index, slice_index_or, slice_set, length-set, get_or-set_same, get_or-set_other, refl, sym, ◌∙◌, ap, ap₂, subst, arith, ⊎_elim}
 use Rattle.std.specs.List.{IsDistinct}
 use Rattle.std.proofs.lemmas.Bool.{cases_lt, both_ways, and_left, and_right, and_from, not_from_false, false_from_ne_true, lt-ltb, le-ltb, lt-leb, le-leb}
 use Rattle.std.proofs.lemmas.List.{length-replicate}
@@ -8,13 +8,14 @@ use Rattle.bintree_addr.specs.declared.rank.Rank.{Rank}
 use Rattle.edge_laws.specs.Edge.{mate_of}
 use Rattle.edge_laws.specs.Slots.{address_at, has_children, split_set, room_of, IsPool}
 use Rattle.edge_laws.proofs.SlotLemmas.{pair_of}
-use Rattle.merge_queue.specs.Chief.{chief_of}
+use Rattle.edge_laws.specs.Chief.{chief_of}
 use Rattle.triangle_pool.specs.Slots.{PoolState}
 use Rattle.roam_mesh.specs.Parts.{PartsState, blank, entry_at, is_leaf_at, is_bare, is_ready, is_ready_at, is_chief_at, is_entry_at, is_out, leaf_rank, diamond_rank, IsSlotList, IsWhole, IsNear, IsParts}
 use Rattle.roam_mesh.specs.Base.{AreEmpty}
 use Rattle.roam_mesh.specs.declared.entry.Entry.{Entry}
 use Rattle.roam_mesh.proofs.PoolChangeLemmas.{pairs_counted}
-use Rattle.roam_mesh.proofs.TestLemmas.{by_bool}
+use Rattle.text_laws.proofs.TestLemmas.{by_bool}
+use Rattle.std.proofs.Math.Bool.{or-false, and-true}
 
 -- ---- the pairs
 
@@ -91,7 +92,7 @@ base_parts parts pool base entries split merge due none = record {
         (sym (and_left (is_chief_at parts.pool.pairs r) (not (is_out parts.pool.pairs (among parts.fresh) r))
         (and_left (is_ready_at parts.pool.pairs r) (nat_eq (chief_of (address_at parts.pool.pairs r)) (address_at parts.pool.pairs r)) (base_ready parts.pool.pairs base r))));
     due = λ r. due r ∙ ap₂ (λ b (e : Entry). cond b (Some (cond (e.stamped && not e.expired) (e.odometer + e.slack + 1) 0)) None)
-        (sym (role (is_entry_at parts.pool.pairs r) (nat_lt r 2) r (ap₂ (λ x y. x || y) (base_leaf parts.pool.pairs base r) (base_ready parts.pool.pairs base r) ∙ or_none (nat_lt r 2))))
+        (sym (role (is_entry_at parts.pool.pairs r) (nat_lt r 2) r (ap₂ (λ x y. x || y) (base_leaf parts.pool.pairs base r) (base_ready parts.pool.pairs base r) ∙ or-false (nat_lt r 2))))
         (sym (entries r));
     stamped = λ r is. absurd (both_ways (entry_at parts r).stamped (ap (λ (e : Entry). e.stamped) (entries r)) is);
     known = λ r is. absurd (both_ways (entry_at parts r).known (ap (λ (e : Entry). e.known) (entries r)) is);
@@ -99,16 +100,8 @@ base_parts parts pool base entries split merge due none = record {
   entries = λ r fresh. absurd (both_ways (among parts.fresh r) (ap (λ l. among l r) none) fresh);
 }
   where
-    or_none : (b : Bool) → (b || false) ≡ b
-    or_none true = refl
-    or_none false = refl
-
     role : (test is : Bool) (r : ℕ) → test ≡ is → (test && not (among parts.fresh r)) ≡ is
-    role test is r same = ap (λ l. test && not (among l r)) none ∙ and_true test ∙ same
-      where
-        and_true : (b : Bool) → (b && true) ≡ b
-        and_true true = refl
-        and_true false = refl
+    role test is r same = ap (λ l. test && not (among l r)) none ∙ and-true test ∙ same
 
 -- ---- the lists
 

@@ -11,14 +11,18 @@ use Rattle.bintree_addr.specs.declared.slot.Slot.{Slot}
 use Rattle.edge_laws.specs.Edge.{mate_of}
 use Rattle.edge_laws.specs.Slots.{address_at, IsLive, IsPool}
 use Rattle.edge_laws.proofs.MateLemmas.{mate_of-low, mate_of-back}
-use Rattle.merge_queue.specs.Chief.{chief_of}
+use Rattle.edge_laws.specs.Chief.{chief_of}
 use Rattle.roam_mesh.specs.declared.entry.Entry.{Entry}
 use Rattle.roam_mesh.specs.Mesh.{slot_of}
 use Rattle.roam_mesh.specs.Parts.{PartsState, blank, entry_at, entry_of, best_of, worst_of, leaf_rank, worst_rank, better_of, diamond_rank, deadline_of, is_leaf_at, is_ready_at, is_chief_at, is_entry_at, is_out, IsSlotList, IsWhole, IsPlaced}
 use Rattle.roam_mesh.specs.Change.{chief_slot, gone_entry, taken_out, left, left_all, is_mate_fresh}
 use Rattle.roam_mesh.proofs.PlaceLemmas.{live_below, slot_of-at, one_slot, entry_at-set}
-use Rattle.roam_mesh.proofs.RoleLemmas.{entry_live, ready_live, not_both, entry_cases, ready_mate, chief_ready, chief_mate, chief_cases}
-use Rattle.roam_mesh.proofs.TestLemmas.{by_bool, cond_same, or_none, or_assoc}
+use Rattle.roam_mesh.proofs.RoleLemmas.{entry_live, ready_live, not_both, entry_cases, ready_mate, chief_ready}
+use Rattle.roam_mesh.proofs.TestLemmas.{cond_same}
+use Rattle.edge_laws.proofs.ChiefLemmas.{chief_of-mate, chief_of-cases}
+use Rattle.text_laws.proofs.TestLemmas.{by_bool}
+use Rattle.mesh_defs.proofs.TestLemmas.{or_none}
+use Rattle.std.proofs.Math.Bool.{or_assoc}
 
 -- ---- which slots are out
 
@@ -60,7 +64,7 @@ chief_own n pairs s r pool ready is =
     (λ (mate : (1 ≤ mate_of (address_at pairs s)) × (chief_of (address_at pairs s) ≡ mate_of (address_at pairs s))).
     let back : mate_of (address_at pairs r) ≡ address_at pairs s = ap mate_of (head ∙ mate.1) ∙ mate_of-back (address_at pairs s) live mate.0 in
     inr (omega arith, ap (slot_of pairs) back ∙ slot_of-at n pairs s pool live))
-    (chief_cases (address_at pairs s))
+    (chief_of-cases (address_at pairs s))
 
 -- a leaf is none of a diamond
 pub leaf_apart : (pairs : List ℕ) (s r : ℕ) → is_leaf_at pairs s ≡ true → is_ready_at pairs r ≡ true → s ≢ r
@@ -75,7 +79,7 @@ chief_apart n pairs s r pool chief other =
     let live : IsLive pairs r = ready_live pairs r parts.0 in
     let slot : slot_of pairs (address_at pairs r) ≡ r = slot_of-at n pairs r pool live in (
       λ same. other (ap (chief_slot pairs) same ∙ ap (slot_of pairs) head ∙ slot),
-      λ some same. other (ap (slot_of pairs) (ap chief_of (ap (address_at pairs) same ∙ (ready_mate n pairs r pool parts.0 some).1) ∙ chief_mate (address_at pairs r) live some ∙ head) ∙ slot),
+      λ some same. other (ap (slot_of pairs) (ap chief_of (ap (address_at pairs) same ∙ (ready_mate n pairs r pool parts.0 some).1) ∙ chief_of-mate (address_at pairs r) live some ∙ head) ∙ slot),
     )
 
 -- ---- what the queues hold

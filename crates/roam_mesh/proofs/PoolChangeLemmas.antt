@@ -4,14 +4,14 @@ use Rattle.std.specs.List.{IsDistinct}
 use Rattle.std.proofs.lemmas.Bool.{true≢false, both_ways, and_parts, and_from, not_from_false, false_from_ne_true, cond-true, cond-false, cond_both, not-true}
 use Rattle.edge_laws.specs.Edge.{mate_of}
 use Rattle.edge_laws.specs.Slots.{address_at, IsPool, room_of, split_set}
-use Rattle.merge_queue.specs.Chief.{chief_of}
+use Rattle.edge_laws.specs.Chief.{chief_of}
 use Rattle.triangle_pool.specs.Slots.{PoolState}
 use Rattle.bintree_addr.specs.declared.rank.Rank.{Rank}
 use Rattle.roam_mesh.specs.Mesh.{slot_of, members_of}
 use Rattle.roam_mesh.specs.Parts.{PartsState, entry_at, worst_of, is_leaf_at, is_ready_at, is_chief_at, is_entry_at, is_out, leaf_rank, better_of, diamond_rank, deadline_of, IsPlaced, IsWhole, seen_parts, stamp_in, IsNear}
 use Rattle.roam_mesh.proofs.PlaceLemmas.{slot_of-at, one_slot}
 use Rattle.roam_mesh.proofs.RoleLemmas.{leaf_entry, ready_entry, entry_cases, ready_live, ready_mate, entry_live, entry_of-at, entry_at-of, IsChiefIn, chief_in, in_chief}
-use Rattle.roam_mesh.proofs.TestLemmas.{by_bool, same_cond}
+use Rattle.roam_mesh.proofs.TestLemmas.{same_cond}
 use Rattle.edge_laws.proofs.SlotLemmas.{leaves_count}
 use Rattle.mesh_defs.specs.ClosedSet.{leaves_of, among}
 use Rattle.roam_mesh.specs.declared.entry.Entry.{Entry}
@@ -21,6 +21,7 @@ use Rattle.roam_mesh.proofs.FreshLemmas.{HasPushed}
 use Rattle.frame_steps.specs.Deferred.{IsEntry}
 use Rattle.deferred_loop.specs.Seen.{IsSame, IsNewEntry, IsRenewed}
 use Rattle.roam_mesh.proofs.SlotListLemmas.{seen_in, in_seen, seen_distinct}
+use Rattle.text_laws.proofs.TestLemmas.{by_bool}
 
 -- ---- sizes
 

@@ -1,5 +1,5 @@
 -- The roles of slots, and the leaves and diamonds of the pool's set.
-use Rattle.std.proofs.Common.{◌≡◌, ℕ, zero, suc, ◌+◌, ◌*◌, ◌/◌, ◌^◌, ◌≤◌, ◌⊎◌, ◌||◌, ◌&&◌, true, false, not, nat_eq, nat_le, inl, inr, List, Contains, length, get_or, min, refl, sym, ◌∙◌, ap, subst, arith, ⊎_elim, Bool, eqb, nat_lt}
+use Rattle.std.proofs.Common.{◌≡◌, ℕ, zero, suc, ◌+◌, ◌*◌, ◌/◌, ◌^◌, ◌≤◌, ◌⊎◌, ◌||◌, ◌&&◌, true, false, not, nat_eq, nat_le, inl, inr, List, Contains, length, get_or, refl, sym, ◌∙◌, ap, subst, arith, ⊎_elim, Bool, eqb, nat_lt}
 use Rattle.std.specs.List.{range_with_len}
 use Rattle.std.proofs.lemmas.Bool.{cases_lt, both_ways, and_parts, and_from, or_cases, or_left, or_right, leb-true, le-leb, not-true, not_from_false, not_from_true, and_right, eqb-true, eq-eqb, lt-ltb, false_from_ne_true, or_parts, or_from}
 use Rattle.mesh_defs.specs.Triangle.{IsMate, level_of}
@@ -21,12 +21,13 @@ use Rattle.edge_laws.proofs.LeafLemmas.{leaf-level}
 use Rattle.edge_laws.proofs.SlotLemmas.{IsLeafOf-slot, has_children-set, set-has_children, set_false, same_closed, member_mate, member_parent, members_count, leaves_count}
 use Rattle.frame_steps.specs.Deferred.{IsEntry, leaf as of_leaf, member as of_diamond}
 use Rattle.frame_steps.specs.Steps.{leaf_count}
-use Rattle.merge_queue.specs.Chief.{chief_of}
+use Rattle.edge_laws.specs.Chief.{chief_of}
 use Rattle.triangle_pool.specs.Slots.{PoolState}
 use Rattle.roam_mesh.specs.Mesh.{slot_of, members_of}
 use Rattle.roam_mesh.specs.Parts.{is_leaf_at, is_bare, is_ready, is_ready_at, is_chief_at, is_entry_at, is_out}
 use Rattle.roam_mesh.specs.Change.{chief_slot}
 use Rattle.roam_mesh.proofs.PlaceLemmas.{address-slot_of}
+use Rattle.edge_laws.proofs.ChiefLemmas.{chief_of-mate, chief_of-cases}
 
 -- the listed members are the pool's set
 pub among-members : (pool : PoolState) (a : ℕ) → IsPool pool.n pool.pairs → among (members_of pool) a ≡ split_set pool.pairs a
@@ -280,31 +281,6 @@ ready_mate n pairs s is ready some =
     let at = address-slot_of n pairs (mate_of a) is low (member_parent n pairs (mate_of a) is low two.split) in
     (ready_at_from pairs (slot_of pairs (mate_of a)) (subst (λ z. 2 ≤ z) (sym at) low) (subst (λ z. IsMergeReady pairs z) (sym at) (ready_turned pairs a parts.0 some parts.1)), at)
 
-chief_alone : (a : ℕ) → mate_of a ≡ 0 → chief_of a ≡ a
-chief_alone a none = rw (none, chief_of) refl
-
-chief_mates : (a : ℕ) → 1 ≤ mate_of a → chief_of a ≡ min a (mate_of a)
-chief_mates a some = rw (lt-ltb 0 (mate_of a) some, chief_of) refl
-
--- the chief of a diamond is that of its mate
-pub chief_mate : (a : ℕ) → 2 ≤ a → 1 ≤ mate_of a → chief_of (mate_of a) ≡ chief_of a
-chief_mate a low some =
-    let high = mate_of-low a low some in
-    let back = mate_of-back a low some in
-    let own = chief_mates a some in
-    let other = chief_mates (mate_of a) (let more : 1 ≤ mate_of (mate_of a) = omega arith in more) in
-    let same : min (mate_of a) (mate_of (mate_of a)) ≡ min (mate_of a) a = ap (min (mate_of a)) back in omega arith
-
--- the chief is the triangle or its mate
-pub chief_cases : (a : ℕ) → (chief_of a ≡ a) ⊎ ((1 ≤ mate_of a) × (chief_of a ≡ mate_of a))
-chief_cases a = ⊎_elim
-    (λ none. inl (chief_alone a (let z : mate_of a ≡ 0 = omega arith in z)))
-    (λ some. let lesser = chief_mates a some in ⊎_elim
-    (λ less. inl (let z : chief_of a ≡ a = omega arith in z))
-    (λ more. inr (some, (let z : chief_of a ≡ mate_of a = omega arith in z)))
-    (cases_lt a (mate_of a)))
-    (cases_lt (mate_of a) 1)
-
 -- the chief of a diamond that can be merged stands at its slot
 pub chief_ready : (n : ℕ) (pairs : List ℕ) (s : ℕ) → IsPool n pairs → is_ready_at pairs s ≡ true →
     (is_chief_at pairs (chief_slot pairs s) ≡ true) × (address_at pairs (chief_slot pairs s) ≡ chief_of (address_at pairs s))
@@ -329,10 +305,10 @@ chief_ready n pairs s is ready =
     let at : address_at pairs (chief_slot pairs s) ≡ chief_of a = ap (address_at pairs) slot ∙ other.1 ∙ sym mate.1 in (
       and_from (is_ready_at pairs (chief_slot pairs s)) (nat_eq (chief_of (address_at pairs (chief_slot pairs s))) (address_at pairs (chief_slot pairs s)))
           (ap (is_ready_at pairs) slot ∙ other.0)
-          (eq-eqb (chief_of (address_at pairs (chief_slot pairs s))) (address_at pairs (chief_slot pairs s)) (ap chief_of (at ∙ mate.1) ∙ chief_mate a low some ∙ sym at)),
+          (eq-eqb (chief_of (address_at pairs (chief_slot pairs s))) (address_at pairs (chief_slot pairs s)) (ap chief_of (at ∙ mate.1) ∙ chief_of-mate a low some ∙ sym at)),
       at,
     ))
-    (chief_cases a)
+    (chief_of-cases a)
 
 -- ---- diamonds in their places
 

@@ -11,7 +11,7 @@ use Rattle.edge_laws.specs.Slots.{address_at, IsLive, IsPool}
 use Rattle.bintree_addr.specs.declared.rank.Rank.{Rank}
 use Rattle.bintree_addr.specs.declared.slot.Slot.{Slot}
 use Rattle.triangle_pool.specs.Slots.{PoolState}
-use Rattle.merge_queue.specs.Chief.{chief_of}
+use Rattle.edge_laws.specs.Chief.{chief_of}
 use Rattle.deferred_loop.specs.Seen.{IsTold, IsForgotten}
 use Rattle.frame_steps.specs.Deferred.{IsEntry}
 use Rattle.roam_mesh.specs.Mesh.{slot_of, members_of, pool_set}
@@ -23,7 +23,9 @@ use Rattle.roam_mesh.proofs.RoleLemmas.{entry_live, entry_at-of, ready_live, ent
 use Rattle.roam_mesh.proofs.KeyLemmas.{diamond_alone, diamond_two}
 use Rattle.roam_mesh.proofs.SlotListLemmas.{any-among, among-push, listed_below, numbers_push, distinct_front, among_last}
 use Rattle.roam_mesh.proofs.PlacedLemmas.{entry_below, placed_same, leaf_apart, chief_apart, entry_other, marks_kept, rekeyed_as}
-use Rattle.roam_mesh.proofs.TestLemmas.{by_bool, cond_same, or_none}
+use Rattle.roam_mesh.proofs.TestLemmas.{cond_same}
+use Rattle.text_laws.proofs.TestLemmas.{by_bool}
+use Rattle.mesh_defs.proofs.TestLemmas.{or_none}
 
 -- a key that is set
 set_key : {A : Type 0} (xs : List (Option A)) (s r : ℕ) (key : A) → s < length xs → slice_index_or (slice_set xs s (Some key)) r None ≡ cond (nat_eq s r) (Some key) (slice_index_or xs r None)

@@ -12,7 +12,7 @@ use Rattle.triangle_pool.specs.Slots.{PoolState}
 use Rattle.bintree_addr.specs.declared.rank.Rank.{Rank}
 use Rattle.bintree_addr.specs.declared.slot.Slot.{Slot}
 use Rattle.frame_steps.specs.Stamps.{Stamp}
-use Rattle.merge_queue.specs.Chief.{chief_of}
+use Rattle.edge_laws.specs.Chief.{chief_of}
 use Rattle.deferred_loop.specs.Seen.{SeenMesh}
 use Rattle.roam_mesh.specs.Mesh.{MeshState, slot_of, pool_set}
 use Rattle.roam_mesh.specs.declared.entry.Entry.{Entry}

@@ -11,26 +11,16 @@ use Rattle.mesh_defs.specs.Tiling.{IsStrictlyBetween, IsConforming}
 use Rattle.mesh_defs.specs.ClosedSet.{IsClosed, leaves_of}
 use Rattle.bintree_laws.proofs.LevelLemmas.{level_of-left, level_of-right}
 use Rattle.bintree_laws.proofs.CornerLemmas.{corners_of-left, corners_of-right}
-use Rattle.tiling_laws.proofs.WayLemmas.{Way, north_west, south_east, point, IsRun, IsInside-between, IsStrictlyBetween-inside, IsRun-first_half, IsRun-second_half, IsInside-first_half, IsInside-second_half, IsInside-middle}
+use Rattle.tiling_laws.proofs.WayLemmas.{Way, north_west, south_east, point, IsRun, IsInside-between, IsStrictlyBetween-inside, IsRun-first_half, IsRun-second_half, IsInside-first_half, IsInside-second_half, IsInside-middle, IsStrictlyBetween-reversed}
 use Rattle.tiling_laws.proofs.TurnLemmas.{three, six, IsTurned, leg, IsRun-base, IsRun-right_leg, IsTurned-right}
 use Rattle.tiling_laws.proofs.DescentLemmas.{IsDown, IsDown-left, IsDown-right, IsDown-2, IsDown-3, forked_of}
 use Rattle.tiling_laws.proofs.ConformityLemmas.{IsConforming-leaves_of}
-use Rattle.mesh_defs.proofs.ListLemmas.{IsIn, Contains-in}
+use Rattle.mesh_defs.proofs.ListLemmas.{IsIn, Contains-in, IsIn-append-left, IsIn-append-right}
 use Rattle.strip_laws.specs.Strip.{has_even_level, strip_under, strip_of, SharesEdge, IsChain, one, more, IsRing}
-use Rattle.strip_laws.proofs.EdgeLemmas.{reversed, HasEdgeAlong, HasEdgeAlong-longer, SharesEdge-along}
+use Rattle.strip_laws.proofs.EdgeLemmas.{HasEdgeAlong, HasEdgeAlong-longer, SharesEdge-along}
 use Rattle.strip_laws.proofs.OrderLemmas.{leaf-strip_of}
 
 -- ---- lists and chains
-
--- an entry of the first list, or of the second, is one of both
-IsIn-left : (a : ℕ) (xs ys : List ℕ) → IsIn a xs → IsIn a (xs ++ ys)
-IsIn-left a [] ys h = absurd h
-IsIn-left a (x ∷ xs) ys (inl e) = inl e
-IsIn-left a (x ∷ xs) ys (inr h) = inr (IsIn-left a xs ys h)
-
-IsIn-right : (a : ℕ) (xs ys : List ℕ) → IsIn a ys → IsIn a (xs ++ ys)
-IsIn-right a [] ys h = h
-IsIn-right a (x ∷ xs) ys h = inr (IsIn-right a xs ys h)
 
 -- the first and the last triangle of a chain are entries
 IsIn-first : (n first last : ℕ) (xs : List ℕ) → IsChain n first last xs → IsIn first xs
@@ -75,7 +65,7 @@ record IsFolded (from to apex middle : Point) : Type 0 where
 -- the same from the other end
 IsFolded-turned : (from to apex middle : Point) → IsFolded from to apex middle → IsFolded to from apex middle
 IsFolded-turned from to apex middle f = record {
-  inside = reversed from to middle f.inside;
+  inside = IsStrictlyBetween-reversed from to middle f.inside;
   near_part = f.far_part;
   far_part = f.near_part;
   way = f.way;
@@ -95,9 +85,9 @@ IsFolded-turn w k c some t =
       inside = IsStrictlyBetween-inside (three w) (2 * k) c.v0 c.v1 middle base (IsInside-middle (three w) k c.v0 middle some first);
       near_part = λ r b. IsStrictlyBetween-inside (three w) (2 * k) c.v0 c.v1 r base
           (IsInside-first_half (three w) k c.v0 r (IsInside-between (three w) k c.v0 middle r some first b));
-      far_part = λ r b. reversed c.v0 c.v1 r (IsStrictlyBetween-inside (three w) (2 * k) c.v0 c.v1 r base
+      far_part = λ r b. IsStrictlyBetween-reversed c.v0 c.v1 r (IsStrictlyBetween-inside (three w) (2 * k) c.v0 c.v1 r base
           (IsInside-second_half (three w) k c.v0 middle r first
-          (IsInside-between (three w) k middle c.v1 r some second (reversed c.v1 middle r b))));
+          (IsInside-between (three w) k middle c.v1 r some second (IsStrictlyBetween-reversed c.v1 middle r b))));
       way = six (three w);
       steps = k;
       some = some;
@@ -160,13 +150,13 @@ joined member even left right a = elim member as (λ _. List ℕ) [
 
 -- it has the entries of both
 IsIn-joined_left : (member even : Bool) (left right : List ℕ) (a e : ℕ) → member ≡ true → IsIn e left → IsIn e (joined member even left right a)
-IsIn-joined_left true true left right a e is h = IsIn-left e left right h
-IsIn-joined_left true false left right a e is h = IsIn-right e right left h
+IsIn-joined_left true true left right a e is h = IsIn-append-left e left right h
+IsIn-joined_left true false left right a e is h = IsIn-append-right e right left h
 IsIn-joined_left false even left right a e is h = absurd (false≢true is)
 
 IsIn-joined_right : (member even : Bool) (left right : List ℕ) (a e : ℕ) → member ≡ true → IsIn e right → IsIn e (joined member even left right a)
-IsIn-joined_right true true left right a e is h = IsIn-right e left right h
-IsIn-joined_right true false left right a e is h = IsIn-left e right left h
+IsIn-joined_right true true left right a e is h = IsIn-append-right e left right h
+IsIn-joined_right true false left right a e is h = IsIn-append-left e right left h
 IsIn-joined_right false even left right a e is h = absurd (false≢true is)
 
 -- each entry is in the list
@@ -180,9 +170,9 @@ module _ (n : ℕ) (list : List ℕ) (conforming : IsConforming n list) where
       Crosses n back out from apex middle near → Crosses n back out apex to middle far → Crosses n out back from to apex (near ++ far)
   Crosses-both out back from to apex middle near far opposite f listed x y =
       let in_near : Contains list x.last =
-      Contains-in x.last list (listed x.last (IsIn-left x.last near far (IsIn-last n x.first x.last near x.chain))) in
+      Contains-in x.last list (listed x.last (IsIn-append-left x.last near far (IsIn-last n x.first x.last near x.chain))) in
       let in_far : Contains list y.first =
-      Contains-in y.first list (listed y.first (IsIn-right y.first near far (IsIn-first n y.first y.last far y.chain))) in
+      Contains-in y.first list (listed y.first (IsIn-append-right y.first near far (IsIn-first n y.first y.last far y.chain))) in
       let shared : SharesEdge n x.last y.first =
       SharesEdge-along n list conforming out x.last y.first f.way f.steps apex middle f.some f.run in_near in_far
       (subst (λ z. HasEdgeAlong n z x.last apex middle) (sym opposite) x.exit.leg) y.entry.leg in
@@ -195,7 +185,7 @@ module _ (n : ℕ) (list : List ℕ) (conforming : IsConforming n list) where
           leg = x.entry.base;
         };
         exit = record {
-          base = HasEdgeAlong-longer n back y.last to middle from (reversed from to middle f.inside) f.far_part y.exit.leg;
+          base = HasEdgeAlong-longer n back y.last to middle from (IsStrictlyBetween-reversed from to middle f.inside) f.far_part y.exit.leg;
           leg = y.exit.base;
         };
       }
@@ -252,8 +242,8 @@ IsRing-both : (n : ℕ) (list : List ℕ) → IsConforming n list → (near far 
     Crosses n true false (point (2 ^ n) 0) (point 0 (2 ^ n)) apex near →
     Crosses n true false (point 0 (2 ^ n)) (point (2 ^ n) 0) other far → IsRing n (near ++ far)
 IsRing-both n list conforming near far listed apex other x y =
-    let in_near : (e : ℕ) → IsIn e near → Contains list e = λ e h. Contains-in e list (listed e (IsIn-left e near far h)) in
-    let in_far : (e : ℕ) → IsIn e far → Contains list e = λ e h. Contains-in e list (listed e (IsIn-right e near far h)) in
+    let in_near : (e : ℕ) → IsIn e near → Contains list e = λ e h. Contains-in e list (listed e (IsIn-append-left e near far h)) in
+    let in_far : (e : ℕ) → IsIn e far → Contains list e = λ e h. Contains-in e list (listed e (IsIn-append-right e near far h)) in
     let some : 0 < 2 ^ n = pow_pos n in
     record {
       first = x.first;
@@ -277,5 +267,5 @@ IsRing-strip_of n has closed =
     let upper : List ℕ = strip_under (2 * n) has 3 in
     let listed : AreListed (leaves_of n has) (lower ++ upper) = λ e h. leaf-strip_of n e has h in
     IsRing-both n (leaves_of n has) conforming lower upper listed (point 0 0) (point (2 ^ n) (2 ^ n))
-    (Crosses-lower n (leaves_of n has) conforming has (λ e h. listed e (IsIn-left e lower upper h)))
-    (Crosses-upper n (leaves_of n has) conforming has (λ e h. listed e (IsIn-right e lower upper h)))
+    (Crosses-lower n (leaves_of n has) conforming has (λ e h. listed e (IsIn-append-left e lower upper h)))
+    (Crosses-upper n (leaves_of n has) conforming has (λ e h. listed e (IsIn-append-right e lower upper h)))

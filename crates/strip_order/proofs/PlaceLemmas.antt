@@ -11,7 +11,7 @@ use Rattle.closure_laws.proofs.LeafLemmas.{leaves-most}
 use Rattle.strip_laws.specs.Strip.{strip_of, SharesEdge, IsChain, one, more}
 use Rattle.strip_laws.proofs.OrderLemmas.{count-strip_of, leaf-strip_of, strip-once}
 use Rattle.strip_laws.proofs.StripLemmas.{IsRing-strip_of}
-use Rattle.strip_order.proofs.RunLemmas.{leaves_under-some}
+use Rattle.closure_laws.proofs.ClosureLemmas.{leaves_under-some}
 
 -- ---- lists by places
 
@@ -49,8 +49,8 @@ places_differ (x ∷ xs) (suc i) (suc j) d once less h =
 few-leaves_of : (n : ℕ) (has : ℕ → Bool) → n ≤ 11 → (2 ≤ length (leaves_of n has)) × (length (leaves_of n has) ≤ 8388608)
 unfolding leaves_of
 few-leaves_of n has small =
-    let x = leaves_under-some has (2 * n) 2 in
-    let y = leaves_under-some has (2 * n) 3 in
+    let x = leaves_under-some (2 * n) has 2 in
+    let y = leaves_under-some (2 * n) has 3 in
     let le : 4 ^ n ≤ 4 ^ 11 = pow-le-pow_right (omega arith) small in
     let most : length (leaves_under (2 * n) has 2 ++ leaves_under (2 * n) has 3) ≤ 2 * 4 ^ n = leaves-most n has in
     let l = length-append (leaves_under (2 * n) has 2) (leaves_under (2 * n) has 3) in

@@ -10,6 +10,7 @@ use Rattle.strip_laws.specs.Strip.{has_even_level, strip_under, strip_of, AreLea
 use Rattle.strip_order.specs.Run.{turned, facing, IsFront, IsArranged}
 use Rattle.strip_laws.proofs.OrderLemmas.{count-strip_under}
 use Rattle.strip_laws.proofs.StripLemmas.{has_even_level-left, has_even_level-right}
+use Rattle.closure_laws.proofs.ClosureLemmas.{leaves_under-some}
 
 -- ---- the two cases of a triangle
 
@@ -103,20 +104,10 @@ first-lt has levels a d rest run low forked e =
     let le : 2 * a ≤ get_or run 0 d = rw is (first-le has levels (2 * a) d (leaves_under levels has (2 * a + 1) ++ rest) (omega arith)) in
     omega arith
 
--- there is a leaf
-length_step : (b : Bool) (left right : List ℕ) (a : ℕ) → 0 < length left → 0 < length (elim b as (λ _. List ℕ) [ true ↦ left ++ right | false ↦ a ∷ [] ])
-length_step true left right a some = omega (arith, length-append left right)
-length_step false left right a some = omega arith
-
-pub leaves_under-some : (has : ℕ → Bool) (levels a : ℕ) → 0 < length (leaves_under levels has a)
-leaves_under-some has zero a = omega arith
-leaves_under-some has (suc levels) a =
-    length_step (has a) (leaves_under levels has (2 * a)) (leaves_under levels has (2 * a + 1)) a (leaves_under-some has levels (2 * a))
-
 -- so a run that begins with the leaves of a has an entry
 pub IsFront-some : (levels : ℕ) (has : ℕ → Bool) (a : ℕ) (rest run : List ℕ) → IsFront levels has a rest run → 0 < length run
 IsFront-some levels has a rest run front =
-    let some = leaves_under-some has levels a in
+    let some = leaves_under-some levels has a in
     let both = ap length front.is ∙ length-append (leaves_under levels has a) rest in omega arith
 
 -- ---- where the run begins with a

@@ -1,12 +1,12 @@
 -- The two base triangles tile the square: a sample lies strictly inside 2 below the falling diagonal, and
 -- strictly inside 3 above it.
-use Rattle.std.proofs.Common.{◌≡◌, ℕ, zero, suc, ◌+◌, ◌*◌, ◌%◌, ◌^◌, ◌<◌, ◌≤◌, inl, inr, [], ◌∷◌, Bool, true, false, ◌&&◌, refl, ap, arith, ltb-true, lt-ltb, ⊎_elim, pow_pos, mul-le-mul_left}
+use Rattle.std.proofs.Common.{◌≡◌, ℕ, zero, suc, ◌+◌, ◌*◌, ◌%◌, ◌^◌, ◌<◌, ◌≤◌, inl, inr, [], ◌∷◌, true, ◌&&◌, ap, arith, ltb-true, lt-ltb, ⊎_elim, pow_pos, mul-le-mul_left}
 use Rattle.std.proofs.lemmas.Bool.{and_parts, and_from, cases_lt}
 use Rattle.mesh_defs.specs.declared.point.Point.{Point}
 use Rattle.mesh_defs.specs.declared.point.Corners.{Corners}
 use Rattle.mesh_defs.specs.Triangle.{level_of, base_triangle, corners_of}
 use Rattle.mesh_defs.specs.Tiling.{IsSample, is_left, is_within, is_inside, Tiles}
-use Rattle.mesh_defs.proofs.ListLemmas.{one_if}
+use Rattle.mesh_defs.proofs.ListLemmas.{one_if, one_if-no}
 use Rattle.tiling_laws.proofs.WayLemmas.{lt-scaled}
 
 -- strictly inside a triangle: the three tests as orders
@@ -59,11 +59,6 @@ IsInHalf-inside-3 : (n x y : ℕ) → is_inside n x y 3 ≡ true → 4 * 2 ^ n <
 unfolding corners_of level_of
 IsInHalf-inside-3 n x y is =
     IsInHalf-bounded 1 (2 ^ n) x y (IsBounded-from x y (base_triangle (2 ^ n) 1) is)
-
--- a test that fails counts nothing
-one_if-no : (b : Bool) → (b ≡ true → ⊥) → one_if b ≡ 0
-one_if-no true h = absurd (h refl)
-one_if-no false h = refl
 
 -- to the test
 IsBounded-to : (x y : ℕ) (c : Corners) → IsBounded x y c → is_within x y c ≡ true

@@ -6,13 +6,13 @@ use Rattle.std.proofs.lemmas.Nat.{shr-shr}
 use Rattle.mesh_defs.specs.declared.point.Point.{Point}
 use Rattle.mesh_defs.specs.declared.point.Corners.{Corners}
 use Rattle.mesh_defs.specs.Triangle.{level_of, IsAddress, IsSplittable, midpoint, child, corners_of, IsCorner, IsEdge, IsMate}
-use Rattle.mesh_defs.specs.Tiling.{IsSample, is_inside, IsBetween, IsStrictlyBetween, IsConforming}
+use Rattle.mesh_defs.specs.Tiling.{IsSample, is_inside, IsStrictlyBetween, IsConforming}
 use Rattle.mesh_defs.specs.ClosedSet.{IsClosed, leaves_of}
 use Rattle.bintree_laws.proofs.LevelLemmas.{level-le, left-or-right, level_of-root, level_of-parent, level_of-below}
 use Rattle.bintree_laws.proofs.CornerLemmas.{corners_of-left, corners_of-right}
 use Rattle.bintree_laws.proofs.CentreLemmas.{same_centre, mate_unique, mate_symmetric}
 use Rattle.tiling_laws.specs.Ancestors.{halves_to, is_above, ancestors_of, AreLeaves}
-use Rattle.tiling_laws.proofs.WayLemmas.{Way, point, IsInside-between, IsStrictlyBetween-inside, IsRun-first_half, IsRun-second_half, IsInside-first_half, IsInside-second_half, IsInside-middle}
+use Rattle.tiling_laws.proofs.WayLemmas.{Way, point, IsInside-between, IsStrictlyBetween-inside, IsRun-first_half, IsRun-second_half, IsInside-first_half, IsInside-second_half, IsInside-middle, IsStrictlyBetween-reversed}
 use Rattle.tiling_laws.proofs.TurnLemmas.{three, IsTurned, leg, IsRun-base}
 use Rattle.tiling_laws.proofs.DescentLemmas.{IsDown, IsDown-left, IsDown-right, IsDown-address, IsDown-splittable, IsAddress-down, IsAddress-splittable, forked_of, one_child_of, one_if-true, one_if-le, is_inside-left, is_inside-right, sample_of, one_base, All-leaves_of, Tiles-leaves_of}
 use Rattle.tiling_laws.proofs.ConformityLemmas.{IsUnder, self, below, IsUnder-up, IsUnder-left, IsUnder-right, middle, between_ends, point_on_edge}
@@ -208,16 +208,6 @@ record HasOnEdge (n w : ℕ) (m : Point) : Type 0 where
   edge : IsEdge (corners_of n w) from to
   between : IsStrictlyBetween from to m
 
--- in the other direction
-reversed : (p q r : Point) → IsStrictlyBetween p q r → IsStrictlyBetween q p r
-reversed p q r b =
-    let line = b.on_line in
-    record { on_line = omega arith; between = ⊎_elim (λ x. inl (turned x)) (λ y. inr (turned y)) b.between }
-  where
-    turned : {i j k : ℕ} → IsBetween i j k → IsBetween j i k
-    turned (inl h) = inr h
-    turned (inr h) = inl h
-
 -- the midpoint lies inside the base
 middle_on_base : (n levels b : ℕ) → IsDown n (suc levels) b → HasOnEdge n b (middle n b)
 middle_on_base n levels b d =
@@ -260,7 +250,7 @@ edge_of_left n levels a m d h = at h.from h.to (subst (λ c. IsEdge c h.from h.t
       from = (corners_of n a).apex;
       to = middle n a;
       edge = subst (λ c. IsEdge c (corners_of n a).apex (middle n a)) (sym (corners_of-right n a d.low)) (inr (inr (refl, refl)));
-      between = reversed (middle n a) (corners_of n a).apex m (between_ends p q m (middle n a) (corners_of n a).apex e.0 e.1 b);
+      between = IsStrictlyBetween-reversed (middle n a) (corners_of n a).apex m (between_ends p q m (middle n a) (corners_of n a).apex e.0 e.1 b);
     }
     at p q (inr (inl e)) b = inl record { from = p; to = q; edge = inl e; between = b }
     at p q (inr (inr e)) b =
@@ -288,7 +278,7 @@ edge_of_right n levels a m d h = at h.from h.to (subst (λ c. IsEdge c h.from h.
       from = middle n a;
       to = (corners_of n a).apex;
       edge = subst (λ c. IsEdge c (middle n a) (corners_of n a).apex) (sym (corners_of-left n a d.low)) (inl (refl, refl));
-      between = reversed (corners_of n a).apex (middle n a) m (between_ends p q m (corners_of n a).apex (middle n a) e.0 e.1 b);
+      between = IsStrictlyBetween-reversed (corners_of n a).apex (middle n a) m (between_ends p q m (corners_of n a).apex (middle n a) e.0 e.1 b);
     }
 
 -- nothing lies below both children

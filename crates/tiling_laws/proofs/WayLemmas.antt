@@ -4,7 +4,7 @@ use Rattle.std.proofs.Common.{◌≡◌, ℕ, suc, ◌+◌, ◌*◌, ◌-◌, �
 use Rattle.std.proofs.lemmas.Bool.{cases_lt}
 use Rattle.mesh_defs.specs.declared.point.Point.{Point}
 use Rattle.mesh_defs.specs.Triangle.{midpoint}
-use Rattle.mesh_defs.specs.Tiling.{IsStrictlyBetween}
+use Rattle.mesh_defs.specs.Tiling.{IsStrictlyBetween, IsBetween}
 use Rattle.bintree_laws.proofs.LatticeLemmas.{same_point}
 use Rattle.bintree_laws.proofs.MateLemmas.{cancel}
 
@@ -345,3 +345,13 @@ IsInside-middle w k p m some first = (k, some, omega arith, first)
 -- a run of one step has nothing inside
 pub not_inside_one : (w : Way) (p r : Point) → IsInside w 1 p r → ⊥
 not_inside_one w p r i = let h = i.1 in let g = i.2 in absurd (omega arith)
+
+-- strictly between, in the other direction
+pub IsStrictlyBetween-reversed : (p q r : Point) → IsStrictlyBetween p q r → IsStrictlyBetween q p r
+IsStrictlyBetween-reversed p q r b =
+    let line = b.on_line in
+    record { on_line = omega arith; between = ⊎_elim (λ x. inl (turned x)) (λ y. inr (turned y)) b.between }
+  where
+    turned : {i j k : ℕ} → IsBetween i j k → IsBetween j i k
+    turned (inl h) = inr h
+    turned (inr h) = inl h

@@ -13,6 +13,7 @@ use Rattle.bintree_laws.specs.Corners.{IsWithin, HasEvenBase}
 use Rattle.bintree_laws.proofs.LevelLemmas.{left-or-right, level_of-below, level_of-left, level_of-right, level_of-parent}
 use Rattle.bintree_laws.proofs.CornerLemmas.{corners_of-2, corners_of-3, corners_of-left, corners_of-right, IsWithin-corners_of}
 use Rattle.bintree_laws.proofs.LatticeLemmas.{same_point, HasEvenBase-corners_of}
+use Rattle.bintree_laws.proofs.WeightLemmas.{weighted-x, weighted-y, weight-sum}
 
 -- ---- doubled areas
 
@@ -232,42 +233,6 @@ v1-held c d h = made c c.v1 (record { left_leg = omega (arith, h.area); base = o
 
 pub slack : (i j : ℕ) → i ≤ j → (k : ℕ) × (i + k ≡ j)
 slack i j h = (j - i, omega arith)
-
--- a point by its weights u, v and w at the corners a, p and q of a triangle of doubled area d
-pub weighted-x : (ax ay px py qx qy rx ry u v w d : ℕ) →
-    ax * py + px * qy + qx * ay ≡ ay * px + py * qx + qy * ax + d →
-    py * qx + qy * rx + ry * px + u ≡ px * qy + qx * ry + rx * py →
-    qy * ax + ay * rx + ry * qx + v ≡ qx * ay + ax * ry + rx * qy →
-    ay * px + py * rx + ry * ax + w ≡ ax * py + px * ry + rx * ay → d * rx ≡ u * ax + v * px + w * qx
-weighted-x ax ay px py qx qy rx ry u v w d area hu hv hw = omega (
-  arith,
-  ap (λ t. t * rx) area,
-  ap (λ t. t * ax) hu,
-  ap (λ t. t * px) hv,
-  ap (λ t. t * qx) hw,
-)
-
--- the same for the other coordinate
-pub weighted-y : (ax ay px py qx qy rx ry u v w d : ℕ) →
-    ax * py + px * qy + qx * ay ≡ ay * px + py * qx + qy * ax + d →
-    py * qx + qy * rx + ry * px + u ≡ px * qy + qx * ry + rx * py →
-    qy * ax + ay * rx + ry * qx + v ≡ qx * ay + ax * ry + rx * qy →
-    ay * px + py * rx + ry * ax + w ≡ ax * py + px * ry + rx * ay → d * ry ≡ u * ay + v * py + w * qy
-weighted-y ax ay px py qx qy rx ry u v w d area hu hv hw = omega (
-  arith,
-  ap (λ t. t * ry) area,
-  ap (λ t. t * ay) hu,
-  ap (λ t. t * py) hv,
-  ap (λ t. t * qy) hw,
-)
-
--- the weights add up to the doubled area
-pub weight-sum : (ax ay px py qx qy rx ry u v w d : ℕ) →
-    ax * py + px * qy + qx * ay ≡ ay * px + py * qx + qy * ax + d →
-    py * qx + qy * rx + ry * px + u ≡ px * qy + qx * ry + rx * py →
-    qy * ax + ay * rx + ry * qx + v ≡ qx * ay + ax * ry + rx * qy →
-    ay * px + py * rx + ry * ax + w ≡ ax * py + px * ry + rx * ay → u + v + w ≡ d
-weight-sum ax ay px py qx qy rx ry u v w d area hu hv hw = omega arith
 
 -- all weight at one corner
 only : (u v w a p q r : ℕ) → u ≡ 1 → v ≡ 0 → w ≡ 0 → r ≡ u * a + v * p + w * q → r ≡ a

@@ -1,8 +1,8 @@
 -- What a change of heights leaves: a triangle lies in its bounding rectangle, and its thickness and box depend
 -- on the points that it holds alone.
-use Rattle.std.proofs.Common.{◌≡◌, ℕ, zero, suc, ◌+◌, ◌-◌, ◌*◌, ◌^◌, ◌<◌, ◌≤◌, Bool, true, false, cond, List, [], ◌∷◌, map, refl, ap, ◌∙◌, arith, ⊎_elim, subst}
-use Rattle.std.proofs.Math.Nat.{mul-le-mul_left}
-use Rattle.std.proofs.lemmas.Bool.{cases_lt, or_left, or_right}
+use Rattle.std.proofs.Common.{◌≡◌, ℕ, zero, suc, ◌+◌, ◌-◌, ◌*◌, ◌^◌, ◌<◌, ◌≤◌, Bool, true, false, cond, List, [], ◌∷◌, map, refl, ap, ◌∙◌, arith, subst}
+use Rattle.std.proofs.Math.Nat.{mul-le-mul_left, le_of_mul-le-mul_left}
+use Rattle.std.proofs.lemmas.Bool.{or_left, or_right}
 use Rattle.std.proofs.lemmas.Nat.{pow_pos}
 use Rattle.std.specs.List.{filter}
 use Rattle.mesh_defs.specs.declared.point.Point.{Point}
@@ -15,34 +15,30 @@ use Rattle.bintree_laws.specs.Corners.{IsWithin}
 use Rattle.wedgie_tree.specs.declared.wedge.Wedge.{Wedge}
 use Rattle.wedgie_tree.specs.Table.{IsWedge}
 use Rattle.wedgie_tree.specs.Edits.{AgreesOn, IsInRectangle}
-use Rattle.wedgie_tree.proofs.AreaLemmas.{AddressLaws, HasArea, HasArea-at, IsHeld, read, slack, v0-held, v1-held, weighted-x, weighted-y, weight-sum}
+use Rattle.wedgie_tree.proofs.AreaLemmas.{AddressLaws, HasArea, HasArea-at, IsHeld, read, slack, v0-held, v1-held}
 use Rattle.wedgie_tree.proofs.HeightLemmas.{holds_point-children, apex-passes}
+use Rattle.bintree_laws.proofs.WeightLemmas.{weighted-x, weighted-y, weight-sum}
 
 -- ---- a held point lies in the bounding rectangle
 
-cancel : (d i j : ℕ) → 0 < d → d * i ≤ d * j → i ≤ j
-cancel d i j some le = ⊎_elim {C = i ≤ j}
-    (λ lt. let next : j + 1 ≤ i = omega arith in
-    let more : d * (j + 1) ≤ d * i = mul-le-mul_left d next in absurd (omega arith)) (λ ge. ge) (cases_lt j i)
-
 -- a weighted mean is at least the least value and at most the greatest
 mean-low : (d u v w i j k r m : ℕ) → 0 < d → u + v + w ≡ d → d * r ≡ u * i + v * j + w * k → m ≤ i → m ≤ j → m ≤ k → m ≤ r
-mean-low d u v w i j k r m some sum mean li lj lk = cancel d m r some (omega (
+mean-low d u v w i j k r m some sum mean li lj lk = le_of_mul-le-mul_left {k = d} (omega (
   arith,
   ap (λ t. t * m) sum,
   mul-le-mul_left u li,
   mul-le-mul_left v lj,
   mul-le-mul_left w lk,
-))
+)) some
 
 mean-high : (d u v w i j k r m : ℕ) → 0 < d → u + v + w ≡ d → d * r ≡ u * i + v * j + w * k → i ≤ m → j ≤ m → k ≤ m → r ≤ m
-mean-high d u v w i j k r m some sum mean li lj lk = cancel d r m some (omega (
+mean-high d u v w i j k r m some sum mean li lj lk = le_of_mul-le-mul_left {k = d} (omega (
   arith,
   ap (λ t. t * m) sum,
   mul-le-mul_left u li,
   mul-le-mul_left v lj,
   mul-le-mul_left w lk,
-))
+)) some
 
 -- a triangle with some area lies in its bounding rectangle
 in-rectangle : (c : Corners) (r : Point) (d : ℕ) → 0 < d → HasArea c d → is_in_closed c r ≡ true → IsInRectangle c r

@@ -1,26 +1,9 @@
 -- The least and the greatest value over the points that pass a test.
-use Rattle.std.proofs.Common.{◌≡◌, ℕ, zero, suc, ◌+◌, ◌^◌, ◌<◌, ◌≤◌, ◌⊎◌, Bool, true, false, cond, ◌||◌, min, max, List, [], ◌∷◌, ◌++◌, length, map, refl, arith, ⊎_elim, inl, inr}
-use Rattle.std.proofs.lemmas.Bool.{cases_lt}
-use Rattle.std.specs.List.{filter, flat_map, range_with_len}
+use Rattle.std.proofs.Common.{◌≡◌, ℕ, zero, suc, ◌<◌, ◌≤◌, ◌⊎◌, Bool, true, false, cond, ◌||◌, min, max, List, [], ◌∷◌, length, map, refl, arith, ⊎_elim}
+use Rattle.std.specs.List.{filter}
 use Rattle.mesh_defs.specs.declared.point.Point.{Point}
-use Rattle.mesh_defs.specs.HeightField.{side_of}
-use Rattle.mesh_defs.specs.BoundingBox.{point, points_of, least, greatest}
-
--- ---- entries of a list
-
--- x is an entry of the list
-abbrev pub IsIn : {X : Type 0} → X → List X → Type 0
-IsIn x [] = ⊥
-IsIn x (y ∷ ys) = (x ≡ y) ⊎ IsIn x ys
-
-IsIn-append-left : {X : Type 0} (x : X) (xs ys : List X) → IsIn x xs → IsIn x (xs ++ ys)
-IsIn-append-left x [] ys h = absurd h
-IsIn-append-left x (z ∷ zs) ys h =
-    ⊎_elim {C = IsIn x ((z ∷ zs) ++ ys)} (λ e. inl e) (λ t. inr (IsIn-append-left x zs ys t)) h
-
-IsIn-append-right : {X : Type 0} (x : X) (xs ys : List X) → IsIn x ys → IsIn x (xs ++ ys)
-IsIn-append-right x [] ys h = h
-IsIn-append-right x (z ∷ zs) ys h = inr (IsIn-append-right x zs ys h)
+use Rattle.mesh_defs.specs.BoundingBox.{least, greatest}
+use Rattle.mesh_defs.proofs.PointLemmas.{IsPointIn, greatest-cond}
 
 -- ---- the least value, with a bound in place of none
 
@@ -81,7 +64,7 @@ skip-step true h k m le = omega arith
 skip-step false h k m le = le
 
 -- a point that passes has at least the least value
-pub under-le : (b : ℕ) (f : Point → ℕ) (p : Point → Bool) (x : Point) → p x ≡ true → (xs : List Point) → IsIn x xs →
+pub under-le : (b : ℕ) (f : Point → ℕ) (p : Point → Bool) (x : Point) → p x ≡ true → (xs : List Point) → IsPointIn x xs →
     under b (map f (filter p xs)) ≤ f x
 under-le b f p x passes [] h = absurd h
 under-le b f p x passes (y ∷ ys) h = rw (under-cond b f (p y) y (filter p ys)) (⊎_elim
@@ -91,11 +74,6 @@ under-le b f p x passes (y ∷ ys) h = rw (under-cond b f (p y) y (filter p ys))
     h)
 
 -- ---- the greatest value
-
-greatest-cond : (f : Point → ℕ) (t : Bool) (x : Point) (xs : List Point) →
-    greatest (map f (cond t (x ∷ xs) xs)) ≡ cond t (max (f x) (greatest (map f xs))) (greatest (map f xs))
-greatest-cond f true x xs = refl
-greatest-cond f false x xs = refl
 
 greatest-step : (t u : Bool) (h k i j : ℕ) → k ≡ max i j →
     cond (t || u) (max h k) k ≡ max (cond t (max h i) i) (cond u (max h j) j)
@@ -116,35 +94,6 @@ greatest-split f p q r e (x ∷ xs) = rw (
 ) (greatest-step (q x) (r x) (f x) (greatest (map f (filter p xs))) (greatest (map f (filter q xs)))
     (greatest (map f (filter r xs))) (greatest-split f p q r e xs))
 
-above-step : (t : Bool) (m h k : ℕ) → (t ≡ true → h ≤ m) → k ≤ m → cond t (max h k) k ≤ m
-above-step true m h k own rest = let here : h ≤ m = own refl in omega arith
-above-step false m h k own rest = rest
-
--- a number that is at least the value of each point that passes
-pub greatest-le : (m : ℕ) (f : Point → ℕ) (p : Point → Bool) → ((x : Point) → p x ≡ true → f x ≤ m) →
-    (xs : List Point) → greatest (map f (filter p xs)) ≤ m
-greatest-le m f p own [] = omega arith
-greatest-le m f p own (x ∷ xs) = rw (greatest-cond f (p x) x (filter p xs))
-    (above-step (p x) m (f x) (greatest (map f (filter p xs))) (own x) (greatest-le m f p own xs))
-
-greatest-in-step : (t : Bool) (h k : ℕ) → t ≡ true → h ≤ cond t (max h k) k
-greatest-in-step true h k e = omega arith
-greatest-in-step false h k e = absurd (cc)
-
-greatest-skip-step : (t : Bool) (h k m : ℕ) → m ≤ k → m ≤ cond t (max h k) k
-greatest-skip-step true h k m le = omega arith
-greatest-skip-step false h k m le = le
-
--- a point that passes has at most the greatest value
-pub le-greatest : (f : Point → ℕ) (p : Point → Bool) (x : Point) → p x ≡ true → (xs : List Point) → IsIn x xs →
-    f x ≤ greatest (map f (filter p xs))
-le-greatest f p x passes [] h = absurd h
-le-greatest f p x passes (y ∷ ys) h = rw (greatest-cond f (p y) y (filter p ys)) (⊎_elim
-    {C = f x ≤ cond (p y) (max (f y) (greatest (map f (filter p ys)))) (greatest (map f (filter p ys)))}
-    (λ e. rw e (greatest-in-step (p y) (f y) (greatest (map f (filter p ys))) (rw (← e) passes)))
-    (λ t. greatest-skip-step (p y) (f y) (greatest (map f (filter p ys))) (f x) (le-greatest f p x passes ys t))
-    h)
-
 -- ---- some point passes
 
 some-step : (f : Point → ℕ) (t : Bool) (x : Point) (xs : List Point) → t ≡ true → 0 < length (map f (cond t (x ∷ xs) xs))
@@ -156,7 +105,7 @@ more-step : (f : Point → ℕ) (t : Bool) (x : Point) (xs : List Point) → 0 <
 more-step f true x xs h = omega arith
 more-step f false x xs h = h
 
-some-passes : (f : Point → ℕ) (p : Point → Bool) (x : Point) → p x ≡ true → (xs : List Point) → IsIn x xs →
+some-passes : (f : Point → ℕ) (p : Point → Bool) (x : Point) → p x ≡ true → (xs : List Point) → IsPointIn x xs →
     0 < length (map f (filter p xs))
 some-passes f p x passes [] h = absurd h
 some-passes f p x passes (y ∷ ys) h = ⊎_elim {C = 0 < length (map f (filter p (y ∷ ys)))}
@@ -166,34 +115,5 @@ some-passes f p x passes (y ∷ ys) h = ⊎_elim {C = 0 < length (map f (filter 
 
 -- where some point passes, the least value is that with any bound above it
 pub least-bounded : (b : ℕ) (f : Point → ℕ) (p : Point → Bool) (x : Point) → p x ≡ true → (xs : List Point) →
-    IsIn x xs → least (map f (filter p xs)) ≤ b → least (map f (filter p xs)) ≡ under b (map f (filter p xs))
+    IsPointIn x xs → least (map f (filter p xs)) ≤ b → least (map f (filter p xs)) ≡ under b (map f (filter p xs))
 least-bounded b f p x passes xs h le = least-under b (map f (filter p xs)) (some-passes f p x passes xs h) le
-
--- ---- the points of the grid
-
-IsIn-row : (y a k x : ℕ) → a ≤ x → x < a + k → IsIn (point x y) (map (λ i. point i y) (range_with_len a k))
-IsIn-row y a zero x from to = absurd (omega arith)
-IsIn-row y a (suc k) x from to =
-    ⊎_elim {C = IsIn (point x y) (map (λ i. point i y) (range_with_len a (suc k)))}
-    (λ later. inr (IsIn-row y (a + 1) k x (omega arith) (omega arith)))
-    (λ here. let same : x ≡ a = omega arith in inl (rw same refl))
-    (cases_lt a x)
-
-IsIn-rows : (side a k x y : ℕ) → x < side → a ≤ y → y < a + k →
-    IsIn (point x y) (flat_map (λ j. map (λ i. point i j) (range_with_len 0 side)) (range_with_len a k))
-IsIn-rows side a zero x y fits from to = absurd (omega arith)
-IsIn-rows side a (suc k) x y fits from to =
-    ⊎_elim {C = IsIn (point x y) (flat_map (λ j. map (λ i. point i j) (range_with_len 0 side)) (range_with_len a (suc k)))}
-    (λ later. IsIn-append-right (point x y) (map (λ i. point i a) (range_with_len 0 side))
-    (flat_map (λ j. map (λ i. point i j) (range_with_len 0 side)) (range_with_len (a + 1) k))
-    (IsIn-rows side (a + 1) k x y fits (omega arith) (omega arith)))
-    (λ here. let same : y ≡ a = omega arith in
-    IsIn-append-left (point x y) (map (λ i. point i a) (range_with_len 0 side))
-    (flat_map (λ j. map (λ i. point i j) (range_with_len 0 side)) (range_with_len (a + 1) k))
-    (rw same (IsIn-row a 0 side x (omega arith) (omega arith))))
-    (cases_lt a y)
-
--- each point of the square is a grid point
-pub IsIn-points_of : (n : ℕ) (r : Point) → r.x ≤ 2 ^ n → r.y ≤ 2 ^ n → IsIn r (points_of n)
-unfolding points_of
-IsIn-points_of n r x y = IsIn-rows (side_of n) 0 (side_of n) r.x r.y (omega arith) (omega arith) (omega arith)

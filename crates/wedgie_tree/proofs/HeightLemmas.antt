@@ -7,13 +7,14 @@ use Rattle.mesh_defs.specs.Triangle.{level_of, corners_of, IsCorner, IsSplittabl
 use Rattle.mesh_defs.specs.Thickness.{height_of}
 use Rattle.mesh_defs.specs.BoundingBox.{points_of, holds_point, low_of, high_of, least_of_3, greatest_of_3}
 use Rattle.bintree_laws.specs.Corners.{IsWithin}
-use Rattle.wedgie_tree.proofs.ExtremeLemmas.{IsIn, IsIn-points_of, under, under-split, le-under, under-le, greatest-split, greatest-le, le-greatest, least-bounded}
+use Rattle.wedgie_tree.proofs.ExtremeLemmas.{under, under-split, le-under, under-le, greatest-split, least-bounded}
+use Rattle.mesh_defs.proofs.PointLemmas.{IsPointIn, IsPointIn-points_of, greatest-le, le-greatest}
 use Rattle.wedgie_tree.proofs.AreaLemmas.{AddressLaws, HasArea, HasArea-at, is_in_closed-children, apex-held, v0-held, v1-held, finest-corner}
 
 -- the apex is a grid point that the triangle holds
-apex-in : AddressLaws → (n a : ℕ) → IsIn (corners_of n a).apex (points_of n)
+apex-in : AddressLaws → (n a : ℕ) → IsPointIn (corners_of n a).apex (points_of n)
 apex-in laws n a = let w : IsWithin (2 ^ n) (corners_of n a) = laws.within n a in
-    IsIn-points_of n (corners_of n a).apex w.apex_x w.apex_y
+    IsPointIn-points_of n (corners_of n a).apex w.apex_x w.apex_y
 
 pub apex-passes : AddressLaws → (n a : ℕ) → 2 ≤ a → level_of a ≤ 2 * n → holds_point n a (corners_of n a).apex ≡ true
 apex-passes laws n a low fits = apex-held (corners_of n a) (2 ^ (2 * n - level_of a))
@@ -103,9 +104,9 @@ corners-between laws n heights a some finest =
     let f : Point → ℕ = height_of n heights in
     let is : low_of n heights a ≡ under (low_of n heights a) (map f (filter (holds_point n a) (points_of n))) =
     low_of-bounded laws n heights a (low_of n heights a) some (omega arith) (omega arith) in
-    let apex : IsIn c.apex (points_of n) = IsIn-points_of n c.apex w.apex_x w.apex_y in
-    let v0 : IsIn c.v0 (points_of n) = IsIn-points_of n c.v0 w.v0_x w.v0_y in
-    let v1 : IsIn c.v1 (points_of n) = IsIn-points_of n c.v1 w.v1_x w.v1_y in
+    let apex : IsPointIn c.apex (points_of n) = IsPointIn-points_of n c.apex w.apex_x w.apex_y in
+    let v0 : IsPointIn c.v0 (points_of n) = IsPointIn-points_of n c.v0 w.v0_x w.v0_y in
+    let v1 : IsPointIn c.v1 (points_of n) = IsPointIn-points_of n c.v1 w.v1_x w.v1_y in
     record {
       apex_low = omega (arith, is, under-le (low_of n heights a) f (holds_point n a) c.apex (apex-held c 1 area) (points_of n) apex);
       apex_high = le-greatest f (holds_point n a) c.apex (apex-held c 1 area) (points_of n) apex;

@@ -1,6 +1,5 @@
 -- Where corners lie, for the sums that must fit and for the heights that are read.
 use Rattle.std.proofs.Common.{◌≡◌, ℕ, ◌+◌, ◌*◌, ◌%◌, ◌^◌, ◌≤◌, sym, arith, subst}
-use Rattle.std.proofs.Math.Pow.{pow_mono}
 use Rattle.std.proofs.lemmas.Nat.{one_shl}
 use Rattle.mesh_defs.specs.declared.point.Corners.{Corners}
 use Rattle.mesh_defs.specs.Triangle.{corners_of}
@@ -10,19 +9,6 @@ use Rattle.bintree_laws.specs.Corners.{IsWithin, IsInSquare}
 pub IsWithin-of : ((n a : ℕ) → IsWithin (2 ^ n) (corners_of n a)) → (n a : ℕ) (c : Corners) → c ≡ corners_of n a →
     IsWithin (2 ^ n) c
 IsWithin-of within n a c is = let P : Corners → Type 0 = λ d. IsWithin (2 ^ n) d in subst P (sym is) (within n a)
-
--- and so within the largest square
-pub IsWithin-largest : (n : ℕ) (c : Corners) → n ≤ 11 → IsWithin (2 ^ n) c → IsWithin (2 ^ 11) c
-IsWithin-largest n c small w =
-    let le : 2 ^ n ≤ 2 ^ 11 = pow_mono small in
-    record {
-      apex_x = omega arith;
-      apex_y = omega arith;
-      v0_x = omega arith;
-      v0_y = omega arith;
-      v1_x = omega arith;
-      v1_y = omega arith;
-    }
 
 -- each corner by itself
 pub apex-of : ((n a : ℕ) → IsWithin (2 ^ n) (corners_of n a)) → (n a : ℕ) (c : Corners) → c ≡ corners_of n a →

@@ -3,7 +3,8 @@ use Rattle.std.proofs.lemmas.Bool.{true≢false, cases_lt}
 use Rattle.edge_laws.specs.Edge.{mate_of}
 use Rattle.edge_laws.specs.Slots.{address_at, has_children}
 use Rattle.edge_laws.proofs.SlotLemmas.{member_mate}
-use Rattle.merge_queue.proofs.ChiefLemmas.{chief_of-alone, chief_of-mates, mate_live, chief_same}
+use Rattle.edge_laws.proofs.ChiefLemmas.{chief_of-alone, chief_of-mates}
+use Rattle.merge_queue.proofs.ChiefLemmas.{mate_live, chief_same}
 use Rattle.merge_queue.proofs.diamond.chief.Goals as goal
 
 has_mate : (m : ℕ) → ((m ≡ 0) → ⊥) → 1 ≤ m

@@ -2,7 +2,8 @@
 use Rattle.std.proofs.Common.{◌≡◌, ◌∙◌, ap, arith}
 use Rattle.mesh_defs.specs.declared.point.Corners.{Corners}
 use Rattle.mesh_defs.specs.HeightField.{HeightField, height_at}
-use Rattle.mesh_measure.proofs.AreaLemmas.{IsWithin-largest, area-across}
+use Rattle.mesh_measure.proofs.AreaLemmas.{area-across}
+use Rattle.bintree_laws.proofs.CornerLemmas.{IsWithin-largest}
 use Rattle.mesh_measure.proofs.facet.facet_of.Goals as goal
 
 pub of-requires-clause-r_in_grid : goal.of-requires-clause-r_in_grid

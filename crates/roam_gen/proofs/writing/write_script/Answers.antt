@@ -1,12 +1,14 @@
-use Rattle.std.proofs.Common.{◌≡◌, ℕ, ◌+◌, ◌-◌, take, drop, suc, sym, ◌∙◌, subst, arith}
+use Rattle.std.proofs.Common.{◌≡◌, ℕ, ◌+◌, ◌-◌, take, drop, suc, sym, ◌∙◌, subst, arith, ap, length}
 use Rattle.std.specs.List.{flat_map}
 use Rattle.std.proofs.lemmas.List.{take_all}
 use Rattle.std.proofs.lemmas.Result.{err_from_is_err_and}
 use Rattle.roam_gen.specs.Generated.{made_lines}
 use Rattle.roam_gen.specs.Written.{line_text, script_text}
 use Rattle.roam_gen.specs.Rows.{Wrote}
-use Rattle.roam_gen.proofs.ScriptLemmas.{lines-count, texts-more, texts-split}
+use Rattle.roam_gen.proofs.ScriptLemmas.{lines-at, texts-more, texts-split}
 use Rattle.roam_gen.proofs.SinkLemmas.{wrote-more, wrote-all, wrote-part}
+use Rattle.std.proofs.lemmas.List.FromFn.{length-map-range_with_len}
+use Rattle.roam_gen.specs.LineAt.{line_at}
 use Rattle.roam_gen.proofs.writing.write_script.Goals as goal
 
 pub returns-in_err-write-clause-bytes : goal.returns-in_err-write-clause-bytes
@@ -37,7 +39,8 @@ loop-i-preserved g c =
 pub returns-clause-bytes : goal.returns-clause-bytes
 returns-clause-bytes g c =
     let lines = made_lines c.args.n c.args.seed in
-    let count = lines-count c.args.n c.args.seed in
+    let count : length lines ≡ 105 =
+    ap length (lines-at c.args.n c.args.seed) ∙ length-map-range_with_len (line_at c.args.n c.args.seed) 1 105 in
     let all : take (c.loop-i.i - 1) lines ≡ lines = take_all (c.loop-i.i - 1) lines (omega (arith, count)) in
     let before = g.S.Sink.contents c.args.out.now in
     let now = g.S.Sink.contents c.loop-i.out in

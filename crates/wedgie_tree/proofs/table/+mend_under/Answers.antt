@@ -1,11 +1,12 @@
 use Rattle.std.proofs.Common.{ℕ, ◌^◌, ◌+◌, ◌-◌, ◌*◌, ◌<◌, ◌≤◌, sym, subst, arith, slice_index_or, set}
 use Rattle.mesh_defs.specs.Triangle.{level_of}
 use Rattle.wedgie_tree.specs.Table.{IsWedge}
-use Rattle.wedgie_tree.proofs.PlaceLemmas.{IsWithin-of, IsWithin-largest}
+use Rattle.wedgie_tree.proofs.PlaceLemmas.{IsWithin-of}
 use Rattle.wedgie_tree.proofs.AreaLemmas.{address_laws}
 use Rattle.wedgie_tree.proofs.MendLemmas.{IsClearOf-apart, AllUnder-clear, IsRightOff-kept}
 use Rattle.wedgie_tree.specs.Edits.{IsClearOf}
 use Rattle.wedgie_tree.proofs.TableLemmas.{AllUnder-filled, HasEntry-set}
+use Rattle.bintree_laws.proofs.CornerLemmas.{IsWithin-largest}
 use Rattle.wedgie_tree.proofs.table.+mend_under.Goals as goal
 
 pub child_corners-requires : goal.child_corners-requires

@@ -2,7 +2,7 @@ use Rattle.std.proofs.Common.{◌≡◌, ap, ◌∙◌}
 use Rattle.mesh_defs.specs.HeightField.{HeightField}
 use Rattle.mesh_defs.specs.Triangle.{corners_of}
 use Rattle.wedgie_tree.proofs.BoxLemmas.{box-x0, box-x1, box-y0, box-y1, box-z0, box-z1}
-use Rattle.wedgie_tree.proofs.PlaceLemmas.{IsWithin-largest}
+use Rattle.bintree_laws.proofs.CornerLemmas.{IsWithin-largest}
 use Rattle.wedgie_tree.proofs.wedges.Wedges.cuboid.Goals as goal
 
 -- the corners are those in the grid that clauses see

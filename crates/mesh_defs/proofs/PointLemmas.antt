@@ -1,4 +1,4 @@
--- The greatest value over the points that pass a test, and the points of the grid.
+-- Points in lists: the greatest value over those that pass a test, and the points of the grid.
 use Rattle.std.proofs.Common.{◌≡◌, ℕ, zero, suc, ◌+◌, ◌^◌, ◌<◌, ◌≤◌, ◌⊎◌, Bool, true, false, cond, max, List, [], ◌∷◌, ◌++◌, map, refl, arith, ⊎_elim, inl, inr}
 use Rattle.std.proofs.lemmas.Bool.{cases_lt}
 use Rattle.std.specs.List.{filter, flat_map, range_with_len}
@@ -8,21 +8,22 @@ use Rattle.mesh_defs.specs.BoundingBox.{point, points_of, greatest}
 
 -- ---- entries of a list
 
--- x is an entry of the list
-abbrev pub IsIn : {X : Type 0} → X → List X → Type 0
-IsIn x [] = ⊥
-IsIn x (y ∷ ys) = (x ≡ y) ⊎ IsIn x ys
+-- p is an entry of the list
+abbrev pub IsPointIn : Point → List Point → Type 0
+IsPointIn p [] = ⊥
+IsPointIn p (q ∷ qs) = (p ≡ q) ⊎ IsPointIn p qs
 
-IsIn-append-left : {X : Type 0} (x : X) (xs ys : List X) → IsIn x xs → IsIn x (xs ++ ys)
-IsIn-append-left x [] ys h = absurd h
-IsIn-append-left x (z ∷ zs) ys h =
-    ⊎_elim {C = IsIn x ((z ∷ zs) ++ ys)} (λ e. inl e) (λ t. inr (IsIn-append-left x zs ys t)) h
+IsPointIn-append-left : (x : Point) (xs ys : List Point) → IsPointIn x xs → IsPointIn x (xs ++ ys)
+IsPointIn-append-left x [] ys h = absurd h
+IsPointIn-append-left x (z ∷ zs) ys h =
+    ⊎_elim {C = IsPointIn x ((z ∷ zs) ++ ys)} (λ e. inl e) (λ t. inr (IsPointIn-append-left x zs ys t)) h
 
-IsIn-append-right : {X : Type 0} (x : X) (xs ys : List X) → IsIn x ys → IsIn x (xs ++ ys)
-IsIn-append-right x [] ys h = h
-IsIn-append-right x (z ∷ zs) ys h = inr (IsIn-append-right x zs ys h)
+IsPointIn-append-right : (x : Point) (xs ys : List Point) → IsPointIn x ys → IsPointIn x (xs ++ ys)
+IsPointIn-append-right x [] ys h = h
+IsPointIn-append-right x (z ∷ zs) ys h = inr (IsPointIn-append-right x zs ys h)
 
-greatest-cond : (f : Point → ℕ) (t : Bool) (x : Point) (xs : List Point) →
+-- one point more, if it passes
+pub greatest-cond : (f : Point → ℕ) (t : Bool) (x : Point) (xs : List Point) →
     greatest (map f (cond t (x ∷ xs) xs)) ≡ cond t (max (f x) (greatest (map f xs))) (greatest (map f xs))
 greatest-cond f true x xs = refl
 greatest-cond f false x xs = refl
@@ -47,7 +48,7 @@ greatest-skip-step true h k m le = omega arith
 greatest-skip-step false h k m le = le
 
 -- a point that passes has at most the greatest value
-pub le-greatest : (f : Point → ℕ) (p : Point → Bool) (x : Point) → p x ≡ true → (xs : List Point) → IsIn x xs →
+pub le-greatest : (f : Point → ℕ) (p : Point → Bool) (x : Point) → p x ≡ true → (xs : List Point) → IsPointIn x xs →
     f x ≤ greatest (map f (filter p xs))
 le-greatest f p x passes [] h = absurd h
 le-greatest f p x passes (y ∷ ys) h = rw (greatest-cond f (p y) y (filter p ys)) (⊎_elim
@@ -58,29 +59,29 @@ le-greatest f p x passes (y ∷ ys) h = rw (greatest-cond f (p y) y (filter p ys
 
 -- ---- the points of the grid
 
-IsIn-row : (y a k x : ℕ) → a ≤ x → x < a + k → IsIn (point x y) (map (λ i. point i y) (range_with_len a k))
-IsIn-row y a zero x from to = absurd (omega arith)
-IsIn-row y a (suc k) x from to =
-    ⊎_elim {C = IsIn (point x y) (map (λ i. point i y) (range_with_len a (suc k)))}
-    (λ later. inr (IsIn-row y (a + 1) k x (omega arith) (omega arith)))
+IsPointIn-row : (y a k x : ℕ) → a ≤ x → x < a + k → IsPointIn (point x y) (map (λ i. point i y) (range_with_len a k))
+IsPointIn-row y a zero x from to = absurd (omega arith)
+IsPointIn-row y a (suc k) x from to =
+    ⊎_elim {C = IsPointIn (point x y) (map (λ i. point i y) (range_with_len a (suc k)))}
+    (λ later. inr (IsPointIn-row y (a + 1) k x (omega arith) (omega arith)))
     (λ here. let same : x ≡ a = omega arith in inl (rw same refl))
     (cases_lt a x)
 
-IsIn-rows : (side a k x y : ℕ) → x < side → a ≤ y → y < a + k →
-    IsIn (point x y) (flat_map (λ j. map (λ i. point i j) (range_with_len 0 side)) (range_with_len a k))
-IsIn-rows side a zero x y fits from to = absurd (omega arith)
-IsIn-rows side a (suc k) x y fits from to =
-    ⊎_elim {C = IsIn (point x y) (flat_map (λ j. map (λ i. point i j) (range_with_len 0 side)) (range_with_len a (suc k)))}
-    (λ later. IsIn-append-right (point x y) (map (λ i. point i a) (range_with_len 0 side))
+IsPointIn-rows : (side a k x y : ℕ) → x < side → a ≤ y → y < a + k →
+    IsPointIn (point x y) (flat_map (λ j. map (λ i. point i j) (range_with_len 0 side)) (range_with_len a k))
+IsPointIn-rows side a zero x y fits from to = absurd (omega arith)
+IsPointIn-rows side a (suc k) x y fits from to =
+    ⊎_elim {C = IsPointIn (point x y) (flat_map (λ j. map (λ i. point i j) (range_with_len 0 side)) (range_with_len a (suc k)))}
+    (λ later. IsPointIn-append-right (point x y) (map (λ i. point i a) (range_with_len 0 side))
     (flat_map (λ j. map (λ i. point i j) (range_with_len 0 side)) (range_with_len (a + 1) k))
-    (IsIn-rows side (a + 1) k x y fits (omega arith) (omega arith)))
+    (IsPointIn-rows side (a + 1) k x y fits (omega arith) (omega arith)))
     (λ here. let same : y ≡ a = omega arith in
-    IsIn-append-left (point x y) (map (λ i. point i a) (range_with_len 0 side))
+    IsPointIn-append-left (point x y) (map (λ i. point i a) (range_with_len 0 side))
     (flat_map (λ j. map (λ i. point i j) (range_with_len 0 side)) (range_with_len (a + 1) k))
-    (rw same (IsIn-row a 0 side x (omega arith) (omega arith))))
+    (rw same (IsPointIn-row a 0 side x (omega arith) (omega arith))))
     (cases_lt a y)
 
 -- each point of the square is a grid point
-pub IsIn-points_of : (n : ℕ) (r : Point) → r.x ≤ 2 ^ n → r.y ≤ 2 ^ n → IsIn r (points_of n)
+pub IsPointIn-points_of : (n : ℕ) (r : Point) → r.x ≤ 2 ^ n → r.y ≤ 2 ^ n → IsPointIn r (points_of n)
 unfolding points_of
-IsIn-points_of n r x y = IsIn-rows (side_of n) 0 (side_of n) r.x r.y (omega arith) (omega arith) (omega arith)
+IsPointIn-points_of n r x y = IsPointIn-rows (side_of n) 0 (side_of n) r.x r.y (omega arith) (omega arith) (omega arith)
