@@ -4,6 +4,7 @@ pub mod Told
 pub mod Shelf
 pub mod MeshSink
 pub mod Sink
+pub mod RealFile
 pub mod CalmShelf
 pub mod MemSink
 pub mod MemMeshes

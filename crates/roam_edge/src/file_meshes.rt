@@ -1,6 +1,11 @@
 //! A sink of meshes over real files.
 
-ghost use Rattle.std.specs.Prelude.{◌≡◌, false};
+ghost use Rattle.std.specs.Prelude.{◌≡◌, None, true, false, OnErr, is_some, is_err};
+ghost use Rattle.std.specs.Io.KnownBytes.{Keeps};
+ghost use Rattle.roam_edge.specs.Fault.{HasCause};
+ghost use Rattle.roam_edge.specs.MeshSink.{Writes, Finishes};
+ghost use Rattle.roam_edge.specs.Sink.{Appends};
+ghost use Rattle.roam_edge.specs.RealFile.{of_open};
 
 use crate::mesh_name::mesh_name;
 use crate::std_sink::write_all;
@@ -57,26 +62,51 @@ impl<'r, R: Files> MeshSink for FileMeshes<'r, R> {
         }
     }
 
-    fn write(&mut self, piece: &[u8]) -> Result<(), Failed> {
+    fn write(&mut self, piece: &[u8]) -> Result<(), Failed>
+        requires { is_some self.old.file ≡ true }
+        ensures file { Appends (of_open R.File.contents self.old.file)
+            (of_open R.File.contents self.new.file) piece.now result }
+        ensures mesh { Writes None None piece.now result }
+        ensures under_way { is_some self.new.file ≡ is_some self.old.file }
+        ensures faults { HasCause self.old.faults self.new.faults result }
+    {
         let Some(file) = &mut self.file else {
             unreachable!()
         };
         write_all(file, &mut self.faults, piece)
     }
 
-    fn finish(&mut self) -> Result<(), Failed> {
+    fn finish(&mut self) -> Result<(), Failed>
+        requires { is_some self.old.file ≡ true }
+        ensures file { OnErr result (Keeps (of_open R.File.contents self.old.file)
+            (of_open R.File.contents self.new.file)) }
+        ensures mesh { Finishes None None result }
+        ensures under_way { is_some self.new.file ≡ is_err result }
+        ensures faults { HasCause self.old.faults self.new.faults result }
+    {
         let Some(file) = &mut self.file else {
             unreachable!()
         };
-        match file.flush() {
+        match flush_once(file, &mut self.faults) {
             Ok(()) => {
                 self.file = None;
                 Ok(())
             }
-            Err(_) => {
-                self.faults = self.faults.saturating_add(1);
-                Err(Failed)
-            }
+            Err(failed) => Err(failed),
+        }
+    }
+}
+
+/// Flushes once; an error counts as a fault, and is not tried again.
+pub(crate) fn flush_once<F: Write>(file: &mut F, faults: &mut u64) -> Result<(), Failed>
+    ensures bytes { Keeps (F.contents file.old) (F.contents file.new) }
+    ensures faults { HasCause faults.old faults.new result }
+{
+    match file.flush() {
+        Ok(()) => Ok(()),
+        Err(_) => {
+            *faults = faults.saturating_add(1);
+            Err(Failed)
         }
     }
 }

@@ -1,6 +1,9 @@
 //! A shelf over real files.
 
-ghost use Rattle.std.specs.Prelude.{◌≡◌, true};
+ghost use Rattle.std.specs.Prelude.{◌≡◌, ◌<◌, ◌≤◌, ℕ, None, true, false, IfOk, is_err, is_none, length};
+ghost use Rattle.roam_edge.specs.Fault.{HasCause, next_count};
+ghost use Rattle.roam_edge.specs.Shelf.{Opens, Reads, Ends};
+ghost use Rattle.roam_edge.specs.RealFile.{TakesNext, of_open};
 
 use crate::{Failed, Shelf};
 use std::fs;
@@ -62,20 +65,47 @@ impl<'r, R: Files> Shelf for FileShelf<'r, R> {
         }
     }
 
-    fn read(&mut self, buf: &mut [u8]) -> Result<usize, Failed> {
+    fn read(&mut self, buf: &mut [u8]) -> Result<usize, Failed>
+        requires room { 0 < length buf.old }
+        requires not_ended { is_none self.old.file ≡ false }
+        ensures file { TakesNext (of_open R.File.remaining self.old.file)
+            (of_open R.File.remaining self.new.file) buf.new result }
+        ensures bound { IfOk result (λ k. k ≤ length buf.old) }
+        ensures bytes { Reads None None buf.old buf.new result }
+        ensures ends { Ends (is_none self.old.file) (is_none self.new.file) result }
+        ensures count { self.new.opens ≡ self.old.opens }
+        ensures faults { HasCause self.old.faults self.new.faults result }
+    {
         let Some(file) = &mut self.file else {
             unreachable!()
         };
-        match file.read(buf) {
+        match read_once(file, &mut self.faults, buf) {
             Ok(0) => {
                 self.file = None;
                 Ok(0)
             }
             Ok(count) => Ok(count),
-            Err(_) => {
-                self.faults = self.faults.saturating_add(1);
-                Err(Failed)
-            }
+            Err(failed) => Err(failed),
+        }
+    }
+}
+
+/// Reads once; an error counts as a fault, and is not tried again.
+pub(crate) fn read_once<F: Read>(
+    file: &mut F,
+    faults: &mut u64,
+    buf: &mut [u8],
+) -> Result<usize, Failed>
+    requires room { 0 < length buf.old }
+    ensures bound { IfOk result (λ k. k ≤ length buf.old) }
+    ensures bytes { TakesNext (F.remaining file.old) (F.remaining file.new) buf.new result }
+    ensures faults { HasCause faults.old faults.new result }
+{
+    match file.read(buf) {
+        Ok(count) => Ok(count),
+        Err(_) => {
+            *faults = faults.saturating_add(1);
+            Err(Failed)
         }
     }
 }

@@ -12,6 +12,8 @@ mod calm_shelf;
 mod failures;
 mod file_meshes;
 mod file_shelf;
+#[cfg(test)]
+mod flaky_files;
 mod mem_meshes;
 mod mem_sink;
 mod mesh_call;

@@ -3,12 +3,16 @@
 ghost use Rattle.std.specs.Prelude.{◌≡◌, ◌<◌, ◌≤◌, ◌^◌, false, length};
 ghost use Rattle.roam_edge.specs.declared.mesh_sink.TheConstants.{LONGEST_PREFIX, GREATEST_NUMBER};
 
+use crate::flaky_files::FlakyFiles;
 use crate::{
     CalmShelf, Failed, FileMeshes, FileShelf, LONGEST_PREFIX, MemMeshes, MemSink, MeshCall,
     MeshSink, Shelf, Sink, StdSink,
 };
+use std::cell::Cell;
 use std::io::Write;
 use std::path::PathBuf;
+use std::rc::Rc;
+use std::rt::Files;
 use std::test::Fail;
 use std::{env, fs, io, process};
 
@@ -174,6 +178,85 @@ fn a_sink_over_a_real_file_fills_it(rt: HostRuntime) -> Result<(), Fail> {
     fs::remove_dir_all(&rt, folder.as_path())?;
     assert_eq!(rt; put, Ok(()));
     assert_eq!(rt; bytes?.as_slice(), b"frame 1\nframe 2\n".as_slice());
+    Ok(())
+}
+
+/// Opens a file of these files by name and reads once.
+fn read_through<R: Files>(files: &R, name: &str, buf: &mut [u8]) -> Result<usize, Failed>
+    requires { 0 < length buf.old }
+{
+    let mut shelf = FileShelf::new(files);
+    read_front(&mut shelf, name, buf)
+}
+
+/// A mesh as one of these files.
+fn put_through<R: Files>(files: &R, prefix: &str, number: u32) -> Result<(), Failed>
+    requires number_low { 1 ≤ number }
+    requires number_high { number ≤ GREATEST_NUMBER }
+{
+    let mut meshes = FileMeshes::new(files);
+    put_at(&mut meshes, prefix, number)
+}
+
+#[test]
+fn a_failed_read_or_open_is_told_and_not_tried_again(rt: HostRuntime) -> Result<(), Fail> {
+    let cases = [
+        (1, "grid", Err(Failed)),
+        (2, "grid", Err(Failed)),
+        (3, "grid", Ok(3)),
+        (2, "none", Err(Failed)),
+    ];
+    for (fails, name, want) in cases {
+        let files = FlakyFiles {
+            calls: Rc::new(rt.alloc(), Cell::new(0))?,
+            fails,
+            name: "grid",
+        };
+        let mut buf = [0u8; 8];
+        let read = read_through(&files, name, &mut buf);
+        assert_eq!(rt; read, want, "{fails} {name}");
+        let made = if name == "none" { 1 } else { fails.min(2) };
+        assert_eq!(rt; files.calls.get(), made, "{fails} {name}");
+    }
+    Ok(())
+}
+
+#[test]
+fn a_failed_call_of_a_mesh_is_told_and_not_tried_again(rt: HostRuntime) -> Result<(), Fail> {
+    for fails in 1..6 {
+        let files = FlakyFiles {
+            calls: Rc::new(rt.alloc(), Cell::new(0))?,
+            fails,
+            name: "out000042.obj",
+        };
+        let put = put_through(&files, "out", 42);
+        assert_eq!(rt; put.is_ok(), fails == 5, "{fails}");
+        assert_eq!(rt; files.calls.get(), fails.min(4), "{fails}");
+    }
+    Ok(())
+}
+
+#[test]
+fn a_shelf_of_real_files_opens_anew_while_a_file_is_open(rt: HostRuntime) -> Result<(), Fail> {
+    let folder = make_folder(&rt, "anew")?;
+    let grid = folder.join(rt.alloc(), "grid")?;
+    let script = folder.join(rt.alloc(), "script")?;
+    let none = folder.join(rt.alloc(), "none")?;
+    fs::write(&rt, grid.as_path(), "abc")?;
+    fs::write(&rt, script.as_path(), "frame\n")?;
+    let mut shelf = FileShelf::new(&rt);
+    let mut buf = [0u8; 2];
+    let first = read_front(&mut shelf, grid.as_path().as_str(), &mut buf);
+    let mut again = [0u8; 2];
+    let anew = read_front(&mut shelf, grid.as_path().as_str(), &mut again);
+    let mut other = [0u8; 2];
+    let next = read_front(&mut shelf, script.as_path().as_str(), &mut other);
+    let missing = read_front(&mut shelf, none.as_path().as_str(), &mut [0u8; 2]);
+    fs::remove_dir_all(&rt, folder.as_path())?;
+    assert_eq!(rt; (first, &buf), (Ok(2), b"ab"));
+    assert_eq!(rt; (anew, &again), (Ok(2), b"ab"));
+    assert_eq!(rt; (next, &other), (Ok(2), b"fr"));
+    assert_eq!(rt; missing, Err(Failed));
     Ok(())
 }
 
