@@ -2,3 +2,4 @@ pub mod LineLemmas
 pub mod NumberLemmas
 pub mod PageLemmas
 pub mod PlaceLemmas
+pub mod TableLemmas

@@ -1,5 +1,6 @@
 pub mod MeshView
 pub mod Numbers
 pub mod Page
+pub mod Table
 pub mod VertexMarks
 pub mod Written

@@ -10,9 +10,11 @@
 
 mod mesh;
 mod page;
+mod table;
 #[cfg(test)]
 mod tests;
 mod vertices;
 
 pub use mesh::{MeshView, write_mesh};
+pub use table::VertexTable;
 pub use vertices::number_vertices;

@@ -4,7 +4,7 @@ ghost use Rattle.std.specs.Prelude.{◌≡◌, ◌≤◌, ◌*◌, IfOk, All, fa
 ghost use Rattle.mesh_defs.specs.Triangle.{level_of};
 
 use crate::tests::pieces::Pieces;
-use crate::{MeshView, number_vertices, write_mesh};
+use crate::{MeshView, VertexTable, number_vertices, write_mesh};
 use bintree_addr::Tri;
 use cull_marks::{Plane, Planes};
 use pgm_grid::{Grid, PgmReader};
@@ -115,6 +115,22 @@ fn vertices_are_numbered_by_y_and_then_by_x(rt: HostRuntime) -> Result<(), Fail>
         let mut found = [9; 9];
         assert_eq!(rt; number_vertices(leaves.as_slice(), 1, &mut found), count);
         assert_eq!(rt; found, want);
+    }
+    Ok(())
+}
+
+/// A coarse mesh after a fine one: the table and the slice have the same numbers.
+#[test]
+fn a_table_numbers_one_mesh_after_another(rt: HostRuntime) -> Result<(), Fail> {
+    let fine = finest(rt.alloc())?;
+    let mut table = VertexTable::new(rt.alloc(), 5)?;
+    let mut want = vec![in rt.alloc(); 0; 1089]?;
+    for numbers in [&HALVES[..], fine.as_slice(), &QUARTERS[..]] {
+        let leaves = leaves_of(&rt, rt.alloc(), 5, numbers)?;
+        let count = number_vertices(leaves.as_slice(), 5, want.as_mut_slice());
+        assert!(rt; table.numbers().len() == 1089);
+        assert_eq!(rt; table.number(leaves.as_slice(), 5), count);
+        assert!(rt; table.numbers() == want.as_slice());
     }
     Ok(())
 }

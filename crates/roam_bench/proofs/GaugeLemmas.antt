@@ -1,9 +1,6 @@
 -- Priorities without planes, and how they fall with the distance.
-use Rattle.std.proofs.Common.{◌≡◌, ℕ, ◌+◌, ◌-◌, ◌*◌, ◌/◌, ◌≤◌, ◌⊎◌, ◌||◌, false, nat_lt, List, [], Option, None, Some, refl, sym, subst, arith, ⊎_elim}
-use Rattle.std.proofs.lemmas.Int.{ints}
+use Rattle.std.proofs.Common.{◌≡◌, ℕ, ◌+◌, ◌-◌, ◌/◌, ◌≤◌, ◌⊎◌, ◌||◌, false, nat_lt, List, [], Option, None, Some, refl, sym, subst, arith, ⊎_elim}
 use Rattle.std.proofs.lemmas.Bool.{lt-ltb, cases_lt, both_ways}
-use Rattle.std.proofs.Math.Nat.{mul-le-mul, div-mul-le_self}
-use Rattle.std.proofs.lemmas.Nat.{le-div}
 use Rattle.mesh_defs.specs.BoundingBox.{CameraAt}
 use Rattle.mesh_defs.specs.Thickness.{thickness_of}
 use Rattle.mesh_defs.specs.View.{mark_of}
@@ -16,15 +13,7 @@ use Rattle.deferred_loop.specs.Promise.{AreStampsGood}
 use Rattle.mesh_defs.specs.ClosedSet.{among}
 use Rattle.view_priority.specs.Camera.{view_from}
 use Rattle.roam_bench.specs.Seen.{told_from, far_from, readings_from}
-
--- farther is no more
-ratio_of-farther : (e c d : ℕ) → d ≤ c → ratio_of e c ≤ ratio_of e d
-ratio_of-farther e c d nearer =
-    let q = ratio_of e c in
-    let nearer_next : d + 1 ≤ c + 1 = omega arith in
-    let same : q ≤ q = omega arith in
-    le-div q (65536 * e) (d + 1) (omega arith)
-    (omega (arith, div-mul-le_self (65536 * e) (c + 1), mul-le-mul same nearer_next))
+use Rattle.mesh_defs.proofs.DistanceLemmas.{ratio_of-farther, move_length-back}
 
 -- without planes all is seen
 priority_of-seen : (n : ℕ) (heights : List ℕ) (camera : CameraAt) (a : ℕ) →
@@ -44,10 +33,6 @@ between-near n heights from to odometer a far near =
     let low = ratio_of-farther e (d + d / 8) (far_from n heights to a) far in
     let high = ratio_of-farther e (far_from n heights to a) (d - d / 8) (omega arith) in
     record { below = rw seen low; above = rw seen high }
-
--- a way back is as long
-pub move_length-back : (from to : CameraAt) → move_length to from ≡ move_length from to
-move_length-back from to = grind (arith, ints)
 
 -- a stamp that is not due holds for a way from its odometer
 not_due-within : (later odometer slack : ℕ) → (false || nat_lt (odometer + slack) later) ≡ false → later ≤ odometer + slack

@@ -6,6 +6,7 @@
 
 #![tactic(auto)]
 
+mod flights;
 mod frames;
 mod gauge;
 mod heaps;
@@ -13,6 +14,7 @@ mod pools;
 mod reading;
 mod scripts;
 
+use crate::flights::{Flown, flight_of, fly};
 use crate::frames::{case_of, frame};
 use crate::heaps::heap_calls;
 use crate::pools::{Work, filled, made, refined};
@@ -39,6 +41,12 @@ fn main(rt: HostRuntime) -> io::Result<()> {
                     "{word} calls {} found {} seconds {:.6}",
                     it.evaluations, it.changes, it.seconds
                 )?;
+            }
+            continue;
+        }
+        if let Some(flight) = flight_of(word.as_str()) {
+            if let Some(it) = fly(&rt, flight)? {
+                print_flown(&rt, word.as_str(), it)?;
             }
             continue;
         }
@@ -77,6 +85,18 @@ fn main(rt: HostRuntime) -> io::Result<()> {
         };
         let seconds = start.elapsed(&rt)?.as_secs_f64();
         println!(rt; "{word} calls {calls} found {found} seconds {seconds:.6}")?;
+    }
+    Ok(())
+}
+
+/// Prints what a flight took: the tables, the first frame, and the later ones.
+fn print_flown(rt: &HostRuntime, word: &str, it: Flown) -> io::Result<()> {
+    println!(rt; "{word} tables {:.6}", it.tables)?;
+    for (name, frames) in [("first", it.first), ("later", it.later)] {
+        println!(rt;
+            "{word} {name} {} calls {} found {} seconds {:.6}",
+            frames.count, frames.evaluations, frames.changes, frames.seconds
+        )?;
     }
     Ok(())
 }

@@ -35,7 +35,7 @@ fn main(rt: HostRuntime) -> ExitCode {
     if let Some(line) = explanation(run.status) {
         let _ = rt.eprintln(line);
     }
-    ExitCode::from(run.status as u8)
+    ExitCode::from(run.status.number())
 }
 
 /// The words of the command line, the program's name first.
@@ -47,7 +47,7 @@ fn all_words(rt: &(impl Env + AllocGlobal)) -> io::Result<Vec<String>> {
 fn without_words(rt: &impl Eprint, kind: ErrorKind) -> ExitCode {
     if kind == ErrorKind::OutOfMemory {
         let _ = rt.eprintln("roam: out of memory");
-        return ExitCode::from(Status::NoMemory as u8);
+        return ExitCode::from(Status::NoMemory.number());
     }
     let _ = rt.eprintln("roam: a word of the command line is not UTF-8");
     ExitCode::from(NO_WORDS)
@@ -61,7 +61,7 @@ fn explanation(status: Status) -> Option<&'static str>
         Status::NoMemory => Some("roam: out of memory"),
         Status::Usage => {
             Some(
-                "usage: roam info GRID, or roam try N SEED, or roam mesh GRID SCRIPT PREFIX BUDGET SPACING   (PREFIX has 1 to 200 bytes, BUDGET is 2 to 1048576, SPACING 1 to 1024, N 1 to 11, SEED 0 to 4294967295)",
+                "usage: roam info GRID, or roam try N SEED, or roam mesh GRID SCRIPT PREFIX BUDGET SPACING, or roam strip GRID SCRIPT PREFIX BUDGET SPACING, or roam measure GRID SCRIPT BUDGET SPACING   (PREFIX has 1 to 200 bytes, BUDGET is 2 to 1048576, SPACING 1 to 1024, N 1 to 11, SEED 0 to 4294967295)",
             )
         }
         Status::ReadFault => Some("roam: the grid or the script could not be opened or read"),

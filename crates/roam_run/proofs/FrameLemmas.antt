@@ -1,69 +1,123 @@
 -- A frame that was written or cut short.
-use Rattle.std.proofs.Common.{◌≡◌, ℕ, ◌+◌, true, List, [], ◌∷◌, ◌++◌, Option, Some, Ok, Err, ◌∙◌, ap, subst, length}
+use Rattle.std.proofs.Common.{◌≡◌, ℕ, true, List, [], ◌∷◌, ◌++◌, Option, Some, refl, sym, ◌∙◌, ap, subst, length, codes, decimal, append-nil}
 use Rattle.mesh_defs.specs.State.{State, text_in}
 use Rattle.roam_edge.specs.MeshSink.{Mesh}
 use Rattle.roam_edge.specs.Told.{IsPrefix}
 use Rattle.obj_write.specs.Written.{mesh_with, Grows, IsPartOfMesh}
 use Rattle.run_laws.specs.Words.{AsMeshes}
 use Rattle.run_laws.specs.Picture.{Picture, triangles_of}
-use Rattle.run_laws.specs.Act.{Act, ReportText, Told, told, Stands, IsCutShort}
+use Rattle.run_laws.specs.Act.{ReportText, told, Stands, IsCutShort}
 use Rattle.run_laws.specs.ReportText.{frame_line}
 use Rattle.run_laws.specs.Outcome.{picture_acts}
 use Rattle.run_laws.proofs.ActLemmas.{cut-mesh, cut-line}
-use Rattle.roam_run.specs.declared.mesh.FrameMesh.{FrameMesh}
-use Rattle.roam_run.specs.declared.stage.Stage.{Stage}
-use Rattle.roam_run.specs.declared.script.Stop.TheVariants.{Failed}
-use Rattle.roam_run.specs.MeshSeen.{picture_seen, IsMeshOf}
-use Rattle.roam_run.specs.StageView.{SameBut}
-use Rattle.roam_run.specs.Taking.{TakesFrame}
+use Rattle.mesh_defs.specs.HeightField.{HeightField}
+use Rattle.mesh_defs.specs.View.{ViewPlane}
+use Rattle.mesh_defs.specs.ClosedSet.{leaves_of, among}
+use Rattle.mesh_defs.specs.MeshText.{mesh_text, vertices_of}
+use Rattle.mesh_defs.specs.declared.mark.Mark.TheVariants.{Inside, Cut, Outside}
+use Rattle.obj_write.specs.declared.mesh.MeshView.{MeshView}
+use Rattle.obj_write.specs.MeshView.{view_text}
+use Rattle.roam_mesh.specs.Mesh.{MeshState, members_of}
+use Rattle.frame_loop.specs.Engine.{EngineState, IsFrameDone}
+use Rattle.frame_loop.specs.declared.note.FrameNote.{FrameNote}
+use Rattle.run_laws.specs.Picture.{mark_count}
+use Rattle.run_laws.specs.ReportText.{blocked_text, marks_text}
+use Rattle.roam_run.specs.NoteSeen.{picture_seen, leaves_seen, IsNoted, note_marks, note_line}
 
-module _ (meshes meshes' : Option (List Mesh)) (report : Option (List ℕ)) (prefix : List ℕ) (number : ℕ) (picture : Picture) (text : List ℕ)
+-- the counts of a note are those of a mesh under a state
+record IsFrameCounted (state : State) (mesh : MeshState) (note : FrameNote) : Type 0 where
+  pub triangle_count : note.triangles ≡ length (leaves_of state.grid.n (among (members_of mesh.pool)))
+  pub vertex_count : note.vertices ≡ length (vertices_of state.grid.n (leaves_of state.grid.n (among (members_of mesh.pool))))
+  pub inside_count : note.inside ≡ mark_count state Inside (leaves_of state.grid.n (among (members_of mesh.pool)))
+  pub cut_count : note.cut ≡ mark_count state Cut (leaves_of state.grid.n (among (members_of mesh.pool)))
+  pub outside_count : note.outside ≡ mark_count state Outside (leaves_of state.grid.n (among (members_of mesh.pool)))
+
+module _ (meshes meshes' : Option (List Mesh)) (report : Option (List ℕ)) (prefix : List ℕ) (number k : ℕ) (same : k ≡ number) (picture : Picture) (text : List ℕ)
     (is : text ≡ text_in picture.state (triangles_of picture)) where
   -- the mesh of a frame was cut short
-  pub cut-frame-mesh : ((all : List Mesh) → meshes ≡ Some all → (part : List Mesh) × IsPartOfMesh prefix number text part × (meshes' ≡ Some (all ++ part)))
+  pub cut-frame-mesh : ((all : List Mesh) → meshes ≡ Some all → (part : List Mesh) × IsPartOfMesh prefix k text part × (meshes' ≡ Some (all ++ part)))
       → IsCutShort (told meshes report) (told meshes' report) (picture_acts (AsMeshes prefix) number picture)
   cut-frame-mesh part =
-      let P : List ℕ → Type 0 = λ t. (all : List Mesh) → meshes ≡ Some all → (cut : List Mesh) × IsPartOfMesh prefix number t cut × (meshes' ≡ Some (all ++ cut)) in
-      cut-mesh meshes meshes' report prefix number (text_in picture.state (triangles_of picture)) (ReportText (frame_line number picture) ∷ []) (subst P is part)
+      let P : List ℕ → Type 0 = λ t. (all : List Mesh) → meshes ≡ Some all → (cut : List Mesh) × IsPartOfMesh prefix k t cut × (meshes' ≡ Some (all ++ cut)) in
+      let Q : ℕ → Type 0 = λ i. (all : List Mesh) → meshes ≡ Some all → (cut : List Mesh)
+      × IsPartOfMesh prefix i (text_in picture.state (triangles_of picture)) cut × (meshes' ≡ Some (all ++ cut)) in
+      cut-mesh meshes meshes' report prefix number (text_in picture.state (triangles_of picture)) (ReportText (frame_line number picture) ∷ []) (subst Q same (subst P is part))
 
-module _ (meshes meshes' : Option (List Mesh)) (report report' : Option (List ℕ)) (prefix : List ℕ) (number : ℕ) (picture : Picture) (text : List ℕ)
-    (is : text ≡ text_in picture.state (triangles_of picture)) (whole : Grows meshes meshes' (mesh_with prefix number text true ∷ [])) where
+module _ (meshes meshes' : Option (List Mesh)) (report report' : Option (List ℕ)) (prefix : List ℕ) (number k : ℕ) (same : k ≡ number) (picture : Picture) (text : List ℕ)
+    (is : text ≡ text_in picture.state (triangles_of picture)) (whole : Grows meshes meshes' (mesh_with prefix k text true ∷ [])) where
+  -- the mesh that was written is that of the frame
+  is-whole : Grows meshes meshes' (mesh_with prefix number (text_in picture.state (triangles_of picture)) true ∷ [])
+  is-whole =
+      let P : List ℕ → Type 0 = λ t. Grows meshes meshes' (mesh_with prefix k t true ∷ []) in
+      let Q : ℕ → Type 0 = λ i. Grows meshes meshes' (mesh_with prefix i (text_in picture.state (triangles_of picture)) true ∷ []) in
+      subst Q same (subst P is whole)
+
   -- the line of a frame was cut short
-  pub cut-frame-line : ((all : List ℕ) → report ≡ Some all → (front : List ℕ) × IsPrefix front (frame_line number picture) × (report' ≡ Some (all ++ front)))
+  pub cut-frame-line : (line : List ℕ) → line ≡ frame_line number picture
+      → ((all : List ℕ) → report ≡ Some all → (front : List ℕ) × IsPrefix front line × (report' ≡ Some (all ++ front)))
       → IsCutShort (told meshes report) (told meshes' report') (picture_acts (AsMeshes prefix) number picture)
-  cut-frame-line part =
-      let P : List ℕ → Type 0 = λ t. Grows meshes meshes' (mesh_with prefix number t true ∷ []) in
-      cut-line meshes meshes' report report' prefix number (text_in picture.state (triangles_of picture)) (frame_line number picture) (subst P is whole) part
+  cut-frame-line line written part =
+      let P : List ℕ → Type 0 = λ t. (all : List ℕ) → report ≡ Some all → (front : List ℕ) × IsPrefix front t × (report' ≡ Some (all ++ front)) in
+      cut-line meshes meshes' report report' prefix number (text_in picture.state (triangles_of picture)) (frame_line number picture) is-whole (subst P written part)
+
+  -- a frame was written
+  pub frame-stands : (line : List ℕ) → line ≡ frame_line number picture → ((all : List ℕ) → report ≡ Some all → report' ≡ Some (all ++ line))
+      → Stands (told meshes report) (told meshes' report') (picture_acts (AsMeshes prefix) number picture)
+  frame-stands line written came =
+      let P : List ℕ → Type 0 = λ t. (all : List ℕ) → report ≡ Some all → report' ≡ Some (all ++ t) in
+      record {
+        meshes_grow = is-whole;
+        report_grows = λ all told_report. subst P written came all told_report ∙ ap (λ m. Some (all ++ m)) (sym (append-nil (frame_line number picture)));
+      }
 
 -- the text that is written is that of the picture
-pub mesh-text : (state : State) (before : ℕ) (mesh : FrameMesh) (text : List ℕ) → IsMeshOf state mesh → text ≡ text_in state mesh.leaves.items
-    → text ≡ text_in state (triangles_of (picture_seen state before mesh))
-mesh-text state before mesh text is written = written ∙ ap (λ (l : List ℕ). text_in state l) is.leaf_list
+pub mesh-text : (engine : EngineState) (note : FrameNote) (view : MeshView) → view.wedges.now ≡ engine.state.grid → view.planes.now ≡ engine.state.view.planes
+    → view.spacing ≡ engine.state.view.spacing → view.leaves.now ≡ leaves_seen engine → view_text view ≡ text_in engine.state (triangles_of (picture_seen engine note))
+mesh-text engine note view grid planes spacing leaves =
+    ap (λ (g : HeightField). mesh_text g.n g.heights view.spacing view.planes.now view.leaves.now) grid
+    ∙ (ap (λ (l : List ViewPlane). mesh_text engine.state.grid.n engine.state.grid.heights view.spacing l view.leaves.now) planes
+    ∙ (ap (λ (k : ℕ). mesh_text engine.state.grid.n engine.state.grid.heights k engine.state.view.planes view.leaves.now) spacing
+    ∙ ap (λ (l : List ℕ). mesh_text engine.state.grid.n engine.state.grid.heights engine.state.view.spacing engine.state.view.planes l) leaves))
 
-module _ (before now : Told) (prefix : List ℕ) (old mid new : Stage) (mesh : FrameMesh) (same : SameBut old mid) (made : IsMeshOf old.scene mesh) where
-  abbrev acts_of : State → ℕ → ℕ → List Act
-  acts_of state number merges = picture_acts (AsMeshes prefix) (number + 1) (picture_seen state merges mesh)
+-- the marks of a note are those of the mesh
+note-marks : (engine : EngineState) (note : FrameNote) (planes : List ViewPlane) → IsNoted engine note
+    → note_marks planes note ≡ marks_text engine.state planes (leaves_seen engine)
+note-marks engine note [] is = refl
+note-marks engine note (plane ∷ planes) is = rw (is.inside_count, is.cut_count, is.outside_count) refl
 
-  same-acts : acts_of mid.scene mid.frames mid.split ≡ acts_of old.scene old.frames old.split
-  same-acts =
-      ap (λ (s : State). acts_of s mid.frames mid.split) same.scene
-      ∙ (ap (λ (k : ℕ). acts_of old.scene k mid.split) same.frames ∙ ap (λ (k : ℕ). acts_of old.scene old.frames k) same.split)
+-- the line of a note, with these counts and marks
+abbrev line_with : ℕ → FrameNote → ℕ → ℕ → List ℕ → List ℕ
+line_with number note triangles vertices marks =
+    codes "frame " ++ decimal number ++ codes " triangles " ++ decimal triangles
+    ++ codes " vertices " ++ decimal vertices ++ codes " worst " ++ decimal note.worst
+    ++ codes " splits " ++ decimal note.splits ++ codes " merges " ++ decimal note.merges
+    ++ codes " blocked " ++ blocked_text note.blocked ++ marks ++ codes "\n"
 
-  -- a frame was shown
-  pub takes-frame-ok : new.split ≡ length mesh.split.members → Stands before now (acts_of mid.scene mid.frames mid.split)
-      → TakesFrame {T = Unit {0}} before now (AsMeshes prefix) old new (Ok tt)
-  takes-frame-ok split stands = record {
-    ok = (let P : List Act → Type 0 = λ l. Stands before now l in (mesh, made, split, subst P same-acts stands));
-    failed = λ e. cc;
-    no_memory = λ e. cc;
-    not_refused = λ e. cc;
-  }
+-- the line of a note is that of the picture
+pub note-text : (number : ℕ) (engine : EngineState) (note : FrameNote) → IsNoted engine note
+    → note_line number engine.state.view.planes note ≡ frame_line number (picture_seen engine note)
+note-text number engine note is =
+    let planes : List ViewPlane = engine.state.view.planes in
+    let leaves : List ℕ = leaves_seen engine in
+    ap (λ (t : ℕ). line_with number note t note.vertices (note_marks planes note)) is.triangle_count
+    ∙ (ap (λ (v : ℕ). line_with number note (length leaves) v (note_marks planes note)) is.vertex_count
+    ∙ ap (λ (m : List ℕ). line_with number note (length leaves) (length (vertices_of engine.state.grid.n leaves)) m) (note-marks engine note planes is))
 
-  -- a frame was cut short
-  pub takes-frame-cut : IsCutShort before now (acts_of mid.scene mid.frames mid.split) → TakesFrame {T = Unit {0}} before now (AsMeshes prefix) old new (Err Failed)
-  takes-frame-cut cut = record {
-    ok = tt;
-    failed = λ e. (let P : List Act → Type 0 = λ l. IsCutShort before now l in (mesh, made, subst P same-acts cut));
-    no_memory = λ e. cc;
-    not_refused = λ e. cc;
-  }
+-- the note of a frame has the counts of its mesh
+pub done-noted : (old new : EngineState) (note : FrameNote) → IsFrameDone old new note → IsNoted new note
+done-noted old new note done =
+    let P : State → Type 0 = λ s. IsFrameCounted s new.mesh note in
+    let counted : IsFrameCounted new.state new.mesh note = subst P (sym done.state) (record {
+      triangle_count = done.triangles;
+      vertex_count = done.vertices;
+      inside_count = done.inside;
+      cut_count = done.cut;
+      outside_count = done.outside;
+    }) in
+    record {
+      triangle_count = counted.triangle_count;
+      vertex_count = counted.vertex_count;
+      inside_count = counted.inside_count;
+      cut_count = counted.cut_count;
+      outside_count = counted.outside_count;
+    }

@@ -1,9 +1,8 @@
 -- How a command on a grid ends: at its grid, at its line of facts, and at its script.
-use Rattle.std.proofs.Common.{◌≡◌, ◌≢◌, ℕ, ◌+◌, ◌^◌, ◌≤◌, Bool, List, [], ◌++◌, length, take, Option, Some, Result, Ok, Err, refl, sym, ◌∙◌, ap, subst, arith, inl, inr}
+use Rattle.std.proofs.Common.{◌≡◌, ◌≢◌, ◌⊎◌, inl, inr, ℕ, ◌+◌, ◌^◌, ◌≤◌, Bool, false, IsTrue, if◌then◌else◌, List, [], ◌++◌, Option, None, Some, option_map, Result, Ok, Err, refl, sym, ◌∙◌, ap, subst, arith}
 use Rattle.std.proofs.Math.Nat.{min-eq_left}
-use Rattle.std.proofs.Math.Seq.{take-append_seam}
 use Rattle.mesh_defs.specs.HeightField.{HeightField}
-use Rattle.mesh_defs.specs.State.{State, start_state}
+use Rattle.mesh_defs.specs.State.{start_state}
 use Rattle.roam_edge.specs.Fault.{next_count}
 use Rattle.roam_edge.specs.MeshSink.{Mesh}
 use Rattle.roam_edge.specs.Shelf.{NamedFile, bytes_of}
@@ -12,19 +11,20 @@ use Rattle.pgm_grid.specs.declared.fault.PgmFault.{PgmFault}
 use Rattle.pgm_grid.specs.Progress.{grid_of}
 use Rattle.run_laws.specs.declared.status.Status.{Status}
 use Rattle.run_laws.specs.declared.status.Status.TheVariants as ends
-use Rattle.run_laws.specs.Walk.{Walk, start_walk, walk_of, HasBegun}
+use Rattle.run_laws.specs.Walk.{Walk, start_walk, HasBegun}
 use Rattle.run_laws.specs.Words.{Scripted, Job, Frames, Facts, OnGrid}
-use Rattle.run_laws.specs.Picture.{Picture, ArePictures}
-use Rattle.run_laws.specs.Act.{Told, told, Stands}
+use Rattle.run_laws.specs.Picture.{ArePictures}
+use Rattle.run_laws.specs.Act.{Told, told}
 use Rattle.run_laws.specs.ReportText.{info_line, grid_refusal}
-use Rattle.run_laws.specs.Outcome.{Outcome, text_outcome, shown_acts, script_walk, IsFramesOutcome, IsGridOutcome}
-use Rattle.run_laws.specs.Laws.{KeepsStates}
-use Rattle.run_laws.specs.Promise.{Seen, ScriptHasRead, HasReadHeader}
+use Rattle.run_laws.specs.Outcome.{Outcome, text_outcome, shown_acts, IsGridOutcome}
+use Rattle.run_laws.specs.Promise.{Seen, ScriptHasRead, HasReadHeader, is_complete, ends_script}
 use Rattle.run_laws.proofs.ActLemmas.{stands-nothing, cut-only-line}
+use Rattle.frame_loop.specs.Engine.{EngineState}
 use Rattle.roam_run.specs.declared.stage.Stage.{Stage}
+use Rattle.roam_run.specs.EngineSeen.{engine_seen, HasFollowed}
 use Rattle.roam_run.specs.StageView.{Begins}
 use Rattle.roam_run.specs.GridStop.{StopsUndecided}
-use Rattle.roam_run.specs.Taking.{DoesAs, AreFirst, StopsReading}
+use Rattle.roam_run.specs.Taking.{IsScriptEnd, DoesAs, EndsScript, StopsReading}
 use Rattle.roam_run.specs.Leaving.{CommandEnds, CommandReadFault, CommandNoMemory}
 
 -- a count that is far from its greatest value goes up by one
@@ -48,26 +48,27 @@ text-cut meshes report report' text status files part =
 -- a command ends as the outcome says that what its grid is read as leads to
 ends-as : (before now : Told) (old new : Seen) (name : List ℕ) (job : Job) (files : List NamedFile) (answer : Result HeightField PgmFault) (end : Outcome) (status : Status)
     → grid_of (bytes_of files name) ≡ answer → IsGridOutcome job answer files end → new.opens ≡ old.opens + end.opened
-    → DoesAs before now end status → CommandEnds before now old new (OnGrid name job) files status
-ends-as before now old new name job files answer end status found is opened does =
+    → DoesAs before now end status → (engine : Option EngineState) → (IsTrue (is_complete status) → option_map engine_seen engine ≡ end.engine)
+    → CommandEnds before now old new (OnGrid name job) files status engine
+ends-as before now old new name job files answer end status found is opened does engine left =
     let P : Result HeightField PgmFault → Type 0 = λ a. IsGridOutcome job a files end in
-    record { ends = λ m r. (end, subst P (sym found) is, record { opened = opened; complete = does.complete; cut_short = does.cut_short }) }
+    record { ends = λ m r. (end, subst P (sym found) is, record { opened = opened; complete = does.complete; cut_short = does.cut_short }, left) }
 
 -- the refusal of its grid ends a command
 pub refused-ends : (before now : Told) (old new : Seen) (name : List ℕ) (job : Job) (files : List NamedFile) (fault : PgmFault) (text : List ℕ) (status : Status)
     → grid_of (bytes_of files name) ≡ Err fault → text ≡ grid_refusal fault → new.opens ≡ old.opens + 1
-    → DoesAs before now (text_outcome text ends.GridRefused 1) status → CommandEnds before now old new (OnGrid name job) files status
+    → DoesAs before now (text_outcome text ends.GridRefused 1) status → CommandEnds before now old new (OnGrid name job) files status None
 refused-ends before now old new name job files fault text status found is opened does =
     let P : List ℕ → Type 0 = λ t. DoesAs before now (text_outcome t ends.GridRefused 1) status in
-    ends-as before now old new name job files (Err fault) (text_outcome (grid_refusal fault) ends.GridRefused 1) status found refl opened (subst P is does)
+    ends-as before now old new name job files (Err fault) (text_outcome (grid_refusal fault) ends.GridRefused 1) status found refl opened (subst P is does) None (λ e. refl)
 
 -- the line of facts ends a command
 pub facts-end : (before now : Told) (old new : Seen) (name : List ℕ) (files : List NamedFile) (grid : HeightField) (text : List ℕ) (status : Status)
     → grid_of (bytes_of files name) ≡ Ok grid → text ≡ info_line grid → new.opens ≡ old.opens + 1
-    → DoesAs before now (text_outcome text ends.Done 1) status → CommandEnds before now old new (OnGrid name Facts) files status
+    → DoesAs before now (text_outcome text ends.Done 1) status → CommandEnds before now old new (OnGrid name Facts) files status None
 facts-end before now old new name files grid text status found is opened does =
     let P : List ℕ → Type 0 = λ t. DoesAs before now (text_outcome t ends.Done 1) status in
-    ends-as before now old new name Facts files (Ok grid) (text_outcome (info_line grid) ends.Done 1) status found refl opened (subst P is does)
+    ends-as before now old new name Facts files (Ok grid) (text_outcome (info_line grid) ends.Done 1) status found refl opened (subst P is does) None (λ e. refl)
 
 -- a read of its grid failed
 pub grid-fault : (before : Told) (old new : Seen) (name : List ℕ) (job : Job) → new.opens ≡ old.opens + 1
@@ -99,63 +100,77 @@ same-name name other job job' e = cc
 
 -- memory ran out at the grid
 pub grid-memory : (before : Told) (old new : Seen) (name : List ℕ) (job : Job) → new.opens ≡ old.opens + 1
-    → ((files : List NamedFile) → old.files ≡ Some files → HasReadHeader (bytes_of files name) 1 new.rest)
+    → ((files : List NamedFile) → old.files ≡ Some files → HasReadHeader (bytes_of files name) new.rest)
     → CommandNoMemory before before old new (OnGrid name job)
 grid-memory before old new name job opened header = record {
-  opened = 1;
-  stood = [];
   count = opened;
-  early = record { opened_before = λ some. absurd (some refl); frames = λ files told_files. inl refl };
   stands = stands-nothing before;
-  grid_opened = λ other job' e. omega arith;
   header = λ other job' files e told_files.
-      let P : List ℕ → Type 0 = λ l. HasReadHeader (bytes_of files l) 1 new.rest in
+      let P : List ℕ → Type 0 = λ l. HasReadHeader (bytes_of files l) new.rest in
       subst P (same-name name other job job' e) (header files told_files);
 }
 
--- a header that was read stays so where one more file was opened
-header-later : (bytes : List ℕ) (rest rest' : Option (List ℕ)) → HasReadHeader bytes 1 rest → HasReadHeader bytes 2 rest'
-header-later bytes rest rest' header = (header.0, header.1, header.2, header.3, λ two. absurd (apart two))
+-- a script that was carried out to its end or its refusal leaves its engine
+left-some : (status : Status) (engine : EngineState) → (status ≡ ends.ReadFault) ⊎ IsScriptEnd status → IsTrue (is_complete status)
+    → (if ends_script status then Some engine else None) ≡ Some engine
+left-some ends.Done engine how is = refl
+left-some ends.NoMemory engine how is = absurd (not_true is)
   where
-    apart : ◌≡◌ {A = ℕ} 2 1 → ⊥
-    apart e = cc
+    not_true : IsTrue false → ⊥
+    not_true e = cc
+left-some ends.Usage engine how is = absurd (not_so how)
+  where
+    not_so : (ends.Usage ≡ ends.ReadFault) ⊎ IsScriptEnd ends.Usage → ⊥
+    not_so (inl e) = cc
+    not_so (inr (inl e)) = cc
+    not_so (inr (inr (inl e))) = cc
+    not_so (inr (inr (inr e))) = cc
+left-some ends.GridRefused engine how is = absurd (not_so how)
+  where
+    not_so : (ends.GridRefused ≡ ends.ReadFault) ⊎ IsScriptEnd ends.GridRefused → ⊥
+    not_so (inl e) = cc
+    not_so (inr (inl e)) = cc
+    not_so (inr (inr (inl e))) = cc
+    not_so (inr (inr (inr e))) = cc
+left-some ends.ScriptRefused engine how is = refl
+left-some ends.ReadFault engine how is = absurd (not_true is)
+  where
+    not_true : IsTrue false → ⊥
+    not_true e = cc
+left-some ends.WriteFault engine how is = absurd (not_true is)
+  where
+    not_true : IsTrue false → ⊥
+    not_true e = cc
 
 module _ (s : Scripted) (grid : HeightField) where
   -- the walk before the first line
   abbrev pub first_walk : Walk
   first_walk = start_walk s.budget (start_state grid s.spacing s.budget)
 
-  -- it keeps its states
-  pub first-keeps : 2 ≤ s.budget → KeepsStates grid.n first_walk
-  first-keeps low = record { level = refl; low = low; frames = tt }
-
   -- a stage before the first line shows it
-  pub first-begins : (first : State) (stage : Stage) → first ≡ start_state grid s.spacing s.budget → stage.scene ≡ first → stage.most ≡ first.budget
-      → stage.lines ≡ 0 → stage.frames ≡ 0 → stage.split ≡ 0 → stage.part.items ≡ [] → Begins first_walk stage
-  first-begins first stage starts scene most lines frames split part = record {
-    goes = refl;
-    none = refl;
-    shows = record {
-      state = scene ∙ starts;
-      most = most ∙ ap (λ (state : State). state.budget) starts;
-      lines = lines;
-      frames = frames;
-      split = split;
-      begun = part;
-    };
-  }
+  pub first-begins : 2 ≤ s.budget → 1 ≤ grid.n → grid.n ≤ 11 → (engine : EngineState) (stage : Stage) → HasFollowed first_walk [] engine
+      → stage.engine ≡ engine → stage.lines ≡ 0 → stage.part.items ≡ [] → Begins first_walk stage
+  first-begins low n_low n_high engine stage followed same lines part =
+      let P : EngineState → Type 0 = λ e. HasFollowed first_walk [] e in
+      record {
+        starts = record { keeps = record { level = refl; low = low; frames = tt }; n_low = n_low; n_high = n_high };
+        goes = refl;
+        none = refl;
+        shows = record { followed = subst P (sym same) followed; lines = lines; begun = part };
+      }
 
   module _ (before now : Told) (old new : Seen) (name : List ℕ) (opened : new.opens ≡ old.opens + 2) where
     -- the script ended
-    pub script-ends : (files : List NamedFile) (status : Status) → grid_of (bytes_of files name) ≡ Ok grid
-        → (status ≢ ends.ReadFault → status ≢ ends.NoMemory → (end : Outcome) × IsFramesOutcome s.show 2 (walk_of first_walk (bytes_of files s.script)) end
-        × DoesAs before now end status)
-        → CommandEnds before now old new (OnGrid name (Frames s)) files status
-    script-ends files status found does = record {
+    pub script-ends : (files : List NamedFile) (status : Status) (engine : EngineState) (left : Option EngineState) → grid_of (bytes_of files name) ≡ Ok grid
+        → left ≡ (if ends_script status then Some engine else None) → (status ≡ ends.ReadFault) ⊎ IsScriptEnd status
+        → (status ≢ ends.ReadFault → EndsScript before now s.show first_walk (bytes_of files s.script) engine status)
+        → CommandEnds before now old new (OnGrid name (Frames s)) files status left
+    script-ends files status engine left found is how does = record {
       ends = λ memory fault.
-          let did = does fault memory in
+          let did = does fault in
           let two : new.opens ≡ old.opens + did.0.opened = opened ∙ ap (λ (end : Outcome). old.opens + end.opened) (sym did.1.2) in
-          (ends-as before now old new name (Frames s) files (Ok grid) did.0 status found did.1 two did.2).ends memory fault;
+          (ends-as before now old new name (Frames s) files (Ok grid) did.0 status found did.1 two did.2 left
+          (λ complete. ap (option_map engine_seen) (is ∙ left-some status engine how complete) ∙ did.3 complete)).ends memory fault;
     }
 
     -- what was carried out of a script that was read in part
@@ -203,30 +218,3 @@ module _ (s : Scripted) (grid : HeightField) where
       where
         apart : ◌≡◌ {A = ℕ} 1 0 → ⊥
         apart e = cc
-
-    -- memory ran out at a frame
-    pub script-memory : (rest : Option (List ℕ)) (pictures : List Picture)
-        → ((files : List NamedFile) → old.files ≡ Some files → grid_of (bytes_of files name) ≡ Ok grid)
-        → ((files : List NamedFile) → old.files ≡ Some files → HasReadHeader (bytes_of files name) 1 rest)
-        → Stands before now (shown_acts s.show 1 pictures)
-        → ((files : List NamedFile) → old.files ≡ Some files → AreFirst s.show (walk_of first_walk (bytes_of files s.script)) pictures)
-        → CommandNoMemory before now old new (OnGrid name (Frames s))
-    script-memory rest pictures found header stands firsts = record {
-      opened = 2;
-      stood = shown_acts s.show 1 pictures;
-      count = opened;
-      early = record {
-        opened_before = λ some. refl;
-        frames = λ files told_files.
-            let first = firsts files told_files in
-            let taken : take (length first.firsts) (script_walk s grid (bytes_of files s.script)).frames ≡ first.firsts =
-            ap (λ (l : List State). take (length first.firsts) l) first.cut ∙ take-append_seam first.firsts first.later in
-            let P : List State → Type 0 = λ l. ArePictures s.show [] l pictures in
-            inr (grid, pictures, length first.firsts, found files told_files, subst P (sym taken) first.shown, refl);
-      };
-      stands = stands;
-      grid_opened = λ other job' e. omega arith;
-      header = λ other job' files e told_files.
-          let P : List ℕ → Type 0 = λ l. HasReadHeader (bytes_of files l) 2 new.rest in
-          subst P (same-name name other (Frames s) job' e) (header-later (bytes_of files name) rest new.rest (header files told_files));
-    }

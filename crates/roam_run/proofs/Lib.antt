@@ -1,9 +1,12 @@
 pub mod InfoLemmas
-pub mod MeshLemmas
+pub mod EngineLemmas
+pub mod ShowingLemmas
 pub mod FrameLemmas
+pub mod ShowLemmas
 pub mod StageLemmas
 pub mod ReadingLemmas
 pub mod EndLemmas
 pub mod GridLemmas
 pub mod TopLemmas
 pub mod SumLemmas
+pub mod TryLemmas

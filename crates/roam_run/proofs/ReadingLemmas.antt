@@ -119,7 +119,7 @@ pub reading-header : (files : Option (List NamedFile)) (rest rest' : Option (Lis
     → ((unread : List ℕ) → rest ≡ Some unread → rest' ≡ Some (drop count unread))
     → ((unread : List ℕ) → rest ≡ Some unread → piece ≡ take count unread)
     → EndsHeader reader piece
-    → (all : List NamedFile) → files ≡ Some all → HasReadHeader (bytes_of all name) 1 rest'
+    → (all : List NamedFile) → files ≡ Some all → HasReadHeader (bytes_of all name) rest'
 reading-header files rest rest' name piece count reader reading takes gives ends all is =
     let here = reading.told all is in
     let header = ends.ends reading.bytes reading.means in
@@ -137,7 +137,7 @@ reading-header files rest rest' name piece count reader reading takes gives ends
         cut = whole ∙ ap (λ m. m ++ drop count here.0) header.has.cut ∙ append_assoc header.has.text header.rest (drop count here.0);
         place = header.has.place;
       },
-      λ one unread told. (header.rest, ap (λ m. header.rest ++ m) (same-some (drop count here.0) unread (sym (takes here.0 here.1) ∙ told))),
+      λ unread told. (header.rest, ap (λ m. header.rest ++ m) (same-some (drop count here.0) unread (sym (takes here.0 here.1) ∙ told))),
     )
   where
     same-some : (xs ys : List ℕ) → Some xs ≡ Some ys → xs ≡ ys
@@ -191,7 +191,7 @@ module _ (files : Option (List NamedFile)) (rest : Option (List ℕ)) (name : Li
   -- a file that is read to its end begins with the header of its grid
   pub grid-header : (answer : Result HeightField GridStop) → GridsHaveHeaders → IfOk answer (λ grid. resume reader [] ≡ Ok grid)
       → (rest' : Option (List ℕ)) (count : ℕ) → count ≡ 0 → ((unread : List ℕ) → rest ≡ Some unread → rest' ≡ Some (drop count unread))
-      → OnOk answer ((all : List NamedFile) → files ≡ Some all → HasReadHeader (bytes_of all name) 1 rest')
+      → OnOk answer ((all : List NamedFile) → files ≡ Some all → HasReadHeader (bytes_of all name) rest')
   grid-header answer headers value rest' count none takes = on-ok answer _ (λ grid is all told.
       let here = reading.told all told in
       let whole = here.2 ∙ ap (λ m. reading.bytes ++ m) (nothing here.0 here.1) in
@@ -202,7 +202,7 @@ module _ (files : Option (List NamedFile)) (rest : Option (List ℕ)) (name : Li
         found.1,
         found.2,
         found.3,
-        λ one unread is_left. (found.2, sym (append-nil found.2) ∙ ap (λ m. found.2 ++ m) (same-rest [] unread (sym left ∙ is_left))),
+        λ unread is_left. (found.2, sym (append-nil found.2) ∙ ap (λ m. found.2 ++ m) (same-rest [] unread (sym left ∙ is_left))),
       ))
     where
       same-rest : (xs ys : List ℕ) → Some xs ≡ Some ys → xs ≡ ys

@@ -1,16 +1,18 @@
 -- What words do whose command is known: the promises of a run from those of its command.
-use Rattle.std.proofs.Common.{◌≡◌, ◌≢◌, ℕ, ◌-◌, ◌^◌, ◌<◌, ◌⊎◌, ◌↔◌, IsTrue, List, [], Option, Some, None, refl, sym, ◌∙◌, subst, inl, inr, arith}
+use Rattle.std.proofs.Common.{◌≡◌, ◌≢◌, ℕ, ◌-◌, ◌^◌, ◌<◌, ◌⊎◌, ◌↔◌, IsTrue, IsSome, false, ap, List, [], Option, option_map, Some, None, refl, sym, ◌∙◌, subst, inl, inr, arith}
 use Rattle.roam_edge.specs.Shelf.{NamedFile}
 use Rattle.roam_edge.specs.Fault.{Rose}
 use Rattle.run_laws.specs.declared.status.Status.{Status}
 use Rattle.run_laws.specs.declared.status.Status.TheVariants.{Done, NoMemory, Usage, GridRefused, ScriptRefused, ReadFault, WriteFault}
 use Rattle.run_laws.specs.Act.{Told}
 use Rattle.run_laws.specs.Cause.{StatusHasCause, StatusWritesHaveCause}
-use Rattle.run_laws.specs.Laws.{AcceptedIsDone}
+use Rattle.frame_loop.specs.Engine.{EngineState}
+use Rattle.run_laws.specs.Laws.{AcceptedIsDone, OutcomesAreUnique}
 use Rattle.run_laws.specs.Words.{Job, Command, OnGrid, file_count, command_of}
-use Rattle.run_laws.specs.Outcome.{Outcome, plain_outcome, IsWordsOutcome, IsOutcome}
-use Rattle.run_laws.specs.Promise.{Seen, AreFiles, is_complete, EndsRight, LeavesAtReadFault, LeavesAtNoMemory, IsAccepted}
+use Rattle.run_laws.specs.Outcome.{Outcome, plain_outcome, IsWordsOutcome, IsOutcome, HasOneOutcome}
+use Rattle.run_laws.specs.Promise.{Seen, AreFiles, is_complete, leaves_engine, EndsRight, LeavesAtReadFault, LeavesAtNoMemory, IsAccepted}
 use Rattle.run_laws.proofs.ActLemmas.{stands-nothing}
+use Rattle.roam_run.specs.EngineSeen.{engine_seen}
 use Rattle.roam_run.specs.Leaving.{CommandEnds, CommandReadFault, CommandNoMemory}
 
 -- words of a command name a file: so the shelf's files are told where an outcome is over them
@@ -34,16 +36,61 @@ usage-ends before old words files none =
       );
     }
 
+-- they leave no engine
+pub usage-engine : (words : List (List ℕ)) (files : List NamedFile) → command_of words ≡ None → (end : Outcome) → IsOutcome words files end
+    → option_map engine_seen None ≡ end.engine
+unfolding IsOutcome
+usage-engine words files none end outcome =
+    let P : Option Command → Type 0 = λ c. IsWordsOutcome c files end in
+    sym (ap (λ (o : Outcome). o.engine) (subst P none outcome))
+
+-- whether an engine is left, by the command
+pub words-left : (words : List (List ℕ)) (command : Option Command) (engine : Option EngineState) (status : Status) → command_of words ≡ command
+    → (IsSome engine ↔ IsTrue (leaves_engine command status)) → IsSome engine ↔ IsTrue (leaves_engine (command_of words) status)
+words-left words command engine status is left =
+    let P : Option Command → Type 0 = λ c. IsSome engine ↔ IsTrue (leaves_engine c status) in
+    subst P (sym is) left
+
+-- a complete run did not run out of memory, and no read failed
+not-memory : (status : Status) → IsTrue (is_complete status) → status ≢ NoMemory
+not-memory Done is e = cc
+not-memory NoMemory is e = cc
+not-memory Usage is e = cc
+not-memory GridRefused is e = cc
+not-memory ScriptRefused is e = cc
+not-memory ReadFault is e = cc
+not-memory WriteFault is e = cc
+
+not-fault : (status : Status) → IsTrue (is_complete status) → status ≢ ReadFault
+not-fault Done is e = cc
+not-fault NoMemory is e = cc
+not-fault Usage is e = cc
+not-fault GridRefused is e = cc
+not-fault ScriptRefused is e = cc
+not-fault ReadFault is e = cc
+not-fault WriteFault is e = cc
+
 module _ (before now : Told) (old new : Seen) (words : List (List ℕ)) (command : Command) (is_command : command_of words ≡ Some command) where
   -- a command ends as its words
-  pub words-end : (files : List NamedFile) (status : Status) → CommandEnds before now old new command files status → EndsRight before now old new words files status
+  pub words-end : (files : List NamedFile) (status : Status) (engine : Option EngineState) → CommandEnds before now old new command files status engine
+      → EndsRight before now old new words files status
   unfolding IsOutcome
-  words-end files status is = record {
+  words-end files status engine is = record {
     ends = λ m r.
         let e = is.ends m r in
         let P : Option Command → Type 0 = λ c. IsWordsOutcome c files e.0 in
         (e.0, subst P (sym is_command) e.1, e.2);
   }
+
+  -- and leaves the engine that each of their outcomes tells of
+  pub words-engine : OutcomesAreUnique → HasOneOutcome (command_of words) → (files : List NamedFile) (status : Status) (engine : Option EngineState)
+      → CommandEnds before now old new command files status engine → (end : Outcome) → IsOutcome words files end → IsTrue (is_complete status)
+      → option_map engine_seen engine ≡ end.engine
+  unfolding IsOutcome
+  words-engine unique one files status engine is end outcome complete =
+      let e = is.ends (not-memory status complete) (not-fault status complete) in
+      let P : Option Command → Type 0 = λ c. IsWordsOutcome c files e.0 in
+      e.3 complete ∙ ap (λ (o : Outcome). o.engine) (unique words files e.0 end one (subst P (sym is_command) e.1) outcome)
 
   -- a read failed, of a file of the words
   pub words-read_fault : CommandReadFault before now old new command → LeavesAtReadFault before now old new words
@@ -60,13 +107,9 @@ module _ (before now : Told) (old new : Seen) (words : List (List ℕ)) (command
   pub words-no_memory : CommandNoMemory before now old new command → LeavesAtNoMemory before now old new words
   words-no_memory is = record {
     command = command;
-    opened = is.opened;
-    stood = is.stood;
     is_command = is_command;
     count = is.count;
-    early = is.early;
     stands = is.stands;
-    grid_opened = is.grid_opened;
     header = is.header;
   }
 

@@ -1,17 +1,20 @@
 -- What a command leaves, by the status of its run: the promises of a run, of one command.
 -- Words: CommandEnds, CommandReadFault, CommandNoMemory.
-use Rattle.std.specs.Prelude.{◌≡◌, ◌≢◌, ℕ, ◌+◌, ◌≤◌, IsTrue, List, [], Some}
+use Rattle.std.specs.Prelude.{◌≡◌, ◌≢◌, ℕ, ◌+◌, IsTrue, List, [], Option, Some, option_map}
+use Rattle.frame_loop.specs.Engine.{EngineState}
 use Rattle.roam_edge.specs.Shelf.{NamedFile, bytes_of}
 use Rattle.run_laws.specs.declared.status.Status.{Status}
 use Rattle.run_laws.specs.declared.status.Status.TheVariants.{NoMemory, ReadFault}
 use Rattle.run_laws.specs.Words.{Job, Command, OnGrid, has_script}
-use Rattle.run_laws.specs.Act.{Act, Told, Stands}
+use Rattle.run_laws.specs.Act.{Told, Stands}
 use Rattle.run_laws.specs.Outcome.{Outcome, IsCommandOutcome}
-use Rattle.run_laws.specs.Promise.{Seen, EndsAs, FileReadFault, IsEarly, HasReadHeader}
+use Rattle.run_laws.specs.Promise.{Seen, EndsAs, FileReadFault, HasReadHeader, grids_named, is_complete}
+use Rattle.roam_run.specs.EngineSeen.{engine_seen}
 
--- unless memory ran out or a read failed, the command ends as its outcome
-pub record CommandEnds (before now : Told) (old new : Seen) (command : Command) (files : List NamedFile) (status : Status) : Type 0 where
+-- unless memory ran out or a read failed, the command ends as its outcome, and leaves its engine
+pub record CommandEnds (before now : Told) (old new : Seen) (command : Command) (files : List NamedFile) (status : Status) (engine : Option EngineState) : Type 0 where
   pub ends : status ≢ NoMemory → status ≢ ReadFault → (end : Outcome) × IsCommandOutcome command files end × EndsAs before now old new end status
+      × (IsTrue (is_complete status) → option_map engine_seen engine ≡ end.engine)
 
 -- a read failed, at one of the command's files
 pub record CommandReadFault (before now : Told) (old new : Seen) (command : Command) : Type 0 where
@@ -20,13 +23,9 @@ pub record CommandReadFault (before now : Told) (old new : Seen) (command : Comm
   pub before_script : (IsTrue (has_script command) → file ≡ 0) → Stands before now []
   pub at_file : (files : List NamedFile) → old.files ≡ Some files → FileReadFault before now new command files file
 
--- memory ran out
+-- memory ran out, before a script was opened and before anything was written
 pub record CommandNoMemory (before now : Told) (old new : Seen) (command : Command) : Type 0 where
-  pub opened : ℕ
-  pub stood : List Act
-  pub count : new.opens ≡ old.opens + opened
-  pub early : IsEarly command old.files opened stood
-  pub stands : Stands before now stood
-  pub grid_opened : (name : List ℕ) (job : Job) → command ≡ OnGrid name job → 1 ≤ opened
+  pub count : new.opens ≡ old.opens + grids_named command
+  pub stands : Stands before now []
   pub header : (name : List ℕ) (job : Job) (files : List NamedFile) → command ≡ OnGrid name job → old.files ≡ Some files
-      → HasReadHeader (bytes_of files name) opened new.rest
+      → HasReadHeader (bytes_of files name) new.rest

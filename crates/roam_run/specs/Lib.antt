@@ -1,6 +1,7 @@
+pub mod ShowView
 pub mod WordView
-pub mod SceneView
-pub mod MeshSeen
+pub mod EngineSeen
+pub mod NoteSeen
 pub mod StageView
 pub mod Taking
 pub mod GridStop

@@ -1,10 +1,10 @@
 //! The frames of a generated run, and what they sum up to.
 
-ghost use Rattle.std.specs.Prelude.{◌≡◌, ◌+◌, ◌*◌, ◌^◌, ◌<◌, ◌≤◌, max, is_some, [], length, if◌then◌else◌, IfOk, OnOk};
+ghost use Rattle.std.specs.Prelude.{◌≡◌, ◌+◌, ◌*◌, ◌^◌, ◌<◌, ◌≤◌, max, is_some, [], if◌then◌else◌, IfOk};
 ghost use Rattle.roam_run.specs.SumView.{IsSumOf, HasGone, SumsUp};
 
-use crate::mesh::FrameMesh;
-use crate::scene::Scene;
+use crate::carry::carry_out;
+use frame_loop::{Engine, FrameNote};
 use roam_edge::NoMemory;
 use roam_gen::{gen_grid, gen_line, generator_laws};
 use roam_script::Line;
@@ -46,61 +46,52 @@ impl Sums {
     }
 
     /// Adds a frame.
-    fn add(&mut self, mesh: &FrameMesh)
+    fn add(&mut self, note: &FrameNote)
         requires frames { self.old.frames < 105 }
         requires triangles { self.old.triangles ≤ 105 * 2 ^ 33 }
         requires blocked { self.old.blocked < 105 }
-        requires counted { mesh.now.size ≡ length mesh.now.split.members }
         ensures frames { self.new.frames ≡ self.old.frames + 1 }
-        ensures triangles { self.new.triangles ≡ self.old.triangles + (length mesh.now.split.members + 2) }
+        ensures triangles { self.new.triangles ≡ self.old.triangles + note.now.triangles }
         ensures few { self.new.triangles ≤ self.old.triangles + 2 ^ 33 }
-        ensures worst { self.new.worst ≡ max self.old.worst mesh.now.worst }
-        ensures blocked { self.new.blocked ≡ self.old.blocked + (if is_some mesh.now.blocked then 1 else 0) }
+        ensures worst { self.new.worst ≡ max self.old.worst note.now.worst }
+        ensures blocked { self.new.blocked ≡ self.old.blocked + (if is_some note.now.blocked then 1 else 0) }
     {
         self.frames += 1;
-        // A mesh has two triangles more than are split.
-        self.triangles += u64::from(mesh.size) + 2;
-        self.worst = self.worst.max(mesh.worst);
-        if mesh.blocked.is_some() {
+        self.triangles += u64::from(note.triangles);
+        self.worst = self.worst.max(note.worst);
+        if note.blocked.is_some() {
             self.blocked += 1;
         }
     }
 }
 
-/// The sums of all frames of the generated script, on the generated grid.
-pub(crate) fn sums_of(alloc: Global, n: u32, seed: u32) -> Result<Sums, NoMemory>
+/// The sums of all frames of the generated script on the generated grid, and the engine that made them. All memory is taken
+/// before the first line.
+pub(crate) fn sums_of(alloc: Global, n: u32, seed: u32) -> Result<(Sums, Engine), NoMemory>
     requires n_low { 1 ≤ n }
     requires n_high { n ≤ 11 }
-    ensures { IfOk result (SumsUp n seed) }
+    ensures { IfOk result (λ made. SumsUp n seed made.0 made.1) }
 {
     let grid = gen_grid(alloc, n, seed)?;
-    let mut scene = Scene::new(alloc, grid, SPACING, BUDGET)?;
+    let mut engine = Engine::make(alloc, grid, BUDGET, SPACING)?;
     let mut sums = Sums::none();
     for k in 0..LINES {
-        take_line(alloc, n, seed, k, &mut scene, &mut sums)?;
+        take_line(n, seed, k, &mut engine, &mut sums);
     }
-    Ok(sums)
+    Ok((sums, engine))
 }
 
-/// Carries out the line behind the first k of the generated script. A frame line adds the mesh of the scene.
-fn take_line(
-    alloc: Global,
-    n: u32,
-    seed: u32,
-    k: u32,
-    scene: &mut Scene,
-    sums: &mut Sums,
-) -> Result<(), NoMemory>
+/// Carries out the line behind the first k of the generated script. A frame line adds the engine's frame.
+fn take_line(n: u32, seed: u32, k: u32, engine: &mut Engine, sums: &mut Sums)
     requires n_low { 1 ≤ n }
     requires n_high { n ≤ 11 }
     requires k { k < 105 }
-    requires here { HasGone n seed k scene.old sums.old }
-    ensures { OnOk result (HasGone n seed (k + 1) scene.new sums.new) }
+    requires here { HasGone n seed k engine.old sums.old }
+    ensures { HasGone n seed (k + 1) engine.new sums.new }
 {
     generator_laws();
     match gen_line(n, seed, k + 1) {
-        Line::Frame => sums.add(&FrameMesh::make(alloc, scene)?),
-        line => scene.apply(line),
+        Line::Frame => sums.add(&engine.frame()),
+        line => carry_out(engine, line),
     }
-    Ok(())
 }

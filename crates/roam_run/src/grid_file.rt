@@ -38,13 +38,13 @@ pub(crate) fn read_grid<F: Shelf>(
     ensures ended { OnOk result (HasEnded (seen (F.files shelf.new) (F.rest shelf.new) (F.opens shelf.new)
         (F.ended shelf.new))) }
     ensures header { OnOk result ((files : List NamedFile) → F.files shelf.old ≡ Some files →
-        HasReadHeader (bytes_of files name.now) 1 (F.rest shelf.new)) }
+        HasReadHeader (bytes_of files name.now) (F.rest shelf.new)) }
     ensures refused { (fault : Fault) → result ≡ Err (GridStop.Refused fault) →
         (files : List NamedFile) → F.files shelf.old ≡ Some files →
         grid_of (bytes_of files name.now) ≡ Err fault }
     ensures no_memory { result ≡ Err GridStop.NoMemory →
         (files : List NamedFile) → F.files shelf.old ≡ Some files →
-        HasReadHeader (bytes_of files name.now) 1 (F.rest shelf.new) }
+        HasReadHeader (bytes_of files name.now) (F.rest shelf.new) }
     // Where a read failed, no refusal of the grid is settled yet.
     ensures undecided { result ≡ Err GridStop.Failed → (files : List NamedFile) → F.files shelf.old ≡ Some files →
         StopsUndecided (bytes_of files name.now) (F.rest shelf.new) (F.ended shelf.new) }

@@ -8,20 +8,17 @@
 
 #![tactic(auto)]
 
-#[cfg(test)]
-mod frail_shelf;
+mod carry;
 mod frame;
 mod generated;
 mod grid_file;
 mod info;
-mod mesh;
 mod report;
 mod run;
-mod scene;
 mod script;
+mod showing;
+mod shows;
 mod stage;
-#[cfg(test)]
-mod tests;
 mod text;
 mod words;
 

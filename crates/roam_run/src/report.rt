@@ -1,104 +1,50 @@
 //! The lines of the report.
 
-ghost use Rattle.std.specs.Prelude.{◌≡◌, ◌+◌, ◌*◌, ◌≤◌, ◌++◌, All, length, decimal};
+ghost use Rattle.std.specs.Prelude.{◌≡◌, ◌+◌, ◌≤◌, ◌++◌, length, decimal};
 ghost use Rattle.arrayvec.specs.ArrayVec.{array_vec_len};
-ghost use Rattle.mesh_defs.specs.Triangle.{level_of};
-ghost use Rattle.mesh_defs.specs.MeshText.{triangle_mark, is_same_mark};
-ghost use Rattle.run_laws.specs.Picture.{mark_count};
-ghost use Rattle.run_laws.specs.ReportText.{frame_line, sums_line, blocked_text, marks_text, grid_fault_text, grid_refusal, script_fault_text, line_refusal};
-ghost use Rattle.roam_run.specs.MeshSeen.{picture_seen, IsMeshOf};
+ghost use Rattle.run_laws.specs.ReportText.{sums_line, blocked_text, grid_fault_text, grid_refusal, script_fault_text, line_refusal};
+ghost use Rattle.roam_run.specs.NoteSeen.{note_marks, note_line};
 ghost use Rattle.roam_run.specs.StageView.{refusal};
 
 use crate::generated::Sums;
-use crate::mesh::FrameMesh;
-use crate::scene::Scene;
 use crate::text::Text;
 use arrayvec::ArrayVec;
-use bintree_addr::{Blocked, Tri};
-use mesh_defs::Mark;
+use bintree_addr::Blocked;
+use frame_loop::{Engine, FrameNote};
 use pgm_grid::PgmFault;
 use roam_num::{push_bytes, push_number};
 use roam_script::ScriptFault;
 
-/// The line of a frame, where so many triangles were split in the frame before. Each mesh is made anew:
-/// so all of those are merged, and all that it shows are split.
-pub(crate) fn frame_report(number: u32, scene: &Scene, mesh: &FrameMesh, merges: u32) -> Text
-    requires { IsMeshOf scene.now mesh.now }
-    ensures { result.items ≡ frame_line number (picture_seen scene.now merges mesh.now) }
+/// The line of the last frame of an engine, of which this is the note.
+pub(crate) fn frame_report(engine: &Engine, note: &FrameNote) -> Text
+    ensures { result.items ≡ note_line engine.now.frames engine.now.state.view.planes note.now }
 {
-    let triangles = mesh.leaves.len() as u64;
-    let splits = mesh.size;
     let mut text = ArrayVec::new();
-    push_placed(&mut text, b"frame ", u64::from(number));
-    push_placed(&mut text, b" triangles ", triangles);
-    push_placed(&mut text, b" vertices ", u64::from(mesh.vertices));
-    push_placed(&mut text, b" worst ", mesh.worst);
-    push_placed(&mut text, b" splits ", u64::from(splits));
-    push_placed(&mut text, b" merges ", u64::from(merges));
+    push_placed(&mut text, b"frame ", u64::from(engine.frames()));
+    push_placed(&mut text, b" triangles ", u64::from(note.triangles));
+    push_placed(&mut text, b" vertices ", u64::from(note.vertices));
+    push_placed(&mut text, b" worst ", note.worst);
+    push_placed(&mut text, b" splits ", u64::from(note.splits));
+    push_placed(&mut text, b" merges ", u64::from(note.merges));
     push_bytes(&mut text, b" blocked ");
-    push_blocked(&mut text, &mesh.blocked);
-    push_marks(&mut text, scene, &mesh.leaves);
+    push_blocked(&mut text, &note.blocked);
+    push_marks(&mut text, engine, note);
     push_bytes(&mut text, b"\n");
     text
 }
 
 /// Appends how many triangles have each mark, where a plane is in force.
-fn push_marks(text: &mut Text, scene: &Scene, leaves: &[Tri])
-    requires levels { All (λ a. level_of a ≤ 2 * scene.now.grid.n) leaves.now }
-    requires room { array_vec_len text.old + 120 ≤ 640 }
-    ensures items { text.new.items ≡ text.old.items ++ marks_text scene.now scene.now.view.planes leaves.now }
-    ensures len { array_vec_len text.new ≤ array_vec_len text.old + 120 }
+fn push_marks(text: &mut Text, engine: &Engine, note: &FrameNote)
+    requires room { array_vec_len text.old + 180 ≤ 640 }
+    ensures items { text.new.items ≡ text.old.items ++ note_marks engine.now.state.view.planes note.now }
+    ensures len { array_vec_len text.new ≤ array_vec_len text.old + 180 }
 {
-    if scene.planes.len() == 0 {
+    if engine.planes() == 0 {
         return;
     }
-    push_count(text, b" inside ", count_marks(scene, leaves, Mark::Inside));
-    push_count(text, b" cut ", count_marks(scene, leaves, Mark::Cut));
-    push_count(
-        text,
-        b" outside ",
-        count_marks(scene, leaves, Mark::Outside),
-    );
-}
-
-/// Appends words, and a count.
-fn push_count(text: &mut Text, words: &[u8], count: usize)
-    requires short { length words.now ≤ 20 }
-    requires room { array_vec_len text.old + 40 ≤ 640 }
-    ensures items { text.new.items ≡ text.old.items ++ (words.now ++ decimal count) }
-    ensures len { array_vec_len text.new ≤ array_vec_len text.old + 40 }
-{
-    push_bytes(text, words);
-    push_number(text, count as u64);
-}
-
-/// How many of the triangles have this mark.
-fn count_marks(scene: &Scene, leaves: &[Tri], mark: Mark) -> usize
-    requires { All (λ a. level_of a ≤ 2 * scene.now.grid.n) leaves.now }
-    ensures { result ≡ mark_count scene.now mark leaves.now }
-{
-    let mut count = 0;
-    for leaf in leaves {
-        if has_mark(scene, *leaf, mark) {
-            count += 1;
-        }
-    }
-    count
-}
-
-/// Whether the triangle has this mark.
-fn has_mark(scene: &Scene, leaf: Tri, mark: Mark) -> bool
-    requires { level_of leaf ≤ 2 * scene.now.grid.n }
-    ensures { result ≡ is_same_mark mark (triangle_mark scene.now.grid.n scene.now.grid.heights
-        scene.now.view.spacing scene.now.view.planes leaf) }
-{
-    let found = scene.planes.mark(&scene.wedges.cuboid(leaf, scene.spacing));
-    match (mark, found) {
-        (Mark::Inside, Mark::Inside) => true,
-        (Mark::Cut, Mark::Cut) => true,
-        (Mark::Outside, Mark::Outside) => true,
-        _ => false,
-    }
+    push_placed(text, b" inside ", u64::from(note.inside));
+    push_placed(text, b" cut ", u64::from(note.cut));
+    push_placed(text, b" outside ", u64::from(note.outside));
 }
 
 /// Appends which triangle blocks, and how many triangles the mesh would have with it.
@@ -200,7 +146,7 @@ fn push_grid_fault(text: &mut Text, fault: PgmFault)
 }
 
 /// Appends words, and the number of a place.
-fn push_placed(text: &mut Text, words: &[u8], place: u64)
+pub(crate) fn push_placed(text: &mut Text, words: &[u8], place: u64)
     requires short { length words.now ≤ 40 }
     requires room { array_vec_len text.old + 60 ≤ 640 }
     ensures items { text.new.items ≡ text.old.items ++ (words.now ++ decimal place) }

@@ -1,50 +1,86 @@
 //! The top call: a run from words to meshes and a report.
 
-ghost use Rattle.std.specs.Prelude.{◌≡◌, ◌≢◌, ◌+◌, ◌-◌, ◌^◌, ◌<◌, ◌≤◌, ◌⊎◌, ◌↔◌, ◌∷◌, ℕ, List, [], Option, map, Some, None, All, IsTrue, is_some, true, false, string_bytes};
+ghost use Rattle.std.specs.Prelude.{◌≡◌, ◌≢◌, ◌+◌, ◌-◌, ◌^◌, ◌<◌, ◌≤◌, ◌⊎◌, ◌↔◌, ◌*◌, min, length, IfOk, ℕ, List, Option, map, option_map, Some, None, All, IsTrue, IsSome, is_some, true, false, if◌then◌else◌, string_bytes};
 ghost use Rattle.mesh_defs.specs.HeightField.{HeightField};
+ghost use Rattle.roam_run.specs.ShowView.{is_strip};
 ghost use Rattle.roam_edge.specs.MeshSink.{Mesh};
 ghost use Rattle.roam_edge.specs.Shelf.{NamedFile, bytes_of};
 ghost use Rattle.run_laws.specs.Act.{told};
 ghost use Rattle.run_laws.specs.Cause.{StatusHasCause, StatusWritesHaveCause};
 ghost use Rattle.run_laws.specs.Words.{Scripted, OnGrid, Generated, Frames, Facts, command_of, file_count};
 ghost use Rattle.run_laws.specs.Picture.{IsCertified};
-ghost use Rattle.run_laws.specs.Outcome.{Outcome, IsOutcome, IsCommandOutcome, HasOneOutcome, text_outcome};
-ghost use Rattle.run_laws.specs.Promise.{Seen, seen, AreFiles, EndsAs, EndsRight, HasEnded, OpensForStatus, LeavesAtReadFault, LeavesAtNoMemory, IsAccepted, is_complete, may_end};
+ghost use Rattle.run_laws.specs.Outcome.{Outcome, IsOutcome, HasOneOutcome, text_outcome};
+ghost use Rattle.run_laws.specs.Promise.{Seen, seen, AreFiles, EndsRight, HasEnded, OpensForStatus, LeavesAtReadFault, LeavesAtNoMemory, IsAccepted, is_complete, ends_script, may_end, leaves_engine};
 ghost use Rattle.run_laws.specs.Headline.{IsRunOf, KeepsGoodMeshes};
+ghost use Rattle.roam_run.specs.EngineSeen.{engine_seen};
 ghost use Rattle.roam_run.specs.Taking.{DoesAs};
 ghost use Rattle.roam_run.specs.Leaving.{CommandEnds, CommandReadFault, CommandNoMemory};
-ghost use Rattle.roam_run.specs.WordView.{scripted_seen, IsMeshCommand};
+ghost use Rattle.roam_run.specs.WordView.{scripted_seen, IsFrameCommand};
 
 use crate::generated::sums_of;
 use crate::grid_file::{GridStop, read_grid};
 use crate::info::info_report;
 use crate::report::{grid_report, try_report};
-use crate::scene::Scene;
 use crate::script::run_script;
+use crate::showing::Showing;
 use crate::stage::Stage;
-use crate::words::{Command, MeshWords, command_in};
-use roam_edge::{MeshSink, Shelf, Sink};
-use run_laws::{Status, run_laws};
+use crate::words::{Command, FrameWords, command_in};
+use bintree_addr::Tri;
+use frame_loop::Engine;
+use roam_edge::{MeshSink, NoMemory, Shelf, Sink};
+use run_laws::{Status, run_laws, state_laws};
 use std::alloc::Global;
 use wedgie_tree::Wedges;
 
 /// What a run answers.
-#[derive(Clone, Copy, Debug, PartialEq, Eq)]
+#[derive(Drop)]
 pub struct Run {
     /// How the run ended.
     pub status: Status,
+    /// The engine that made the frames, as its last line left it: there exactly where frames were made, and all lines of their
+    /// script were carried out, up to its end or its refusal.
+    pub engine: Option<Engine>,
+}
+
+impl Run {
+    /// A run that leaves no engine.
+    fn without_engine(status: Status) -> Run
+        ensures status { result.status ≡ status }
+        ensures engine { result.engine ≡ None }
+    {
+        Run {
+            status,
+            engine: None,
+        }
+    }
+
+    /// A run of a script, whose frames this engine made.
+    fn of_script(status: Status, engine: Engine) -> Run
+        ensures status { result.status ≡ status }
+        ensures engine { result.engine ≡ (if ends_script status then Some engine else None) }
+        ensures left { IsSome result.engine ↔ IsTrue (ends_script status) }
+    {
+        match status {
+            Status::Done | Status::ScriptRefused => Run {
+                status,
+                engine: Some(engine),
+            },
+            _ => Run::without_engine(status),
+        }
+    }
 }
 
 /// Carries out the words of a command line, those after the program's name.
 ///
 /// `mesh` reads a grid and a script from the shelf, and writes a mesh for each frame line and a line of the
-/// report behind it. `info` reads a grid and writes one line about it. `try` reads nothing: it makes a grid and
+/// report behind it; `strip` the same with the triangles in the order of their strip; `measure` a line alone, on how far
+/// the mesh is from the surface. `info` reads a grid and writes one line about it. `try` reads nothing: it makes a grid and
 /// a script from a level and a seed, and writes one line with the sums of their frames. Files are read and
 /// meshes written in pieces, a mesh is finished before its line is written, and the first call that fails
 /// ends the run.
-/// Cost (not proved): a few steps a byte of the files; for a frame line after a line that changes what is
-/// seen, a rank and a sort of the triangles and the forced splits of the mesh; for every frame of `mesh` the
-/// writing of its mesh. Memory is taken for the heights, the wedges, and each mesh that is made.
+/// Cost (not proved): a few steps a byte of the files; for each frame that of `Engine::frame`, which is what has changed since the
+/// frame before; for every frame of `mesh` the writing of its mesh. Memory is taken for the heights and for the engine, all of it
+/// before a script is opened.
 pub fn roam<F: Shelf, M: MeshSink, R: Sink>(
     alloc: Global,
     words: &[String],
@@ -98,6 +134,14 @@ pub fn roam<F: Shelf, M: MeshSink, R: Sink>(
     ensures certificate { (files : List NamedFile) (end : Outcome) → IsTrue (is_some end.engine) →
         IsOutcome (map string_bytes words.now) files end → All IsCertified end.pictures }
 
+    // The engine that is left.
+    ensures engine { IsSome result.engine ↔
+        IsTrue (leaves_engine (command_of (map string_bytes words.now)) result.status) }
+    ensures engine_end { (files : List NamedFile) (end : Outcome) →
+        AreFiles (F.files shelf.old) (map string_bytes words.now) files →
+        IsOutcome (map string_bytes words.now) files end → IsTrue (is_complete result.status) →
+        option_map engine_seen result.engine ≡ end.engine }
+
     // The causes.
     ensures usage { (result.status ≡ Status.Usage) ↔ (command_of (map string_bytes words.now) ≡ None) }
     ensures status { IsTrue (may_end (command_of (map string_bytes words.now)) result.status) }
@@ -116,76 +160,127 @@ pub fn roam<F: Shelf, M: MeshSink, R: Sink>(
     ensures idle { result.status ≢ Status.WriteFault → M.under_way meshes.new ≡ false }
 {
     run_laws();
-    let status = match command_in(words) {
-        None => Status::Usage,
-        Some(Command::Mesh(command)) => run_mesh(alloc, &command, shelf, meshes, report),
-        Some(Command::Info(grid)) => run_info(alloc, grid, shelf, report),
+    match command_in(words) {
+        None => Run {
+            status: Status::Usage,
+            engine: None,
+        },
+        Some(Command::Frames(command)) => run_frames(alloc, &command, shelf, meshes, report),
+        Some(Command::Info(grid)) => {
+            let status = run_info(alloc, grid, shelf, report);
+            Run {
+                status,
+                engine: None,
+            }
+        }
         Some(Command::Try { n, seed }) => run_try(alloc, n, seed, report),
-    };
-    Run { status }
+    }
 }
 
-/// Carries out the command `mesh`.
-fn run_mesh<F: Shelf, M: MeshSink, R: Sink>(
+/// Carries out a command whose frames an engine makes.
+fn run_frames<F: Shelf, M: MeshSink, R: Sink>(
     alloc: Global,
-    command: &MeshWords<'_>,
+    command: &FrameWords<'_>,
     shelf: &mut F,
     meshes: &mut M,
     report: &mut R,
-) -> Status
+) -> Run
     requires idle { M.under_way meshes.old ≡ false }
-    requires accepted { IsMeshCommand command.now }
+    requires accepted { IsFrameCommand command.now }
     requires opens { F.opens shelf.old ≤ 2 ^ 63 }
     ensures outcome { (files : List NamedFile) → F.files shelf.old ≡ Some files →
         CommandEnds (told (M.meshes meshes.old) (R.contents report.old))
         (told (M.meshes meshes.new) (R.contents report.new))
         (seen (F.files shelf.old) (F.rest shelf.old) (F.opens shelf.old) (F.ended shelf.old))
         (seen (F.files shelf.new) (F.rest shelf.new) (F.opens shelf.new) (F.ended shelf.new))
-        (OnGrid command.now.grid.now (Frames (scripted_seen command.now))) files result }
-    ensures read_fault { result ≡ Status.ReadFault →
+        (OnGrid command.now.grid.now (Frames (scripted_seen command.now))) files result.status result.engine }
+    ensures read_fault { result.status ≡ Status.ReadFault →
         CommandReadFault (told (M.meshes meshes.old) (R.contents report.old))
         (told (M.meshes meshes.new) (R.contents report.new))
         (seen (F.files shelf.old) (F.rest shelf.old) (F.opens shelf.old) (F.ended shelf.old))
         (seen (F.files shelf.new) (F.rest shelf.new) (F.opens shelf.new) (F.ended shelf.new))
         (OnGrid command.now.grid.now (Frames (scripted_seen command.now))) }
-    ensures no_memory { result ≡ Status.NoMemory →
+    ensures no_memory { result.status ≡ Status.NoMemory →
         CommandNoMemory (told (M.meshes meshes.old) (R.contents report.old))
         (told (M.meshes meshes.new) (R.contents report.new))
         (seen (F.files shelf.old) (F.rest shelf.old) (F.opens shelf.old) (F.ended shelf.old))
         (seen (F.files shelf.new) (F.rest shelf.new) (F.opens shelf.new) (F.ended shelf.new))
         (OnGrid command.now.grid.now (Frames (scripted_seen command.now))) }
-    ensures not_usage { result ≢ Status.Usage }
+    ensures engine { IsSome result.engine ↔ IsTrue (ends_script result.status) }
+    ensures not_usage { result.status ≢ Status.Usage }
     ensures faults { StatusHasCause (F.faults shelf.old) (F.faults shelf.new) (M.faults meshes.old)
-        (M.faults meshes.new) (R.faults report.old) (R.faults report.new) result }
-    ensures opens { OpensForStatus (F.opens shelf.old) (F.opens shelf.new) 2 result }
-    ensures done { result ≡ Status.Done →
+        (M.faults meshes.new) (R.faults report.old) (R.faults report.new) result.status }
+    ensures opens { OpensForStatus (F.opens shelf.old) (F.opens shelf.new) 2 result.status }
+    ensures done { result.status ≡ Status.Done →
         HasEnded (seen (F.files shelf.new) (F.rest shelf.new) (F.opens shelf.new) (F.ended shelf.new)) }
     ensures files { F.files shelf.new ≡ F.files shelf.old }
-    ensures idle { result ≢ Status.WriteFault → M.under_way meshes.new ≡ false }
+    ensures idle { result.status ≢ Status.WriteFault → M.under_way meshes.new ≡ false }
 {
+    state_laws();
     match read_grid(alloc, command.grid, shelf) {
         Ok(grid) => {
-            let Ok(scene) = Scene::new(alloc, grid, command.spacing, command.budget) else {
-                return Status::NoMemory;
+            let Ok(engine) = Engine::make(alloc, grid, command.budget, command.spacing) else {
+                return Run {
+                    status: Status::NoMemory,
+                    engine: None,
+                };
             };
-            let mut stage = Stage::new(alloc, scene);
-            run_script(
-                command.prefix,
+            let Ok(room) = strip_room(alloc, command.showing, &engine) else {
+                return Run {
+                    status: Status::NoMemory,
+                    engine: None,
+                };
+            };
+            let mut stage = Stage::new(engine, room);
+            let status = run_script(
+                command.showing,
                 &mut stage,
                 command.script,
                 shelf,
                 meshes,
                 report,
-            )
+            );
+            Run::of_script(status, stage.engine)
         }
-        Err(GridStop::NoMemory) => Status::NoMemory,
-        Err(GridStop::Failed) => Status::ReadFault,
-        Err(GridStop::Refused(fault)) => end_with_text(
-            grid_report(fault).as_slice(),
-            Status::GridRefused,
-            report,
-        ),
+        Err(GridStop::NoMemory) => Run {
+            status: Status::NoMemory,
+            engine: None,
+        },
+        Err(GridStop::Failed) => Run {
+            status: Status::ReadFault,
+            engine: None,
+        },
+        Err(GridStop::Refused(fault)) => {
+            let text = grid_report(fault);
+            let status = end_with_text(text.as_slice(), Status::GridRefused, report);
+            Run {
+                status,
+                engine: None,
+            }
+        }
     }
+}
+
+/// Room for the strip of any mesh of an engine, where frames are shown as strips.
+fn strip_room(alloc: Global, showing: Showing<'_>, engine: &Engine) -> Result<Vec<Tri>, NoMemory>
+    ensures { IfOk result (λ room. is_strip showing.entry ≡ true →
+        length room.items ≡ min engine.now.most (2 * 4 ^ engine.now.state.grid.n)) }
+{
+    match showing {
+        Showing::Strips(_) => {
+            let finest = finest_triangles(engine.grid().n());
+            Ok(vec![in alloc; Tri::default(); engine.most().min(finest) as usize]?)
+        }
+        Showing::Meshes(_) | Showing::Measures => Ok(Vec::new(alloc)),
+    }
+}
+
+/// How many finest triangles a grid has.
+fn finest_triangles(n: u32) -> u32
+    requires in_grid { n ≤ 11 }
+    ensures { result ≡ 2 * 4 ^ n }
+{
+    2 * 4u32.pow(n)
 }
 
 /// Carries out the command `info`.
@@ -195,7 +290,7 @@ fn run_info<F: Shelf, R: Sink>(alloc: Global, name: &str, shelf: &mut F, report:
         CommandEnds (told meshes (R.contents report.old)) (told meshes (R.contents report.new))
         (seen (F.files shelf.old) (F.rest shelf.old) (F.opens shelf.old) (F.ended shelf.old))
         (seen (F.files shelf.new) (F.rest shelf.new) (F.opens shelf.new) (F.ended shelf.new))
-        (OnGrid name.now Facts) files result }
+        (OnGrid name.now Facts) files result None }
     ensures read_fault { result ≡ Status.ReadFault → (meshes : Option (List Mesh)) →
         CommandReadFault (told meshes (R.contents report.old)) (told meshes (R.contents report.new))
         (seen (F.files shelf.old) (F.rest shelf.old) (F.opens shelf.old) (F.ended shelf.old))
@@ -230,23 +325,27 @@ fn run_info<F: Shelf, R: Sink>(alloc: Global, name: &str, shelf: &mut F, report:
 }
 
 /// Carries out the command `try`, which opens no file and writes no mesh.
-fn run_try<R: Sink>(alloc: Global, n: u32, seed: u32, report: &mut R) -> Status
+fn run_try<R: Sink>(alloc: Global, n: u32, seed: u32, report: &mut R) -> Run
     requires n_low { 1 ≤ n }
     requires n_high { n ≤ 11 }
     ensures outcome { (meshes : Option (List Mesh)) (shelf : Seen) (files : List NamedFile) →
         CommandEnds (told meshes (R.contents report.old)) (told meshes (R.contents report.new))
-        shelf shelf (Generated n seed) files result }
-    ensures no_memory { result ≡ Status.NoMemory → (meshes : Option (List Mesh)) (shelf : Seen) →
+        shelf shelf (Generated n seed) files result.status result.engine }
+    ensures no_memory { result.status ≡ Status.NoMemory → (meshes : Option (List Mesh)) (shelf : Seen) →
         CommandNoMemory (told meshes (R.contents report.old)) (told meshes (R.contents report.new))
         shelf shelf (Generated n seed) }
-    ensures status { (result ≢ Status.Usage) × (result ≢ Status.GridRefused) × (result ≢ Status.ScriptRefused)
-        × (result ≢ Status.ReadFault) }
+    ensures engine { IsSome result.engine ↔ IsTrue (ends_script result.status) }
+    ensures status { (result.status ≢ Status.Usage) × (result.status ≢ Status.GridRefused)
+        × (result.status ≢ Status.ScriptRefused) × (result.status ≢ Status.ReadFault) }
     ensures faults { (shelf meshes : ℕ) → StatusHasCause shelf shelf meshes meshes
-        (R.faults report.old) (R.faults report.new) result }
+        (R.faults report.old) (R.faults report.new) result.status }
 {
     match sums_of(alloc, n, seed) {
-        Ok(sums) => end_with_text(try_report(n, seed, &sums).as_slice(), Status::Done, report),
-        Err(_) => Status::NoMemory,
+        Ok((sums, engine)) => {
+            let status = end_with_text(try_report(n, seed, &sums).as_slice(), Status::Done, report);
+            Run::of_script(status, engine)
+        }
+        Err(_) => Run::without_engine(Status::NoMemory),
     }
 }
 

@@ -1,26 +1,22 @@
 //! A script, carried out as its bytes come.
 
-ghost use Rattle.std.specs.Prelude.{◌≡◌, ◌≢◌, ◌+◌, ◌*◌, ◌<◌, ◌≤◌, ◌⊎◌, ℕ, List, ◌∷◌, [], ◌++◌, Some, Err, false, length, OnOk};
+ghost use Rattle.std.specs.Prelude.{◌≡◌, ◌≢◌, ◌+◌, ◌*◌, ◌≤◌, ◌⊎◌, ℕ, List, ◌∷◌, [], ◌++◌, Some, Err, false, length, OnOk};
 ghost use Rattle.roam_edge.specs.Fault.{HasCause, next_count};
 ghost use Rattle.roam_edge.specs.Shelf.{NamedFile, bytes_of};
 ghost use Rattle.roam_edge.specs.Sink.{Appends};
-ghost use Rattle.roam_script.specs.declared.limits.TheConstants.{MOST_LINES, MOST_FRAMES};
 ghost use Rattle.run_laws.specs.Cause.{StatusHasCause, StatusWritesHaveCause};
 ghost use Rattle.run_laws.specs.Promise.{seen, HasEnded};
-ghost use Rattle.run_laws.specs.Walk.{Walk, walk_of};
-ghost use Rattle.run_laws.specs.Picture.{Picture};
-ghost use Rattle.run_laws.specs.Outcome.{Outcome, shown_acts, IsFramesOutcome};
-ghost use Rattle.run_laws.specs.Words.{AsMeshes};
-ghost use Rattle.run_laws.specs.Act.{Told, told, Stands};
+ghost use Rattle.run_laws.specs.Walk.{Walk};
+ghost use Rattle.run_laws.specs.Act.{Told, told};
 ghost use Rattle.run_laws.specs.ReportText.{line_refusal};
-ghost use Rattle.run_laws.specs.Laws.{KeepsStates};
-ghost use Rattle.roam_run.specs.StageView.{IsStage, IsAt, Begins, refusal};
-ghost use Rattle.roam_run.specs.Taking.{NotFailed, StopsHaveCause, TakesBytes, TakesFrame, status_for, IsScriptEnd, DoesAs, AreFirst, EndsScript, StopsReading};
-ghost use Rattle.roam_run.specs.WordView.{IsPrefixLength};
+ghost use Rattle.roam_run.specs.StageView.{IsStage, IsAt, Starts, Begins, refusal};
+ghost use Rattle.roam_run.specs.Taking.{NotFailed, StopsHaveCause, TakesBytes, status_for, IsScriptEnd, EndsScript, StopsReading};
+ghost use Rattle.roam_run.specs.ShowView.{show_seen, IsShowing};
 
-use crate::frame::write_frame;
+use crate::frame::take_frame;
 use crate::grid_file::PIECE;
 use crate::report::line_report;
+use crate::showing::Showing;
 use crate::stage::Stage;
 use roam_edge::{Failed, MeshSink, Shelf, Sink};
 use roam_script::{Line, ScriptFault, line_laws, read_line};
@@ -33,8 +29,6 @@ pub(crate) enum Stop {
     Refused,
     /// A write failed.
     Failed,
-    /// There is no room for a mesh.
-    NoMemory,
 }
 
 /// Writes that a line is refused.
@@ -46,67 +40,22 @@ fn refuse<R: Sink>(number: u32, fault: ScriptFault, report: &mut R) -> Result<()
     report.write(line_report(number, fault).as_slice())
 }
 
-/// Makes the frame of a line, and shows it.
-fn take_frame<M: MeshSink, R: Sink>(
-    prefix: &str,
-    stage: &mut Stage,
-    meshes: &mut M,
-    report: &mut R,
-) -> Result<(), Stop>
-    requires idle { M.under_way meshes.old ≡ false }
-    requires prefix { IsPrefixLength prefix.now }
-    requires stage { IsStage stage.old }
-    requires lines { stage.old.lines < MOST_LINES }
-    requires frames { stage.old.frames < MOST_FRAMES }
-    ensures outcome { TakesFrame (told (M.meshes meshes.old) (R.contents report.old))
-        (told (M.meshes meshes.new) (R.contents report.new)) (AsMeshes prefix.now) stage.old stage.new result }
-    ensures stage { OnOk result (IsStage stage.new) }
-    ensures scene { OnOk result (stage.new.scene ≡ stage.old.scene) }
-    ensures most { OnOk result (stage.new.most ≡ stage.old.most) }
-    ensures lines { OnOk result (stage.new.lines ≡ stage.old.lines + 1) }
-    ensures frames { OnOk result (stage.new.frames ≡ stage.old.frames + 1) }
-    ensures part { OnOk result (stage.new.part.items ≡ []) }
-    ensures idle { NotFailed result → M.under_way meshes.new ≡ false }
-    ensures faults { StopsHaveCause (M.faults meshes.old) (M.faults meshes.new)
-        (R.faults report.old) (R.faults report.new) result }
-{
-    let Ok(mesh) = stage.take_mesh() else {
-        return Err(Stop::NoMemory);
-    };
-    let number = stage.frames + 1;
-    match write_frame(
-        prefix,
-        number,
-        &stage.scene,
-        &mesh,
-        stage.split,
-        meshes,
-        report,
-    ) {
-        Ok(()) => {
-            stage.end_frame(mesh);
-            Ok(())
-        }
-        Err(_) => Err(Stop::Failed),
-    }
-}
-
 /// Carries out the line that has begun, which ends here, or refuses it.
 fn take_line<M: MeshSink, R: Sink>(
-    prefix: &str,
+    showing: Showing<'_>,
     stage: &mut Stage,
     meshes: &mut M,
     report: &mut R,
 ) -> Result<(), Stop>
     requires idle { M.under_way meshes.old ≡ false }
-    requires prefix { IsPrefixLength prefix.now }
-    requires stage { IsStage stage.old }
+    requires showing { IsShowing showing }
+    requires stage { IsStage showing stage.old }
     ensures outcome { (before : Told) (start : Walk) (read : List ℕ) →
-        KeepsStates start.state.grid.n start →
-        IsAt before (told (M.meshes meshes.old) (R.contents report.old)) (AsMeshes prefix.now) start read stage.old →
-        TakesBytes before (told (M.meshes meshes.new) (R.contents report.new)) (AsMeshes prefix.now) start
+        Starts start →
+        IsAt before (told (M.meshes meshes.old) (R.contents report.old)) (show_seen showing.entry) start read stage.old →
+        TakesBytes before (told (M.meshes meshes.new) (R.contents report.new)) (show_seen showing.entry) start
         (read ++ 10 ∷ []) stage.new result }
-    ensures stage { OnOk result (IsStage stage.new) }
+    ensures stage { OnOk result (IsStage showing.entry stage.new) }
     ensures lines { OnOk result (stage.new.lines ≡ stage.old.lines + 1) }
     ensures part { OnOk result (stage.new.part.items ≡ []) }
     ensures idle { NotFailed result → M.under_way meshes.new ≡ false }
@@ -116,7 +65,10 @@ fn take_line<M: MeshSink, R: Sink>(
     state_laws();
     line_laws();
     match read_line(stage.part.as_slice(), &stage.limits()) {
-        Ok(Line::Frame) => take_frame(prefix, stage, meshes, report),
+        Ok(Line::Frame) => match take_frame(showing, stage, meshes, report) {
+            Ok(()) => Ok(()),
+            Err(_) => Err(Stop::Failed),
+        },
         Ok(line) => {
             stage.end_line(line);
             Ok(())
@@ -131,21 +83,21 @@ fn take_line<M: MeshSink, R: Sink>(
 /// Takes one byte of a script: the line that has begun goes on, or it ends and is carried out. A line
 /// that no further byte can mend is refused at once.
 fn take_byte<M: MeshSink, R: Sink>(
-    prefix: &str,
+    showing: Showing<'_>,
     stage: &mut Stage,
     byte: u8,
     meshes: &mut M,
     report: &mut R,
 ) -> Result<(), Stop>
     requires idle { M.under_way meshes.old ≡ false }
-    requires prefix { IsPrefixLength prefix.now }
-    requires stage { IsStage stage.old }
+    requires showing { IsShowing showing }
+    requires stage { IsStage showing stage.old }
     ensures outcome { (before : Told) (start : Walk) (read : List ℕ) →
-        KeepsStates start.state.grid.n start →
-        IsAt before (told (M.meshes meshes.old) (R.contents report.old)) (AsMeshes prefix.now) start read stage.old →
-        TakesBytes before (told (M.meshes meshes.new) (R.contents report.new)) (AsMeshes prefix.now) start
+        Starts start →
+        IsAt before (told (M.meshes meshes.old) (R.contents report.old)) (show_seen showing.entry) start read stage.old →
+        TakesBytes before (told (M.meshes meshes.new) (R.contents report.new)) (show_seen showing.entry) start
         (read ++ byte ∷ []) stage.new result }
-    ensures stage { OnOk result (IsStage stage.new) }
+    ensures stage { OnOk result (IsStage showing.entry stage.new) }
     ensures longer { OnOk result (201 * stage.old.lines + length stage.old.part.items + 1
         ≤ 201 * stage.new.lines + length stage.new.part.items) }
     ensures idle { NotFailed result → M.under_way meshes.new ≡ false }
@@ -153,7 +105,7 @@ fn take_byte<M: MeshSink, R: Sink>(
         (R.faults report.old) (R.faults report.new) result }
 {
     if byte == b'\n' {
-        return take_line(prefix, stage, meshes, report);
+        return take_line(showing, stage, meshes, report);
     }
     match stage.settled_fault() {
         Some(fault) => match refuse(stage.lines + 1, fault, report) {
@@ -169,21 +121,21 @@ fn take_byte<M: MeshSink, R: Sink>(
 
 /// Takes a piece of a script.
 fn take_piece<M: MeshSink, R: Sink>(
-    prefix: &str,
+    showing: Showing<'_>,
     stage: &mut Stage,
     piece: &[u8],
     meshes: &mut M,
     report: &mut R,
 ) -> Result<(), Stop>
     requires idle { M.under_way meshes.old ≡ false }
-    requires prefix { IsPrefixLength prefix.now }
-    requires stage { IsStage stage.old }
+    requires showing { IsShowing showing }
+    requires stage { IsStage showing stage.old }
     ensures outcome { (before : Told) (start : Walk) (read : List ℕ) →
-        KeepsStates start.state.grid.n start →
-        IsAt before (told (M.meshes meshes.old) (R.contents report.old)) (AsMeshes prefix.now) start read stage.old →
-        TakesBytes before (told (M.meshes meshes.new) (R.contents report.new)) (AsMeshes prefix.now) start
+        Starts start →
+        IsAt before (told (M.meshes meshes.old) (R.contents report.old)) (show_seen showing.entry) start read stage.old →
+        TakesBytes before (told (M.meshes meshes.new) (R.contents report.new)) (show_seen showing.entry) start
         (read ++ piece.now) stage.new result }
-    ensures stage { OnOk result (IsStage stage.new) }
+    ensures stage { OnOk result (IsStage showing.entry stage.new) }
     ensures longer { OnOk result (201 * stage.old.lines + length stage.old.part.items + length piece.now
         ≤ 201 * stage.new.lines + length stage.new.part.items) }
     ensures idle { NotFailed result → M.under_way meshes.new ≡ false }
@@ -191,7 +143,7 @@ fn take_piece<M: MeshSink, R: Sink>(
         (R.faults report.old) (R.faults report.new) result }
 {
     for byte in piece {
-        take_byte(prefix, stage, *byte, meshes, report)?;
+        take_byte(showing, stage, *byte, meshes, report)?;
     }
     Ok(())
 }
@@ -203,23 +155,23 @@ fn status_of(stop: Stop) -> Status
     match stop {
         Stop::Refused => Status::ScriptRefused,
         Stop::Failed => Status::WriteFault,
-        Stop::NoMemory => Status::NoMemory,
     }
 }
 
 /// Ends a script: bytes after the last LF are a line too.
 fn end_script<M: MeshSink, R: Sink>(
-    prefix: &str,
+    showing: Showing<'_>,
     stage: &mut Stage,
     meshes: &mut M,
     report: &mut R,
 ) -> Status
     requires idle { M.under_way meshes.old ≡ false }
-    requires prefix { IsPrefixLength prefix.now }
-    requires stage { IsStage stage.old }
-    ensures ends { (before : Told) (start : Walk) (read : List ℕ) → KeepsStates start.state.grid.n start →
-        IsAt before (told (M.meshes meshes.old) (R.contents report.old)) (AsMeshes prefix.now) start read stage.old →
-        EndsScript before (told (M.meshes meshes.new) (R.contents report.new)) (AsMeshes prefix.now) start read result }
+    requires showing { IsShowing showing }
+    requires stage { IsStage showing stage.old }
+    ensures ends { (before : Told) (start : Walk) (read : List ℕ) → Starts start →
+        IsAt before (told (M.meshes meshes.old) (R.contents report.old)) (show_seen showing.entry) start read stage.old →
+        EndsScript before (told (M.meshes meshes.new) (R.contents report.new)) (show_seen showing.entry) start read
+        stage.new.engine result }
     ensures status { IsScriptEnd result }
     ensures idle { result ≢ Status.WriteFault → M.under_way meshes.new ≡ false }
     ensures faults { StatusWritesHaveCause (M.faults meshes.old) (M.faults meshes.new)
@@ -228,7 +180,7 @@ fn end_script<M: MeshSink, R: Sink>(
     if stage.part.is_empty() {
         return Status::Done;
     }
-    match take_line(prefix, stage, meshes, report) {
+    match take_line(showing, stage, meshes, report) {
         Ok(()) => Status::Done,
         Err(stop) => status_of(stop),
     }
@@ -236,7 +188,7 @@ fn end_script<M: MeshSink, R: Sink>(
 
 /// Reads the script of this name and carries out its lines, each whole line before the next read.
 pub(crate) fn run_script<F: Shelf, M: MeshSink, R: Sink>(
-    prefix: &str,
+    showing: Showing<'_>,
     stage: &mut Stage,
     name: &str,
     shelf: &mut F,
@@ -244,24 +196,18 @@ pub(crate) fn run_script<F: Shelf, M: MeshSink, R: Sink>(
     report: &mut R,
 ) -> Status
     requires idle { M.under_way meshes.old ≡ false }
-    requires prefix { IsPrefixLength prefix.now }
-    requires stage { IsStage stage.old }
-    ensures ends { (start : Walk) → KeepsStates start.state.grid.n start → Begins start stage.old →
-        (files : List NamedFile) → F.files shelf.old ≡ Some files → result ≢ Status.ReadFault → result ≢ Status.NoMemory →
-        (end : Outcome) × IsFramesOutcome (AsMeshes prefix.now) 2 (walk_of start (bytes_of files name.now)) end
-        × DoesAs (told (M.meshes meshes.old) (R.contents report.old))
-        (told (M.meshes meshes.new) (R.contents report.new)) end result }
-    ensures read_fault { result ≡ Status.ReadFault → (start : Walk) → KeepsStates start.state.grid.n start →
-        Begins start stage.old → (files : List NamedFile) → F.files shelf.old ≡ Some files →
+    requires showing { IsShowing showing }
+    requires stage { IsStage showing stage.old }
+    ensures ends { (start : Walk) → Begins start stage.old → (files : List NamedFile) →
+        F.files shelf.old ≡ Some files → result ≢ Status.ReadFault →
+        EndsScript (told (M.meshes meshes.old) (R.contents report.old))
+        (told (M.meshes meshes.new) (R.contents report.new)) (show_seen showing.entry) start
+        (bytes_of files name.now) stage.new.engine result }
+    ensures read_fault { result ≡ Status.ReadFault → (start : Walk) → Begins start stage.old →
+        (files : List NamedFile) → F.files shelf.old ≡ Some files →
         StopsReading (told (M.meshes meshes.old) (R.contents report.old))
-        (told (M.meshes meshes.new) (R.contents report.new)) (AsMeshes prefix.now) start
+        (told (M.meshes meshes.new) (R.contents report.new)) (show_seen showing.entry) start
         (bytes_of files name.now) (F.rest shelf.new) (F.ended shelf.new) }
-    ensures no_memory { result ≡ Status.NoMemory → (start : Walk) → KeepsStates start.state.grid.n start →
-        Begins start stage.old → (pictures : List Picture)
-        × Stands (told (M.meshes meshes.old) (R.contents report.old))
-        (told (M.meshes meshes.new) (R.contents report.new)) (shown_acts (AsMeshes prefix.now) 1 pictures)
-        × ((files : List NamedFile) → F.files shelf.old ≡ Some files →
-        AreFirst (AsMeshes prefix.now) (walk_of start (bytes_of files name.now)) pictures) }
     ensures status { (result ≡ Status.ReadFault) ⊎ IsScriptEnd result }
     ensures done { result ≡ Status.Done → HasEnded (seen (F.files shelf.new) (F.rest shelf.new)
         (F.opens shelf.new) (F.ended shelf.new)) }
@@ -280,9 +226,9 @@ pub(crate) fn run_script<F: Shelf, M: MeshSink, R: Sink>(
             return Status::ReadFault;
         };
         if count == 0 {
-            return end_script(prefix, stage, meshes, report);
+            return end_script(showing, stage, meshes, report);
         }
-        if let Err(stop) = take_piece(prefix, stage, &buffer[..count], meshes, report) {
+        if let Err(stop) = take_piece(showing, stage, &buffer[..count], meshes, report) {
             return status_of(stop);
         }
     }

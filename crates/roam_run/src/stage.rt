@@ -1,61 +1,45 @@
 //! How far a script was carried out, and what its next line is read under.
 
-ghost use Rattle.std.specs.Prelude.{◌≡◌, ◌≢◌, ◌+◌, ◌<◌, ◌≤◌, ◌++◌, ◌∷◌, [], ℕ, List, length, None, Err, IfOk, IfSome};
+ghost use Rattle.std.specs.Prelude.{◌≡◌, ◌≢◌, ◌+◌, ◌*◌, ◌^◌, ◌<◌, ◌≤◌, ◌++◌, ◌∷◌, [], ℕ, List, length, None, Err, IfSome};
+ghost use Rattle.view_priority.specs.Camera.{IsCamera};
 ghost use Rattle.roam_script.specs.LineText.{line_in};
 ghost use Rattle.roam_script.specs.declared.limits.TheConstants.{MOST_LINES, MOST_FRAMES, MOST_LINE_BYTES};
 ghost use Rattle.roam_script.specs.Laws.{LiesInRange};
-ghost use Rattle.run_laws.specs.Walk.{state_after};
-ghost use Rattle.roam_run.specs.MeshSeen.{IsMeshOf};
-ghost use Rattle.roam_run.specs.StageView.{HasMesh, SameBut, limits_seen};
+ghost use Rattle.roam_run.specs.EngineSeen.{IsCarriedOut};
+ghost use Rattle.roam_run.specs.StageView.{IsFrameMade, limits_seen};
 
-use crate::mesh::FrameMesh;
-use crate::scene::Scene;
+use crate::carry::carry_out;
 use arrayvec::ArrayVec;
-use roam_edge::NoMemory;
+use bintree_addr::Tri;
+use frame_loop::{Engine, FrameNote};
 use roam_script::{Limits, Line, MOST_LINE_BYTES, MOST_LINES, ScriptFault, line_laws};
-use std::alloc::Global;
 
 /// Where a script has come to.
 #[derive(Drop)]
 pub(crate) struct Stage {
-    /// What the next frame is made from.
-    pub(crate) scene: Scene,
-    /// The greatest budget that a line may set.
-    pub(crate) most: u32,
+    /// What makes the frames; it has the state that the next frame is made of.
+    pub(crate) engine: Engine,
     /// The lines that were carried out.
     pub(crate) lines: u32,
-    /// The frames that were made.
-    pub(crate) frames: u32,
-    /// How many triangles are split in the last frame.
-    pub(crate) split: u32,
-    /// The last frame's mesh, unless a line has changed the scene since.
-    pub(crate) mesh: Option<FrameMesh>,
     /// The bytes of the line that has begun.
     pub(crate) part: ArrayVec<u8, MOST_LINE_BYTES>,
-    /// Where the room for meshes comes from.
-    pub(crate) alloc: Global,
+    /// Room for a strip, where frames are shown as strips.
+    pub(crate) room: Vec<Tri>,
 }
 
 impl Stage {
     /// Before the first line.
-    pub(crate) fn new(alloc: Global, scene: Scene) -> Stage
-        ensures scene { result.scene ≡ scene }
-        ensures most { result.most ≡ scene.budget }
+    pub(crate) fn new(engine: Engine, room: Vec<Tri>) -> Stage
+        ensures engine { result.engine ≡ engine }
+        ensures room { result.room.items ≡ room.items }
         ensures lines { result.lines ≡ 0 }
-        ensures frames { result.frames ≡ 0 }
-        ensures split { result.split ≡ 0 }
         ensures part { result.part.items ≡ [] }
-        ensures mesh { HasMesh result }
     {
         Stage {
-            most: scene.budget,
-            scene,
+            engine,
             lines: 0,
-            frames: 0,
-            split: 0,
-            mesh: None,
             part: ArrayVec::new(),
-            alloc,
+            room,
         }
     }
 
@@ -65,14 +49,14 @@ impl Stage {
         ensures value { result ≡ limits_seen self.now }
         ensures level { result.n ≤ 11 }
     {
-        let grid = self.scene.wedges.grid();
+        let grid = self.engine.grid();
         Limits {
             n: grid.n(),
             maxval: grid.maxval(),
-            planes: self.scene.planes.len(),
+            planes: self.engine.planes(),
             line: self.lines + 1,
-            frames: self.frames,
-            budget: self.most,
+            frames: self.engine.frames(),
+            budget: self.engine.most(),
         }
     }
 
@@ -93,58 +77,31 @@ impl Stage {
         }
     }
 
-    /// Takes the mesh of the scene: the one that is kept, or one that is made.
-    pub(crate) fn take_mesh(&mut self) -> Result<FrameMesh, NoMemory>
-        requires { HasMesh self.old }
-        ensures mesh { IfOk result (IsMeshOf self.old.scene) }
-        ensures same { SameBut self.old self.new }
-        ensures part { self.new.part.items ≡ self.old.part.items }
-        ensures no_mesh { HasMesh self.new }
-    {
-        match self.mesh.take() {
-            Some(mesh) => Ok(mesh),
-            None => FrameMesh::make(self.alloc, &self.scene),
-        }
-    }
-
-    /// Keeps the mesh of the frame that its line has made.
-    pub(crate) fn end_frame(&mut self, mesh: FrameMesh)
-        requires mesh { IsMeshOf self.old.scene mesh }
+    /// Makes the frame of a line.
+    pub(crate) fn end_frame(&mut self) -> FrameNote
         requires lines { self.old.lines < MOST_LINES }
-        requires frames { self.old.frames < MOST_FRAMES }
-        ensures scene { self.new.scene ≡ self.old.scene }
-        ensures most { self.new.most ≡ self.old.most }
-        ensures lines { self.new.lines ≡ self.old.lines + 1 }
-        ensures frames { self.new.frames ≡ self.old.frames + 1 }
-        ensures split { self.new.split ≡ length mesh.split.members }
-        ensures part { self.new.part.items ≡ [] }
-        ensures mesh { HasMesh self.new }
+        requires frames { self.old.engine.frames < MOST_FRAMES }
+        ensures { IsFrameMade self.old self.new result }
     {
-        self.split = mesh.size;
-        self.mesh = Some(mesh);
-        self.frames += 1;
+        let note = self.engine.frame();
         self.lines += 1;
         self.part.clear();
+        note
     }
 
-    /// Carries out a line that makes no frame. A mesh that is kept is dropped, unless nothing changes.
+    /// Carries out a line that makes no frame.
     pub(crate) fn end_line(&mut self, line: Line)
         requires other { line ≢ Line.Frame }
         requires ranges { LiesInRange (limits_seen self.old) line }
         requires lines { self.old.lines < MOST_LINES }
-        requires mesh { HasMesh self.old }
-        ensures scene { self.new.scene ≡ state_after line self.old.scene }
-        ensures most { self.new.most ≡ self.old.most }
+        requires near { IsCamera self.old.engine.state.view.camera }
+        requires far { self.old.engine.odometer ≤ self.old.lines * 2 ^ 34 }
+        ensures engine { IsCarriedOut self.old.engine self.new.engine line }
         ensures lines { self.new.lines ≡ self.old.lines + 1 }
-        ensures frames { self.new.frames ≡ self.old.frames }
-        ensures split { self.new.split ≡ self.old.split }
         ensures part { self.new.part.items ≡ [] }
-        ensures mesh { HasMesh self.new }
+        ensures room { self.new.room.items ≡ self.old.room.items }
     {
-        if line != Line::Blank {
-            self.mesh = None;
-            self.scene.apply(line);
-        }
+        carry_out(&mut self.engine, line);
         self.lines += 1;
         self.part.clear();
     }

@@ -4,6 +4,7 @@
 
 use crate::frail_shelf::FrailShelf;
 use crate::{Status, roam};
+use frame_loop::Engine;
 use roam_edge::{CalmShelf, MemMeshes, MemSink, MeshCall};
 use std::alloc::Global;
 use std::test::Fail;
@@ -46,6 +47,7 @@ const LINE_2_REFUSED: &str =
 #[derive(Drop)]
 struct Ran {
     status: Status,
+    engine: Option<Engine>,
     meshes: MemMeshes,
     report: MemSink,
 }
@@ -82,6 +84,7 @@ fn run_with(
     );
     Ok(Ran {
         status: run.status,
+        engine: run.engine,
         meshes,
         report,
     })
@@ -129,6 +132,7 @@ fn run_frail(
     let calls = shelf.calls();
     let ran = Ran {
         status: run.status,
+        engine: run.engine,
         meshes,
         report,
     };
@@ -148,6 +152,22 @@ fn last(meshes: &MemMeshes) -> Option<(&str, u32, &[u8], bool)> {
                 meshes.finished(place),
             ))
         }
+    }
+}
+
+/// What an engine tells: its frames, how far its camera went, its planes, the triangles of its mesh, and how many it split and
+/// merged in all.
+fn told_by(engine: &Option<Engine>) -> Option<(u32, u64, u32, usize, u64, u64)> {
+    match engine {
+        None => None,
+        Some(engine) => Some((
+            engine.frames(),
+            engine.odometer(),
+            engine.planes(),
+            engine.view().leaves.len(),
+            engine.pool().splits(),
+            engine.pool().merges(),
+        )),
     }
 }
 
@@ -190,7 +210,7 @@ fn a_frame_is_the_greedy_mesh_of_its_budget_seen_from_its_camera(
             "9",
             "1",
             "frame\ncamera 4 4 0\nframe\nframe\n",
-            "frame 1 triangles 9 vertices 9 worst 436906 splits 7 merges 0 blocked 6 needs 10\nframe 2 triangles 9 vertices 9 worst 436906 splits 7 merges 7 blocked 4 needs 10\nframe 3 triangles 9 vertices 9 worst 436906 splits 7 merges 7 blocked 4 needs 10\n",
+            "frame 1 triangles 9 vertices 9 worst 436906 splits 7 merges 0 blocked 6 needs 10\nframe 2 triangles 9 vertices 9 worst 436906 splits 5 merges 5 blocked 4 needs 10\nframe 3 triangles 9 vertices 9 worst 436906 splits 0 merges 0 blocked 4 needs 10\n",
         ),
         (
             LOW_CORNER,
@@ -241,7 +261,7 @@ fn a_frame_shows_the_edits_planes_and_budget_before_its_line(rt: HostRuntime) ->
             CORNER_HILL,
             "9",
             "frame\nbudget 7\nframe\nbudget 9\nframe\n",
-            "frame 1 triangles 9 vertices 9 worst 0 splits 7 merges 0 blocked none\nframe 2 triangles 5 vertices 6 worst 1310720 splits 3 merges 7 blocked 8 needs 8\nframe 3 triangles 9 vertices 9 worst 0 splits 7 merges 3 blocked none\n",
+            "frame 1 triangles 9 vertices 9 worst 0 splits 7 merges 0 blocked none\nframe 2 triangles 5 vertices 6 worst 1310720 splits 0 merges 4 blocked 8 needs 8\nframe 3 triangles 9 vertices 9 worst 0 splits 4 merges 0 blocked none\n",
         ),
         (
             FLAT.as_slice(),
@@ -263,15 +283,15 @@ fn a_frame_shows_the_edits_planes_and_budget_before_its_line(rt: HostRuntime) ->
         ),
         (
             HILL,
-            "2",
-            "plane 1 0 0 -3\nframe\n",
-            "frame 1 triangles 2 vertices 4 worst 0 splits 0 merges 0 blocked none inside 0 cut 0 outside 2\n",
+            "4",
+            "frame\nplane 1 0 0 -3\nframe\nnoplanes\nframe\n",
+            "frame 1 triangles 4 vertices 5 worst 0 splits 2 merges 0 blocked none\nframe 2 triangles 2 vertices 4 worst 0 splits 0 merges 2 blocked none inside 0 cut 0 outside 2\nframe 3 triangles 4 vertices 5 worst 0 splits 2 merges 0 blocked none\n",
         ),
         (
             BORDER_HILL,
             "8",
-            "plane 0 1 0 -2\nframe\n",
-            "frame 1 triangles 4 vertices 5 worst 0 splits 2 merges 0 blocked none inside 0 cut 3 outside 1\n",
+            "frame\nplane 0 1 0 -2\nframe\n",
+            "frame 1 triangles 5 vertices 6 worst 0 splits 3 merges 0 blocked none\nframe 2 triangles 4 vertices 5 worst 0 splits 0 merges 1 blocked none inside 0 cut 3 outside 1\n",
         ),
         (
             FLAT.as_slice(),
@@ -670,16 +690,92 @@ fn try_tells_the_sums_of_fifty_generated_frames(rt: HostRuntime) -> Result<(), F
         assert_eq!(rt; ran.report.bytes(), b"".as_slice());
         assert_eq!(rt; calls, 0);
     }
-    let ran = run_with(
-        rt.alloc(),
-        &["try", "1", "1"],
-        b"",
-        b"",
-        MeshCall::Begin(0),
-        1,
-    )?;
+    Ok(())
+}
+
+#[test]
+fn a_run_leaves_the_engine_of_its_frames(rt: HostRuntime) -> Result<(), Fail> {
+    let cases: Vec<(&[u8], &str, Status, (u32, u64, u32, usize, u64, u64))> = vec![in rt.alloc();
+        (FLAT.as_slice(), "", Status::Done, (0, 0, 0, 2, 0, 0)),
+        (
+            TWO_HILLS,
+            "frame\ncamera 4 4 0\nframe\nframe\n",
+            Status::Done,
+            (3, 8, 0, 9, 12, 5),
+        ),
+        (
+            CORNER_HILL,
+            "frame\nbudget 7\nframe\nplane 1 0 0 0\n",
+            Status::Done,
+            (2, 0, 1, 5, 7, 4),
+        ),
+        (
+            LOW_CORNER,
+            "camera -65535 0 0\nframe\ncamera -65536 0 0\nframe\nfly\n",
+            Status::ScriptRefused,
+            (2, 65536, 0, 2, 4, 4),
+        ),
+        (HILL, "fly\n", Status::ScriptRefused, (0, 0, 0, 2, 0, 0)),
+    ]?;
+    for (grid, script, status, told) in cases {
+        let ran = run_on(rt.alloc(), grid, "9", "1", script)?;
+        assert_eq!(rt; ran.status, status, "{script:?}");
+        assert_eq!(rt; told_by(&ran.engine), Some(told), "{script:?}");
+    }
+    let ran = run_on(rt.alloc(), &FLAT, "9", "1", "set 1 1 5\n")?;
+    let engine = ran.engine.ok_or("an engine")?;
+    assert_eq!(rt;
+        engine.grid().heights(),
+        [0, 0, 0, 0, 5, 0, 0, 0, 0].as_slice()
+    );
+    Ok(())
+}
+
+#[test]
+fn a_generated_run_leaves_its_engine(rt: HostRuntime) -> Result<(), Fail> {
+    // The mesh is the finest one from the first frame on. From (0, 0, 0) the camera goes to (1, 58, 40000), and then to (58, 1, 40000).
+    let none = MeshCall::Begin(0);
+    let ran = run_with(rt.alloc(), &["try", "1", "1"], b"", b"", none, 0)?;
+    assert_eq!(rt; ran.status, Status::Done);
+    assert_eq!(rt; told_by(&ran.engine), Some((50, 40173, 0, 8, 6, 0)));
+    let ran = run_with(rt.alloc(), &["try", "1", "1"], b"", b"", none, 1)?;
     assert_eq!(rt; ran.status, Status::WriteFault);
     assert_eq!(rt; ran.report.bytes(), b"".as_slice());
+    assert_eq!(rt; told_by(&ran.engine), None);
+    Ok(())
+}
+
+#[test]
+fn other_runs_leave_no_engine(rt: HostRuntime) -> Result<(), Fail> {
+    let none = MeshCall::Begin(0);
+    let frame = b"frame\n".as_slice();
+    let cases: Vec<(&[&str], &[u8], MeshCall, u64, Status)> = vec![in rt.alloc();
+        (["info", "g"].as_slice(), HILL, none, 0, Status::Done),
+        (["info"].as_slice(), HILL, none, 0, Status::Usage),
+        (
+            WORDS.as_slice(),
+            b"P6".as_slice(),
+            none,
+            0,
+            Status::GridRefused
+        ),
+        (
+            WORDS.as_slice(),
+            HILL,
+            MeshCall::Begin(1),
+            0,
+            Status::WriteFault
+        ),
+        (WORDS.as_slice(), HILL, none, 1, Status::WriteFault),
+    ]?;
+    for (words, grid, call, write, status) in cases {
+        let ran = run_with(rt.alloc(), words, grid, frame, call, write)?;
+        assert_eq!(rt; ran.status, status, "{words:?}");
+        assert_eq!(rt; told_by(&ran.engine), None, "{words:?}");
+    }
+    let (ran, _) = run_frail(rt.alloc(), &WORDS, frame, 64, 6)?;
+    assert_eq!(rt; ran.status, Status::ReadFault);
+    assert_eq!(rt; told_by(&ran.engine), None);
     Ok(())
 }
 
@@ -703,5 +799,97 @@ fn words_that_are_no_command_open_nothing(rt: HostRuntime) -> Result<(), Fail> {
         assert_eq!(rt; ran.meshes.count(), 0, "{words:?}");
         assert_eq!(rt; ran.report.bytes(), b"".as_slice(), "{words:?}");
     }
+    Ok(())
+}
+
+/// The mesh of `CORNER_HILL` at budget 9, with its triangles in the order of their strip.
+const CORNER_STRIP: &[u8] =
+    b"v 0 0 0\nv 1 0 10\nv 2 0 0\nv 4 0 0\nv 1 1 0\nv 0 2 0\nv 2 2 0\nv 0 4 0\nv 4 4 0\nf 3 4 7\nf 5 3 7\nf 2 3 5\nf 2 5 1\nf 5 6 1\nf 5 7 6\nf 6 7 8\nf 7 9 8\nf 7 4 9\n";
+
+/// Twenty-five points, of which (0, 0) is 1 high.
+const WIDE_CORNER: &[u8] = b"P5\n5 5\n255\n\0\0\0\0\0\0\0\0\0\0\0\0\0\0\0\0\0\0\0\0\x01\0\0\0\0";
+
+#[test]
+fn a_strip_has_its_faces_in_order_and_its_turns_in_the_report(rt: HostRuntime) -> Result<(), Fail> {
+    let cases: Vec<(&[u8], &str, &str)> = vec![in rt.alloc();
+        (FLAT.as_slice(), "2", "strip 1 triangles 2 left 0 right 0\n"),
+        (HILL, "4", "strip 1 triangles 4 left 0 right 2\n"),
+        (CORNER_HILL, "9", "strip 1 triangles 9 left 2 right 5\n"),
+    ]?;
+    for (grid, budget, line) in cases.as_slice() {
+        let words = ["strip", "g", "s", "out", budget, "1"];
+        let ran = run_with(rt.alloc(), &words, grid, b"frame\n", MeshCall::Begin(0), 0)?;
+        assert_eq!(rt; ran.status, Status::Done, "{budget}");
+        assert_eq!(rt; ran.report.bytes(), line.as_bytes(), "{budget}");
+        assert_eq!(rt; ran.meshes.count(), 1, "{budget}");
+    }
+    let words = ["strip", "g", "s", "out", "9", "1"];
+    let ran = run_with(
+        rt.alloc(),
+        &words,
+        CORNER_HILL,
+        b"frame\n",
+        MeshCall::Begin(0),
+        0,
+    )?;
+    assert_eq!(rt; last(&ran.meshes), Some(("out", 1, CORNER_STRIP, true)));
+    Ok(())
+}
+
+#[test]
+fn a_measure_tells_the_deviation_over_its_denominator_and_the_thickness(
+    rt: HostRuntime,
+) -> Result<(), Fail> {
+    let cases: Vec<(&[u8], &str, &str)> = vec![in rt.alloc();
+        (HILL, "3", "measure 1 deviation 20 over 2 thickness 20\n"),
+        (HILL, "4", "measure 1 deviation 0 over 2 thickness 0\n"),
+        (
+            WIDE_CORNER,
+            "2",
+            "measure 1 deviation 3 over 4 thickness 3\n"
+        ),
+    ]?;
+    for (grid, budget, line) in cases.as_slice() {
+        let words = ["measure", "g", "s", budget, "1"];
+        let ran = run_with(rt.alloc(), &words, grid, b"frame\n", MeshCall::Begin(0), 0)?;
+        assert_eq!(rt; ran.status, Status::Done, "{budget}");
+        assert_eq!(rt; ran.report.bytes(), line.as_bytes(), "{budget}");
+        assert_eq!(rt; ran.meshes.count(), 0, "{budget}");
+    }
+    Ok(())
+}
+
+#[test]
+fn a_strip_that_is_cut_short_leaves_a_prefix(rt: HostRuntime) -> Result<(), Fail> {
+    let words = ["strip", "g", "s", "out", "9", "1"];
+    let ran = run_with(
+        rt.alloc(),
+        &words,
+        CORNER_HILL,
+        b"frame\n",
+        MeshCall::Finish(1),
+        0,
+    )?;
+    assert_eq!(rt; ran.status, Status::WriteFault);
+    assert_eq!(rt; ran.report.bytes().len(), 0);
+    assert_eq!(rt; last(&ran.meshes), Some(("out", 1, CORNER_STRIP, false)));
+    Ok(())
+}
+
+#[test]
+fn words_of_strip_and_measure_have_their_bounds(rt: HostRuntime) -> Result<(), Fail> {
+    let strip = ["strip", "g", "s", "out", "1", "1"];
+    let ran = run_with(rt.alloc(), &strip, HILL, b"frame\n", MeshCall::Begin(0), 0)?;
+    assert_eq!(rt; ran.status, Status::Usage);
+    let measure = ["measure", "g", "s", "4", "1025"];
+    let ran = run_with(
+        rt.alloc(),
+        &measure,
+        HILL,
+        b"frame\n",
+        MeshCall::Begin(0),
+        0,
+    )?;
+    assert_eq!(rt; ran.status, Status::Usage);
     Ok(())
 }

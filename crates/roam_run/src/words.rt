@@ -2,9 +2,11 @@
 
 ghost use Rattle.std.specs.Prelude.{◌≡◌, ◌≤◌, ◌&&◌, ◌==◌, map, string_bytes, codes, bytes_eq, IfSome};
 ghost use Rattle.std.specs.Option.{option_map};
-ghost use Rattle.run_laws.specs.Words.{command_of, number_word};
+ghost use Rattle.run_laws.specs.Words.{command_of, frames_command, number_word, budget_word, spacing_word};
+ghost use Rattle.roam_run.specs.ShowView.{show_seen, IsShowing, show_in};
 ghost use Rattle.roam_run.specs.WordView.{command_seen, IsAccepted};
 
+use crate::showing::Showing;
 use roam_edge::LONGEST_PREFIX;
 use roam_num::read_dec;
 use wedgie_tree::GREATEST_SPACING;
@@ -12,23 +14,24 @@ use wedgie_tree::GREATEST_SPACING;
 /// A command.
 #[derive(Clone, Copy)]
 pub(crate) enum Command<'a> {
-    /// `mesh GRID SCRIPT PREFIX BUDGET SPACING`: a mesh for each frame of the script.
-    Mesh(MeshWords<'a>),
+    /// The frames of a script, which an engine makes: `mesh GRID SCRIPT PREFIX BUDGET SPACING` and
+    /// `strip GRID SCRIPT PREFIX BUDGET SPACING`, a mesh for each frame; `measure GRID SCRIPT BUDGET SPACING`, a line for each.
+    Frames(FrameWords<'a>),
     /// `info GRID`: a line on the grid.
     Info(&'a str),
     /// `try N SEED`: the sums of a generated run.
     Try { n: u32, seed: u32 },
 }
 
-/// The words of the command `mesh`.
+/// The words of a command whose frames an engine makes.
 #[derive(Clone, Copy)]
-pub(crate) struct MeshWords<'a> {
+pub(crate) struct FrameWords<'a> {
     /// The name of the grid's file.
     pub(crate) grid: &'a str,
     /// The name of the script's file.
     pub(crate) script: &'a str,
-    /// What the name of each mesh begins with.
-    pub(crate) prefix: &'a str,
+    /// How the frames are shown.
+    pub(crate) showing: Showing<'a>,
     /// The greatest number of triangles of a mesh.
     pub(crate) budget: u32,
     /// The world units of a grid step.
@@ -58,21 +61,61 @@ pub(crate) fn command_in(words: &[String]) -> Option<Command<'_>>
             n: number_in_word(n.as_str(), 1, GREATEST_LEVEL)?,
             seed: number_in_word(seed.as_str(), 0, GREATEST_SEED)?,
         }),
-        [word, grid, script, prefix, budget, spacing] => {
-            let is_prefix = 1 <= prefix.len() && prefix.len() <= LONGEST_PREFIX;
-            if !(word.as_str() == "mesh" && is_prefix) {
-                return None;
-            }
-            Some(Command::Mesh(MeshWords {
-                grid: grid.as_str(),
-                script: script.as_str(),
-                prefix: prefix.as_str(),
-                budget: number_in_word(budget.as_str(), LEAST_BUDGET, GREATEST_BUDGET)?,
-                spacing: number_in_word(spacing.as_str(), 1, GREATEST_SPACING)?,
-            }))
-        }
+        [word, grid, script, budget, spacing] if word.as_str() == "measure" => frames_in(
+            grid.as_str(),
+            script.as_str(),
+            Showing::Measures,
+            budget.as_str(),
+            spacing.as_str(),
+        ),
+        [word, grid, script, prefix, budget, spacing] => frames_in(
+            grid.as_str(),
+            script.as_str(),
+            showing_in(word.as_str(), prefix.as_str())?,
+            budget.as_str(),
+            spacing.as_str(),
+        ),
         _ => None,
     }
+}
+
+/// How meshes are shown by the command with this word, whose names begin with the prefix, or None of another word or of a
+/// prefix that is empty or too long.
+fn showing_in<'a>(word: &str, prefix: &'a str) -> Option<Showing<'a>>
+    ensures value { option_map show_seen result ≡ show_in word.now prefix.now }
+    ensures accepted { IfSome result IsShowing }
+{
+    if prefix.is_empty() || prefix.len() > LONGEST_PREFIX {
+        None
+    } else if word == "mesh" {
+        Some(Showing::Meshes(prefix))
+    } else if word == "strip" {
+        Some(Showing::Strips(prefix))
+    } else {
+        None
+    }
+}
+
+/// The frames of a script that are shown so, if budget and spacing are numbers within their bounds.
+fn frames_in<'a>(
+    grid: &'a str,
+    script: &'a str,
+    showing: Showing<'a>,
+    budget: &str,
+    spacing: &str,
+) -> Option<Command<'a>>
+    requires showing { IsShowing showing }
+    ensures value { option_map command_seen result ≡
+        frames_command grid.now script.now (show_seen showing.entry) (budget_word budget.now) (spacing_word spacing.now) }
+    ensures accepted { IfSome result IsAccepted }
+{
+    Some(Command::Frames(FrameWords {
+        grid,
+        script,
+        showing,
+        budget: number_in_word(budget, LEAST_BUDGET, GREATEST_BUDGET)?,
+        spacing: number_in_word(spacing, 1, GREATEST_SPACING)?,
+    }))
 }
 
 /// The number of a word of 1 to 19 digits, if it lies within these bounds.

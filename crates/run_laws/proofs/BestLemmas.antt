@@ -1,6 +1,5 @@
 -- The headline follows from what stands after each status.
-use Rattle.std.proofs.Common.{◌≡◌, ◌≢◌, ℕ, zero, suc, ◌≤◌, ◌⊎◌, IsTrue, List, [], ◌++◌, take, drop, Option, Some, Result, Ok, refl, sym, ◌∙◌, ap, subst, inl, inr, append_assoc, append-nil}
-use Rattle.std.proofs.lemmas.List.{take-append-drop}
+use Rattle.std.proofs.Common.{◌≡◌, ◌≢◌, ℕ, zero, suc, ◌≤◌, IsTrue, List, [], ◌++◌, Option, Some, Result, Ok, refl, sym, ◌∙◌, ap, subst, append_assoc, append-nil}
 use Rattle.std.proofs.lemmas.Option.{same_Some, none-some}
 use Rattle.mesh_defs.specs.HeightField.{HeightField}
 use Rattle.mesh_defs.specs.State.{State, start_state}
@@ -16,7 +15,7 @@ use Rattle.run_laws.specs.Words.{Scripted, Frames, Command, OnGrid}
 use Rattle.run_laws.specs.Act.{Act, Told, Stands}
 use Rattle.run_laws.specs.Picture.{Picture, ArePictures}
 use Rattle.run_laws.specs.Outcome.{Outcome, shown_acts, script_walk, IsScriptOutcome, IsGridOutcome, IsWordsOutcome, IsOutcome}
-use Rattle.run_laws.specs.Promise.{Seen, is_complete, ends_script, EndsRight, ScriptHasRead, FileReadFault, LeavesAtReadFault, AreFirstFrames, LeavesAtNoMemory}
+use Rattle.run_laws.specs.Promise.{Seen, is_complete, ends_script, EndsRight, ScriptHasRead, FileReadFault, LeavesAtReadFault, LeavesAtNoMemory}
 use Rattle.run_laws.specs.Headline.{IsRunOf, KeepsGoodMeshes}
 use Rattle.run_laws.specs.Laws.{AreStates, BudgetsAreTwo}
 use Rattle.run_laws.proofs.WalkLemmas.{walk_of-append, walk_of-grows}
@@ -96,24 +95,6 @@ module _ (best : FramesAreBest) (two : BudgetsAreTwo) (read_texts : TextsAreRead
       at-file status unfinished leaves.file
       (subst P (same-command leaves.command (OnGrid run.grid_name (Frames s)) (sym leaves.is_command ∙ run.is_command)) (leaves.at_file files told))
 
-  from-first : (status : Status) → (IsTrue (ends_script status) → ⊥) → (stood : List Act) → Stands before now stood
-      → ((stood ≡ []) ⊎ AreFirstFrames (OnGrid run.grid_name (Frames s)) files stood) → Keeps status
-  from-first status unfinished stood stands (inl none) =
-      let P : List Act → Type 0 = λ l. Stands before now l in
-      nothing status unfinished (subst P none stands)
-  from-first status unfinished stood stands (inr firsts) =
-      let P : HeightField → Type 0 = λ g. ArePictures s.show [] (take firsts.2 (script_walk s g script).frames) firsts.1 in
-      let Q : List Act → Type 0 = λ l. Stands before now l in
-      let frames : List State = (script_walk s grid script).frames in
-      first status unfinished (take firsts.2 frames) (drop firsts.2 frames) firsts.1 (sym (take-append-drop firsts.2 frames))
-      (subst P (same-grid (grid_of (bytes_of files run.grid_name)) firsts.0 grid firsts.3 read-grid) firsts.4) (subst Q firsts.5 stands)
-
-  from-no-memory : (status : Status) → (IsTrue (ends_script status) → ⊥) → LeavesAtNoMemory before now old new words → Keeps status
-  from-no-memory status unfinished leaves =
-      let P : Command → Type 0 = λ c. (leaves.stood ≡ []) ⊎ AreFirstFrames c files leaves.stood in
-      from-first status unfinished leaves.stood leaves.stands
-      (subst P (same-command leaves.command (OnGrid run.grid_name (Frames s)) (sym leaves.is_command ∙ run.is_command)) (leaves.early.frames files told))
-
   complete : (status : Status) → IsTrue (is_complete status) → status ≢ NoMemory → status ≢ ReadFault → EndsRight before now old new words files status → Keeps status
   complete status done m r ends =
       let e = ends.ends m r in
@@ -123,7 +104,7 @@ module _ (best : FramesAreBest) (two : BudgetsAreTwo) (read_texts : TextsAreRead
   pub run-keeps : (status : Status) → EndsRight before now old new words files status → (status ≡ ReadFault → LeavesAtReadFault before now old new words)
       → (status ≡ NoMemory → LeavesAtNoMemory before now old new words) → Keeps status
   run-keeps Done ends read memory = complete Done refl (λ e. cc) (λ e. cc) ends
-  run-keeps NoMemory ends read memory = from-no-memory NoMemory (λ e. cc) (memory refl)
+  run-keeps NoMemory ends read memory = nothing NoMemory (λ e. cc) (memory refl).stands
   run-keeps Usage ends read memory = complete Usage refl (λ e. cc) (λ e. cc) ends
   run-keeps GridRefused ends read memory = complete GridRefused refl (λ e. cc) (λ e. cc) ends
   run-keeps ScriptRefused ends read memory = complete ScriptRefused refl (λ e. cc) (λ e. cc) ends

@@ -1,5 +1,5 @@
 -- The headline follows from what stands: each finished mesh is that of a frame line, in order, and is good.
-use Rattle.std.proofs.Common.{◌≡◌, ℕ, ◌+◌, ◌≤◌, true, IsTrue, List, [], ◌∷◌, ◌++◌, length, Option, Some, None, IsSome, refl, sym, ◌∙◌, ap, subst, arith, inl, inr, append-nil}
+use Rattle.std.proofs.Common.{◌≡◌, ℕ, suc, ◌+◌, ◌≤◌, Bool, true, IsTrue, List, [], ◌∷◌, ◌++◌, length, Option, Some, None, IsSome, refl, sym, ◌∙◌, ap, subst, arith, inl, inr, append-nil}
 use Rattle.std.specs.List.{AllByRecursion}
 use Rattle.std.proofs.lemmas.List.Elements.{All-from_recursion}
 use Rattle.mesh_defs.specs.BestMesh.{IsBestMesh}
@@ -7,69 +7,134 @@ use Rattle.mesh_defs.specs.ClosedSet.{among, leaves_of}
 use Rattle.mesh_defs.specs.HeightField.{HeightField}
 use Rattle.mesh_defs.specs.State.{State, priority_in, text_in}
 use Rattle.closure_laws.specs.Frame.{IsFrame}
+use Rattle.strip_laws.specs.Strip.{strip_of}
+use Rattle.strip_laws.proofs.OrderLemmas.{AreLeaves-strip_of, once-strip_of}
+use Rattle.strip_laws.proofs.StripLemmas.{IsRing-strip_of}
+use Rattle.least_laws.specs.Least.{IsLeastMesh}
 use Rattle.bintree_addr.specs.declared.blocked.Blocked.{Blocked}
 use Rattle.roam_edge.specs.MeshSink.{Mesh}
 use Rattle.obj_write.specs.Written.{mesh_with, IsPartOfMesh}
 use Rattle.run_laws.specs.declared.status.Status.{Status}
 use Rattle.run_laws.specs.Walk.{Refusal}
-use Rattle.run_laws.specs.Words.{Show, AsMeshes, AsSums, Scripted, prefix_of}
+use Rattle.run_laws.specs.Words.{Show, AsMeshes, AsStrips, AsLeast, AsMeasures, AsSums, Scripted, prefix_of}
 use Rattle.run_laws.specs.Act.{Act, WholeMesh, ReportText, meshes_of, Told, Stands, StandsInPart, IsCutShort}
-use Rattle.run_laws.specs.Picture.{Picture, triangles_of, IsPicture, ArePictures}
-use Rattle.run_laws.specs.Outcome.{Outcome, shown_acts, sum_acts, stop_acts, script_walk, IsScriptOutcome}
+use Rattle.run_laws.specs.Picture.{Picture, triangles_of, strip_triangles, IsLeastFrame, IsPicture, ArePictures}
+use Rattle.run_laws.specs.Outcome.{Outcome, picture_acts, shown_acts, sum_acts, stop_acts, script_walk, IsScriptOutcome}
 use Rattle.run_laws.specs.Promise.{ends_script}
 use Rattle.run_laws.specs.Headline.{IsGoodFrame, AreGoodFrames, KeepsGoodMeshes}
 use Rattle.run_laws.specs.Laws.{AreStates, BudgetsAreTwo}
 use Rattle.run_laws.proofs.ActLemmas.{meshes_of-append}
 use Rattle.run_laws.proofs.OutcomeLemmas.{script-states}
 
--- The frame of a state is a best mesh of it.
-abbrev pub FramesAreBest : Type 0
-FramesAreBest = (state : State) (members : List ℕ) (worst : ℕ) (blocked : Option Blocked) → 2 ≤ state.budget
+-- The frame of a budget is a best mesh of its state, and the frame of a tolerance the least mesh of it.
+abbrev pub BudgetFramesAreBest : Type 0
+BudgetFramesAreBest = (state : State) (members : List ℕ) (worst : ℕ) (blocked : Option Blocked) → 2 ≤ state.budget
     → IsFrame state.grid.n state.budget (priority_in state) (among members) worst blocked
     → IsBestMesh state.grid.n state.budget (priority_in state) (leaves_of state.grid.n (among members))
 
+abbrev pub LeastFramesAreLeast : Type 0
+LeastFramesAreLeast = (tolerance : ℕ) (state : State) (members : List ℕ) (worst : ℕ) (blocked : Option Blocked)
+    → IsLeastFrame state.grid.n tolerance (priority_in state) (among members) worst blocked
+    → IsLeastMesh state.grid.n tolerance (priority_in state) (leaves_of state.grid.n (among members))
+
+pub record FramesAreBest : Type 0 where
+  pub of_budget : BudgetFramesAreBest
+  pub of_tolerance : LeastFramesAreLeast
+
 -- the mesh of a picture is good
-picture-good : FramesAreBest → (prefix before : List ℕ) (k : ℕ) (state : State) (p : Picture) → 2 ≤ state.budget → IsPicture (AsMeshes prefix) before state p
+mesh-good : FramesAreBest → (prefix before : List ℕ) (k : ℕ) (state : State) (p : Picture) → 2 ≤ state.budget → IsPicture (AsMeshes prefix) before state p
     → IsGoodFrame (AsMeshes prefix) k state (mesh_with prefix k (text_in p.state (triangles_of p)) true)
-picture-good best prefix before k state p low f =
+mesh-good best prefix before k state p low f =
     record {
       named = refl;
       numbered = refl;
       text = (
         leaves_of state.grid.n (among p.members),
-        best state p.members p.worst p.blocked low f.frame,
+        best.of_budget state p.members p.worst p.blocked low f.frame,
         ap (λ (s : State). text_in s (leaves_of s.grid.n (among p.members))) f.of_state,
       );
     }
 
--- sums add no mesh
-no-meshes : (level seed k : ℕ) (ps : List Picture) → meshes_of (shown_acts (AsSums level seed) k ps) ≡ []
-no-meshes level seed k [] = refl
-no-meshes level seed k (p ∷ ps) = no-meshes level seed (k + 1) ps
+-- so is the strip of it
+strip-good : FramesAreBest → (prefix before : List ℕ) (k : ℕ) (state : State) (p : Picture) → 2 ≤ state.budget → IsPicture (AsStrips prefix) before state p
+    → IsGoodFrame (AsStrips prefix) k state (mesh_with prefix k (text_in p.state (strip_triangles p)) true)
+strip-good best prefix before k state p low f =
+    let n : ℕ = state.grid.n in
+    let has : ℕ → Bool = among p.members in
+    record {
+      named = refl;
+      numbered = refl;
+      text = (
+        strip_of n has,
+        record {
+          has = has;
+          best = best.of_budget state p.members p.worst p.blocked low f.frame;
+          strip = refl;
+          leaves = AreLeaves-strip_of n has;
+          once = λ a. once-strip_of n a has;
+          ring = IsRing-strip_of n has f.frame.closure.closure.closed;
+        },
+        ap (λ (s : State). text_in s (strip_of s.grid.n has)) f.of_state,
+      );
+    }
 
-not-some : IsSome (prefix_of (AsSums 0 0)) → ⊥
-not-some is = cc
+-- and the mesh of a tolerance
+least-good : FramesAreBest → (prefix before : List ℕ) (tolerance k : ℕ) (state : State) (p : Picture) → IsPicture (AsLeast prefix tolerance) before state p
+    → IsGoodFrame (AsLeast prefix tolerance) k state (mesh_with prefix k (text_in p.state (triangles_of p)) true)
+least-good best prefix before tolerance k state p f =
+    record {
+      named = refl;
+      numbered = refl;
+      text = (
+        leaves_of state.grid.n (among p.members),
+        best.of_tolerance tolerance state p.members p.worst p.blocked f.frame,
+        ap (λ (s : State). text_in s (leaves_of s.grid.n (among p.members))) f.of_state,
+      );
+    }
+
+no-measures : IsSome (prefix_of AsMeasures) → ⊥
+no-measures is = cc
+
+no-sums : (n seed : ℕ) → IsSome (prefix_of (AsSums n seed)) → ⊥
+no-sums n seed is = cc
+
+-- a picture adds a good mesh
+one-good : FramesAreBest → (show : Show) (k : ℕ) (before : List ℕ) (state : State) (states : List State) (p : Picture) (acts : List Act) → IsSome (prefix_of show)
+    → 2 ≤ state.budget → IsPicture show before state p → AreGoodFrames show (k + 1) states (meshes_of acts)
+    → AreGoodFrames show k (state ∷ states) (meshes_of (picture_acts show k p ++ acts))
+one-good best (AsMeshes prefix) k before state states p acts some low f rest = ((λ finished. mesh-good best prefix before k state p low f), rest)
+one-good best (AsStrips prefix) k before state states p acts some low f rest = ((λ finished. strip-good best prefix before k state p low f), rest)
+one-good best (AsLeast prefix tolerance) k before state states p acts some low f rest =
+    ((λ finished. least-good best prefix before tolerance k state p f), rest)
+one-good best AsMeasures k before state states p acts some low f rest = absurd (no-measures some)
+one-good best (AsSums n seed) k before state states p acts some low f rest = absurd (no-sums n seed some)
 
 -- the meshes of frames are good
-good-meshes : FramesAreBest → (show : Show) (k n : ℕ) (before : List ℕ) (states : List State) (ps : List Picture) → AreStates n states
+good-meshes : FramesAreBest → (show : Show) (k n : ℕ) (before : List ℕ) (states : List State) (ps : List Picture) → IsSome (prefix_of show) → AreStates n states
     → ArePictures show before states ps → AreGoodFrames show k states (meshes_of (shown_acts show k ps))
-good-meshes best (AsMeshes prefix) k n before [] [] low f = tt
-good-meshes best (AsMeshes prefix) k n before [] (p ∷ ps) low f = absurd f
-good-meshes best (AsMeshes prefix) k n before (s ∷ states) [] low f = absurd f
-good-meshes best (AsMeshes prefix) k n before (s ∷ states) (p ∷ ps) low f =
-    ((λ finished. picture-good best prefix before k s p low.1 f.0), good-meshes best (AsMeshes prefix) (k + 1) n p.members states ps low.2 f.1)
-good-meshes best (AsSums level seed) k n before states ps low f =
-    let P : List Mesh → Type 0 = λ m. AreGoodFrames (AsSums level seed) k states m in
-    subst P (sym (no-meshes level seed k ps)) tt
+good-meshes best show k n before [] [] some low f = tt
+good-meshes best show k n before [] (p ∷ ps) some low f = absurd f
+good-meshes best show k n before (s ∷ states) [] some low f = absurd f
+good-meshes best show k n before (s ∷ states) (p ∷ ps) some low f =
+    one-good best show k before s states p (shown_acts show (k + 1) ps) some low.1 f.0 (good-meshes best show (k + 1) n p.members states ps some low.2 f.1)
+
+-- a picture adds one mesh
+one-count : (show : Show) (k : ℕ) (p : Picture) (acts : List Act) → IsSome (prefix_of show)
+    → length (meshes_of (picture_acts show k p ++ acts)) ≡ suc (length (meshes_of acts))
+one-count (AsMeshes prefix) k p acts some = refl
+one-count (AsStrips prefix) k p acts some = refl
+one-count (AsLeast prefix tolerance) k p acts some = refl
+one-count AsMeasures k p acts some = absurd (no-measures some)
+one-count (AsSums n seed) k p acts some = absurd (no-sums n seed some)
 
 -- one mesh a frame
 count-meshes : (show : Show) (k : ℕ) (before : List ℕ) (states : List State) (ps : List Picture) → IsSome (prefix_of show)
     → ArePictures show before states ps → length (meshes_of (shown_acts show k ps)) ≡ length states
-count-meshes (AsMeshes prefix) k before [] [] some f = refl
-count-meshes (AsMeshes prefix) k before [] (p ∷ ps) some f = absurd f
-count-meshes (AsMeshes prefix) k before (s ∷ states) [] some f = absurd f
-count-meshes (AsMeshes prefix) k before (s ∷ states) (p ∷ ps) some f = omega (arith, count-meshes (AsMeshes prefix) (k + 1) p.members states ps some f.1)
-count-meshes (AsSums level seed) k before states ps some f = absurd (not-some some)
+count-meshes show k before [] [] some f = refl
+count-meshes show k before [] (p ∷ ps) some f = absurd f
+count-meshes show k before (s ∷ states) [] some f = absurd f
+count-meshes show k before (s ∷ states) (p ∷ ps) some f =
+    one-count show k p (shown_acts show (k + 1) ps) some ∙ ap suc (count-meshes show (k + 1) p.members states ps some f.1)
 
 -- all are finished
 finished-meshes : (acts : List Act) → AllByRecursion (λ (mesh : Mesh). mesh.finished ≡ true) (meshes_of acts)
@@ -84,6 +149,9 @@ no-mesh-stop (Some refusal) = refl
 -- what follows the frames adds no mesh
 no-mesh-sum : (show : Show) (ps : List Picture) (stop : Option Refusal) → meshes_of (sum_acts show ps ++ stop_acts stop) ≡ []
 no-mesh-sum (AsMeshes prefix) ps stop = no-mesh-stop stop
+no-mesh-sum (AsStrips prefix) ps stop = no-mesh-stop stop
+no-mesh-sum (AsLeast prefix tolerance) ps stop = no-mesh-stop stop
+no-mesh-sum AsMeasures ps stop = no-mesh-stop stop
 no-mesh-sum (AsSums level seed) ps stop = no-mesh-stop stop
 
 outcome-meshes : (show : Show) (ps : List Picture) (stop : Option Refusal)
@@ -130,7 +198,7 @@ module _ (best : FramesAreBest) (two : BudgetsAreTwo) (s : Scripted) (grid : Hei
       record {
         added = meshes_of (shown_acts s.show 1 ps);
         behind = stands.meshes_grow all there ∙ ap (λ (l : List Mesh). Some (all ++ l)) same;
-        frames = good-meshes best s.show 1 grid.n [] (script_walk s grid script).frames ps (script-states two s grid script low) is.1;
+        frames = good-meshes best s.show 1 grid.n [] (script_walk s grid script).frames ps some (script-states two s grid script low) is.1;
         all_frames = λ ends. count-meshes s.show 1 [] (script_walk s grid script).frames ps some is.1;
         all_finished = λ ends. All-from_recursion (λ (mesh : Mesh). mesh.finished ≡ true) (meshes_of (shown_acts s.show 1 ps)) (finished-meshes (shown_acts s.show 1 ps));
       }
@@ -144,7 +212,7 @@ module _ (best : FramesAreBest) (two : BudgetsAreTwo) (s : Scripted) (grid : Hei
       added = meshes_of (shown_acts s.show 1 ps);
       behind = stands.meshes_grow all there;
       frames = (let P : List State → Type 0 = λ l. AreGoodFrames s.show 1 l (meshes_of (shown_acts s.show 1 ps)) in
-          subst P (sym cut) (frames-more s.show 1 firsts more (meshes_of (shown_acts s.show 1 ps)) (good-meshes best s.show 1 grid.n [] firsts ps are shown)));
+          subst P (sym cut) (frames-more s.show 1 firsts more (meshes_of (shown_acts s.show 1 ps)) (good-meshes best s.show 1 grid.n [] firsts ps some are shown)));
       all_frames = λ ends. absurd (unfinished ends);
       all_finished = λ ends. absurd (unfinished ends);
     }
@@ -172,7 +240,7 @@ module _ (best : FramesAreBest) (two : BudgetsAreTwo) (s : Scripted) (grid : Hei
     pub cut-keeps : (end : Outcome) → IsScriptOutcome s grid script end → IsCutShort before now end.acts → KeepsGoodMeshes s grid script all now.meshes status
     cut-keeps end is cut =
         let ps : List Picture = is.0 in
-        let good = good-meshes best s.show 1 grid.n [] (script_walk s grid script).frames ps (script-states two s grid script low) is.1 in
+        let good = good-meshes best s.show 1 grid.n [] (script_walk s grid script).frames ps some (script-states two s grid script low) is.1 in
         let same : meshes_of (shown_acts s.show 1 ps) ≡ meshes_of cut.done ++ meshes_of (cut.next ∷ cut.owed) =
         sym (ap (λ (o : Outcome). meshes_of o.acts) is.2 ∙ outcome-meshes s.show ps (script_walk s grid script).stop)
         ∙ (ap meshes_of cut.in_order ∙ meshes_of-append cut.done (cut.next ∷ cut.owed)) in

@@ -1,3 +1,5 @@
+pub mod TurnLemmas
+pub mod OrderLemmas
 pub mod ActLemmas
 pub mod LineLemmas
 pub mod WalkLemmas
@@ -6,3 +8,4 @@ pub mod OutcomeLemmas
 pub mod HeadlineLemmas
 pub mod StepLemmas
 pub mod BestLemmas
+pub mod CutShortLemmas

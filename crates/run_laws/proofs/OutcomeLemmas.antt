@@ -1,5 +1,5 @@
 -- Outcomes: there is one, it exists, what is accepted ends with Done, and its pictures are certified.
-use Rattle.std.proofs.Common.{◌≡◌, ℕ, ◌≤◌, ◌&&◌, Bool, true, false, nat_le, if◌then◌else◌, IsTrue, is_some, List, [], ◌∷◌, All, Option, Some, None, IfSome, Result, Ok, Err, refl, sym, ◌∙◌, ap, subst, arith, inl, inr, codes, bytes_eq}
+use Rattle.std.proofs.Common.{◌≡◌, ℕ, ◌≤◌, ◌&&◌, Bool, true, false, nat_le, if◌then◌else◌, ◌⊎◌, IsTrue, is_some, List, [], ◌∷◌, All, Option, Some, None, IfSome, Result, Ok, Err, refl, sym, ◌∙◌, ap, subst, arith, inl, inr, codes, bytes_eq, length}
 use Rattle.std.specs.List.{AllByRecursion}
 use Rattle.std.proofs.lemmas.List.Elements.{All-from_recursion}
 use Rattle.std.proofs.lemmas.Bool.Decides.{leb_tells}
@@ -14,13 +14,13 @@ use Rattle.pgm_grid.specs.Laws.{TextsAreRead}
 use Rattle.roam_gen.specs.Generated.{made_grid, made_lines}
 use Rattle.run_laws.specs.declared.status.Status.TheVariants.{Done, Usage, GridRefused}
 use Rattle.run_laws.specs.Walk.{Walk, start_walk}
-use Rattle.run_laws.specs.Words.{Show, AsMeshes, AsSums, Scripted, Job, Frames, Facts, Command, OnGrid, Generated, greatest_level, greatest_seed, number_word, try_command, within, budget_word, spacing_word, is_prefix, frames_command, meshes_command, command_of}
+use Rattle.run_laws.specs.Words.{Show, AsMeshes, AsStrips, AsLeast, AsMeasures, AsSums, is_of_engine, Scripted, Job, Frames, Facts, Command, OnGrid, Generated, greatest_level, greatest_seed, number_word, try_command, within, budget_word, spacing_word, is_prefix, frames_command, meshes_command, command_of}
 use Rattle.run_laws.specs.Picture.{Picture, ArePictures, IsCertified}
 use Rattle.run_laws.specs.ReportText.{info_line, grid_refusal}
-use Rattle.run_laws.specs.Outcome.{Outcome, plain_outcome, text_outcome, stop_status, frames_outcome, script_walk, made_budget, made_spacing, made_walk, HasOneOutcome, IsFramesOutcome, IsScriptOutcome, IsJobOutcome, IsGridOutcome, IsCommandOutcome, IsWordsOutcome, IsOutcome}
+use Rattle.run_laws.specs.Outcome.{Outcome, plain_outcome, text_outcome, stop_status, engine_for, frames_outcome, script_walk, made_budget, made_spacing, made_walk, HasOneOutcome, IsFramesOutcome, IsScriptOutcome, IsJobOutcome, IsGridOutcome, IsCommandOutcome, IsWordsOutcome, IsOutcome}
 use Rattle.run_laws.specs.Promise.{IsAcceptedJob, IsAcceptedInput, IsAccepted}
-use Rattle.run_laws.specs.Laws.{FramesExist, AreStates, BudgetsAreTwo}
-use Rattle.run_laws.proofs.PictureLemmas.{FramesAreUnique, SetsAreLists, ArePictures-unique, pictures_of}
+use Rattle.run_laws.specs.Laws.{FramesExist, RunsAreUnique, LevelsAreInRange, AreStates, BudgetsAreTwo}
+use Rattle.run_laws.proofs.PictureLemmas.{FramesAreUnique, SetsAreLists, ArePictures-unique, pictures_of, no-members}
 use Rattle.run_laws.proofs.WalkLemmas.{walk_of-states, made-states, along-stop}
 
 -- what is accepted ends with Done
@@ -47,35 +47,40 @@ outcome-done read words files end good is =
 
 -- there is one outcome
 
-pub frames_outcome-unique : FramesAreUnique → SetsAreLists → (show : Show) (files : ℕ) (walk : Walk) (end other : Outcome)
+pub frames_outcome-unique : FramesAreUnique → SetsAreLists → RunsAreUnique → (show : Show) (files : ℕ) (walk : Walk) (end other : Outcome)
     → IsFramesOutcome show files walk end → IsFramesOutcome show files walk other → end ≡ other
-frames_outcome-unique one lists show files walk end other f g =
-    f.2 ∙ (ap (λ (ps : List Picture). frames_outcome show files walk ps) (ArePictures-unique one lists show [] walk.frames f.0 g.0 f.1 g.1) ∙ sym g.2)
+frames_outcome-unique one lists runs show files walk end other f g =
+    f.2 ∙ (ap (λ (ps : List Picture). frames_outcome show files walk ps) (ArePictures-unique one lists runs show [] walk.frames f.0 g.0 f.1 g.1) ∙ sym g.2)
 
-job-unique : FramesAreUnique → SetsAreLists → (job : Job) (r : Result HeightField PgmFault) (files : List NamedFile) (end other : Outcome)
+job-unique : FramesAreUnique → SetsAreLists → RunsAreUnique → (job : Job) (r : Result HeightField PgmFault) (files : List NamedFile) (end other : Outcome)
     → IsGridOutcome job r files end → IsGridOutcome job r files other → end ≡ other
-job-unique one lists (Frames s) (Ok grid) files end other f g = frames_outcome-unique one lists s.show 2 (script_walk s grid (bytes_of files s.script)) end other f g
-job-unique one lists Facts (Ok grid) files end other f g = f ∙ sym g
-job-unique one lists (Frames s) (Err fault) files end other f g = f ∙ sym g
-job-unique one lists Facts (Err fault) files end other f g = f ∙ sym g
+job-unique one lists runs (Frames s) (Ok grid) files end other f g = frames_outcome-unique one lists runs s.show 2 (script_walk s grid (bytes_of files s.script)) end other f g
+job-unique one lists runs Facts (Ok grid) files end other f g = f ∙ sym g
+job-unique one lists runs (Frames s) (Err fault) files end other f g = f ∙ sym g
+job-unique one lists runs Facts (Err fault) files end other f g = f ∙ sym g
 
-words-unique : FramesAreUnique → SetsAreLists → (command : Option Command) (files : List NamedFile) (end other : Outcome)
+words-unique : FramesAreUnique → SetsAreLists → RunsAreUnique → (command : Option Command) (files : List NamedFile) (end other : Outcome)
     → IsWordsOutcome command files end → IsWordsOutcome command files other → end ≡ other
-words-unique one lists None files end other f g = f ∙ sym g
-words-unique one lists (Some (OnGrid name job)) files end other f g = job-unique one lists job (grid_of (bytes_of files name)) files end other f g
-words-unique one lists (Some (Generated n seed)) files end other f g = frames_outcome-unique one lists (AsSums n seed) 0 (made_walk n seed) end other f g
+words-unique one lists runs None files end other f g = f ∙ sym g
+words-unique one lists runs (Some (OnGrid name job)) files end other f g = job-unique one lists runs job (grid_of (bytes_of files name)) files end other f g
+words-unique one lists runs (Some (Generated n seed)) files end other f g = frames_outcome-unique one lists runs (AsSums n seed) 0 (made_walk n seed) end other f g
 
-pub outcome-unique : FramesAreUnique → SetsAreLists → (words : List (List ℕ)) (files : List NamedFile) (end other : Outcome) → HasOneOutcome (command_of words)
+pub outcome-unique : FramesAreUnique → SetsAreLists → RunsAreUnique → (words : List (List ℕ)) (files : List NamedFile) (end other : Outcome) → HasOneOutcome (command_of words)
     → IsOutcome words files end → IsOutcome words files other → end ≡ other
 unfolding IsOutcome
-outcome-unique one lists words files end other free f g = words-unique one lists (command_of words) files end other f g
+outcome-unique one lists runs words files end other free f g = words-unique one lists runs (command_of words) files end other f g
 
--- the budget of a command is at least 2
+-- the budget of a command is at least 2, and a generated grid has a level
 
 -- a value that stands behind a test, which was met
 met : {A : Type 0} (test : Bool) (there : Option A) (found : A) → (if test then there else None) ≡ Some found → there ≡ Some found
 met true there found is = is
 met false there found is = absurd (none-some found is)
+
+-- a value that stands behind a test, or in its other branch
+either : {A : Type 0} (test : Bool) (there other : Option A) (found : A) → (if test then there else other) ≡ Some found → (there ≡ Some found) ⊎ (other ≡ Some found)
+either true there other found is = inl is
+either false there other found is = inr is
 
 -- a number within bounds is at least the lower one
 within-low : (low high number : ℕ) (from : Option ℕ) → within low high from ≡ Some number → low ≤ number
@@ -88,6 +93,26 @@ within-low low high number (Some found) is =
       | inr p ↦ absurd (none-some number (subst Q p.0 is))
     ]
 
+-- a choice of none
+no-second : (first : Bool) (found number : ℕ) → (if first && false then Some found else None) ≡ Some number → (if first then None else None) ≡ Some number
+no-second true found number is = is
+no-second false found number is = is
+
+-- and at most the greater one
+within-range : (low high number : ℕ) (from : Option ℕ) → within low high from ≡ Some number → (low ≤ number) × (number ≤ high)
+within-range low high number None is = absurd (none-some number is)
+within-range low high number (Some found) is =
+    let P : Option ℕ → Type 0 = λ o. IfSome o (λ k. (low ≤ k) × (k ≤ high)) in
+    let Q : Bool → Type 0 = λ b. (if b && nat_le found high then Some found else None) ≡ Some number in
+    let R : Bool → Type 0 = λ b. (if nat_le low found && b then Some found else None) ≡ Some number in
+    elim (leb_tells low found) [
+      | inl p ↦ elim (leb_tells found high) [
+        | inl q ↦ subst P (met (nat_le low found && nat_le found high) (Some found) number is) (p.1, q.1)
+        | inr q ↦ absurd (none-some number (met (nat_le low found) None number (no-second (nat_le low found) found number (subst R q.0 is))))
+      ]
+      | inr p ↦ absurd (none-some number (subst Q p.0 is))
+    ]
+
 -- of a job, that a budget is at least 2
 abbrev pub HasBudget : Job → Type 0
 HasBudget (Frames s) = 2 ≤ s.budget
@@ -95,7 +120,7 @@ HasBudget Facts = Unit {0}
 
 abbrev CommandHasBudget : Command → Type 0
 CommandHasBudget (OnGrid name job) = HasBudget job
-CommandHasBudget (Generated n seed) = Unit {0}
+CommandHasBudget (Generated n seed) = (1 ≤ n) × (n ≤ 11)
 
 frames_command-budget : (i j : List ℕ) (show : Show) (budget spacing : Option ℕ) (command : Command) → ((number : ℕ) → budget ≡ Some number → 2 ≤ number)
     → frames_command i j show budget spacing ≡ Some command → CommandHasBudget command
@@ -105,12 +130,27 @@ frames_command-budget i j show (Some budget) (Some spacing) command low is =
     let P : Option Command → Type 0 = λ c. IfSome c CommandHasBudget in
     subst P is (low budget refl)
 
-try_command-budget : (n seed : Option ℕ) (command : Command) → try_command n seed ≡ Some command → CommandHasBudget command
-try_command-budget None seed command is = absurd (none-some command is)
-try_command-budget (Some n) None command is = absurd (none-some command is)
-try_command-budget (Some n) (Some seed) command is =
+-- a word's budget is at least 2
+budget_word-low : (word : List ℕ) (number : ℕ) → budget_word word ≡ Some number → 2 ≤ number
+budget_word-low word number found = within-low 2 1048576 number (number_in 19 word) found
+
+meshes_command-budget : (word i j k l m : List ℕ) (command : Command) → meshes_command word i j k l m ≡ Some command → CommandHasBudget command
+meshes_command-budget word i j k l m command is =
+    let strip : Option Command = frames_command i j (AsStrips k) (budget_word l) (spacing_word m) in
+    elim (either (bytes_eq word (codes "mesh")) (frames_command i j (AsMeshes k) (budget_word l) (spacing_word m))
+    (if bytes_eq word (codes "strip") then strip else None) command is) [
+      | inl p ↦ frames_command-budget i j (AsMeshes k) (budget_word l) (spacing_word m) command (budget_word-low l) p
+      | inr p ↦ frames_command-budget i j (AsStrips k) (budget_word l) (spacing_word m) command (budget_word-low l)
+          (met (bytes_eq word (codes "strip")) strip command p)
+    ]
+
+try_command-budget : (n seed : Option ℕ) (command : Command) → ((number : ℕ) → n ≡ Some number → (1 ≤ number) × (number ≤ 11))
+    → try_command n seed ≡ Some command → CommandHasBudget command
+try_command-budget None seed command range is = absurd (none-some command is)
+try_command-budget (Some n) None command range is = absurd (none-some command is)
+try_command-budget (Some n) (Some seed) command range is =
     let P : Option Command → Type 0 = λ c. IfSome c CommandHasBudget in
-    subst P is tt
+    subst P is (range n refl)
 
 words-budget : (words : List (List ℕ)) (command : Command) → command_of words ≡ Some command → CommandHasBudget command
 words-budget [] command is = absurd (none-some command is)
@@ -121,14 +161,13 @@ words-budget (word ∷ (i ∷ [])) command is =
 words-budget (word ∷ (i ∷ (j ∷ []))) command is =
     let n : Option ℕ = number_word 1 greatest_level i in
     let seed : Option ℕ = number_word 0 greatest_seed j in
-    try_command-budget n seed command (met (bytes_eq word (codes "try")) (try_command n seed) command is)
+    try_command-budget n seed command (λ number found. within-range 1 greatest_level number (number_in 19 i) found) (met (bytes_eq word (codes "try")) (try_command n seed) command is)
 words-budget (word ∷ (i ∷ (j ∷ (k ∷ [])))) command is = absurd (none-some command is)
-words-budget (word ∷ (i ∷ (j ∷ (k ∷ (l ∷ []))))) command is = absurd (none-some command is)
+words-budget (word ∷ (i ∷ (j ∷ (k ∷ (l ∷ []))))) command is =
+    frames_command-budget i j AsMeasures (budget_word k) (spacing_word l) command (budget_word-low k)
+    (met (bytes_eq word (codes "measure")) (frames_command i j AsMeasures (budget_word k) (spacing_word l)) command is)
 words-budget (word ∷ (i ∷ (j ∷ (k ∷ (l ∷ (m ∷ [])))))) command is =
-    frames_command-budget i j (AsMeshes k) (budget_word l) (spacing_word m) command
-    (λ number found. within-low 2 1048576 number (number_in 19 l) found)
-    (met (bytes_eq word (codes "mesh")) (frames_command i j (AsMeshes k) (budget_word l) (spacing_word m)) command
-    (met (is_prefix k) (meshes_command word i j k l m) command is))
+    meshes_command-budget word i j k l m command (met (is_prefix k) (meshes_command word i j k l m) command is)
 words-budget (word ∷ (i ∷ (j ∷ (k ∷ (l ∷ (m ∷ (more ∷ words))))))) command is = absurd (none-some command is)
 
 -- the budget of a job of words is at least 2
@@ -141,6 +180,16 @@ pub script-states : BudgetsAreTwo → (s : Scripted) (grid : HeightField) (scrip
 script-states two s grid script low =
     (walk_of-states two grid.n (start_walk s.budget (start_state grid s.spacing s.budget)) script (record { level = refl; low = low; frames = tt })).frames
 
+-- a generated script has 105 lines
+pub lines-count : (n seed : ℕ) → length (made_lines n seed) ≡ 105
+unfolding made_lines
+lines-count n seed = refl
+
+-- the level of a generated grid
+pub made_level : (n seed : ℕ) → (made_grid n seed).n ≡ n
+unfolding made_grid
+made_level n seed = refl
+
 -- the walk of a generated run
 made_walk-states : (n seed : ℕ) → AreStates (made_grid n seed).n (made_walk n seed).frames
 made_walk-states n seed =
@@ -150,51 +199,63 @@ made_walk-states n seed =
 
 -- an outcome exists
 
-pub script_outcome-exists : BudgetsAreTwo → FramesExist → (s : Scripted) (grid : HeightField) (script : List ℕ) → 2 ≤ s.budget
+pub script_outcome-exists : BudgetsAreTwo → FramesExist → (s : Scripted) (grid : HeightField) (script : List ℕ) → 2 ≤ s.budget → (1 ≤ grid.n) × (grid.n ≤ 11)
     → (end : Outcome) × IsScriptOutcome s grid script end
-script_outcome-exists two frames s grid script low =
-    let ps = pictures_of frames s.show grid.n [] (script_walk s grid script).frames (script-states two s grid script low) in
+script_outcome-exists two frames s grid script low range =
+    let ps = pictures_of frames s.show grid.n [] (script_walk s grid script).frames (no-members grid.n range) (script-states two s grid script low) in
     (frames_outcome s.show 2 (script_walk s grid script) ps.0, (ps.0, ps.1, refl))
 
-pub made_outcome-exists : FramesExist → (n seed : ℕ) → (end : Outcome) × IsFramesOutcome (AsSums n seed) 0 (made_walk n seed) end
-made_outcome-exists frames n seed =
-    let ps = pictures_of frames (AsSums n seed) (made_grid n seed).n [] (made_walk n seed).frames (made_walk-states n seed) in
+pub made_outcome-exists : FramesExist → (n seed : ℕ) → (1 ≤ n) × (n ≤ 11) → (end : Outcome) × IsFramesOutcome (AsSums n seed) 0 (made_walk n seed) end
+made_outcome-exists frames n seed range =
+    let P : ℕ → Type 0 = λ k. (1 ≤ k) × (k ≤ 11) in
+    let grid : HeightField = made_grid n seed in
+    let ps = pictures_of frames (AsSums n seed) grid.n [] (made_walk n seed).frames (no-members grid.n (subst P (sym (made_level n seed)) range)) (made_walk-states n seed) in
     (frames_outcome (AsSums n seed) 0 (made_walk n seed) ps.0, (ps.0, ps.1, refl))
 
 job-exists : BudgetsAreTwo → FramesExist → (job : Job) (r : Result HeightField PgmFault) (files : List NamedFile) → HasBudget job
-    → (end : Outcome) × IsGridOutcome job r files end
-job-exists two frames (Frames s) (Ok grid) files low = script_outcome-exists two frames s grid (bytes_of files s.script) low
-job-exists two frames Facts (Ok grid) files low = (text_outcome (info_line grid) Done 1, refl)
-job-exists two frames (Frames s) (Err fault) files low = (text_outcome (grid_refusal fault) GridRefused 1, refl)
-job-exists two frames Facts (Err fault) files low = (text_outcome (grid_refusal fault) GridRefused 1, refl)
+    → ((grid : HeightField) → r ≡ Ok grid → (1 ≤ grid.n) × (grid.n ≤ 11)) → (end : Outcome) × IsGridOutcome job r files end
+job-exists two frames (Frames s) (Ok grid) files low range = script_outcome-exists two frames s grid (bytes_of files s.script) low (range grid refl)
+job-exists two frames Facts (Ok grid) files low range = (text_outcome (info_line grid) Done 1, refl)
+job-exists two frames (Frames s) (Err fault) files low range = (text_outcome (grid_refusal fault) GridRefused 1, refl)
+job-exists two frames Facts (Err fault) files low range = (text_outcome (grid_refusal fault) GridRefused 1, refl)
 
-words-exist : BudgetsAreTwo → FramesExist → (command : Option Command) (files : List NamedFile) → ((c : Command) → command ≡ Some c → CommandHasBudget c)
-    → (end : Outcome) × IsWordsOutcome command files end
-words-exist two frames None files low = (plain_outcome [] Usage 0, refl)
-words-exist two frames (Some (OnGrid name job)) files low = job-exists two frames job (grid_of (bytes_of files name)) files (low (OnGrid name job) refl)
-words-exist two frames (Some (Generated n seed)) files low = made_outcome-exists frames n seed
+words-exist : BudgetsAreTwo → FramesExist → LevelsAreInRange → (command : Option Command) (files : List NamedFile)
+    → ((c : Command) → command ≡ Some c → CommandHasBudget c) → (end : Outcome) × IsWordsOutcome command files end
+words-exist two frames levels None files low = (plain_outcome [] Usage 0, refl)
+words-exist two frames levels (Some (OnGrid name job)) files low =
+    job-exists two frames job (grid_of (bytes_of files name)) files (low (OnGrid name job) refl) (λ grid is. levels grid (bytes_of files name) is)
+words-exist two frames levels (Some (Generated n seed)) files low = made_outcome-exists frames n seed (low (Generated n seed) refl)
 
-pub outcome-exists : BudgetsAreTwo → FramesExist → (words : List (List ℕ)) (files : List NamedFile) → (end : Outcome) × IsOutcome words files end
+pub outcome-exists : BudgetsAreTwo → FramesExist → LevelsAreInRange → (words : List (List ℕ)) (files : List NamedFile) → (end : Outcome) × IsOutcome words files end
 unfolding IsOutcome
-outcome-exists two frames words files = words-exist two frames (command_of words) files (λ c is. words-budget words c is)
+outcome-exists two frames levels words files = words-exist two frames levels (command_of words) files (λ c is. words-budget words c is)
 
 -- what an outcome's pictures tell is certified
 
--- each picture of states with a budget of at least 2 is certified
+-- each picture of states with a budget of at least 2 is certified, where an engine makes the frames
 abbrev pub MeshesAreCertified : Type 0
-MeshesAreCertified = (show : Show) (before : List ℕ) (n : ℕ) (states : List State) (ps : List Picture) → AreStates n states
+MeshesAreCertified = (show : Show) (before : List ℕ) (n : ℕ) (states : List State) (ps : List Picture) → IsTrue (is_of_engine show) → AreStates n states
     → ArePictures show before states ps → AllByRecursion IsCertified ps
 
+-- an engine is left only where one makes the frames
+engine-made : (show : Show) (walk : Walk) (ps : List Picture) → IsTrue (is_some (engine_for show walk ps)) → IsTrue (is_of_engine show)
+engine-made (AsMeshes prefix) walk ps some = refl
+engine-made (AsStrips prefix) walk ps some = refl
+engine-made (AsLeast prefix tolerance) walk ps some = some
+engine-made AsMeasures walk ps some = refl
+engine-made (AsSums n seed) walk ps some = refl
+
 shown-certified : MeshesAreCertified → (show : Show) (n files : ℕ) (walk : Walk) (end : Outcome) → AreStates n walk.frames
-    → IsFramesOutcome show files walk end → AllByRecursion IsCertified end.pictures
-shown-certified one show n files walk end low is =
+    → IsTrue (is_some end.engine) → IsFramesOutcome show files walk end → AllByRecursion IsCertified end.pictures
+shown-certified one show n files walk end low some is =
     let P : Outcome → Type 0 = λ o. AllByRecursion IsCertified o.pictures in
-    subst P (sym is.2) (one show [] n walk.frames is.0 low is.1)
+    let Q : Outcome → Type 0 = λ o. IsTrue (is_some o.engine) in
+    subst P (sym is.2) (one show [] n walk.frames is.0 (engine-made show walk is.0 (subst Q is.2 some)) low is.1)
 
 job-certified : BudgetsAreTwo → MeshesAreCertified → (job : Job) (r : Result HeightField PgmFault) (files : List NamedFile) (end : Outcome) → HasBudget job
     → IsTrue (is_some end.engine) → IsGridOutcome job r files end → AllByRecursion IsCertified end.pictures
 job-certified two one (Frames s) (Ok grid) files end low some is =
-    shown-certified one s.show grid.n 2 (script_walk s grid (bytes_of files s.script)) end (script-states two s grid (bytes_of files s.script) low) is
+    shown-certified one s.show grid.n 2 (script_walk s grid (bytes_of files s.script)) end (script-states two s grid (bytes_of files s.script) low) some is
 job-certified two one Facts (Ok grid) files end low some is =
     let P : Outcome → Type 0 = λ o. AllByRecursion IsCertified o.pictures in subst P (sym is) tt
 job-certified two one (Frames s) (Err fault) files end low some is =
@@ -209,7 +270,7 @@ words-certified two one None files end low some is =
 words-certified two one (Some (OnGrid name job)) files end low some is =
     job-certified two one job (grid_of (bytes_of files name)) files end (low (OnGrid name job) refl) some is
 words-certified two one (Some (Generated n seed)) files end low some is =
-    shown-certified one (AsSums n seed) (made_grid n seed).n 0 (made_walk n seed) end (made_walk-states n seed) is
+    shown-certified one (AsSums n seed) (made_grid n seed).n 0 (made_walk n seed) end (made_walk-states n seed) some is
 
 pub outcome-certified : BudgetsAreTwo → MeshesAreCertified → (words : List (List ℕ)) (files : List NamedFile) (end : Outcome)
     → IsTrue (is_some end.engine) → IsOutcome words files end → All IsCertified end.pictures

@@ -1,10 +1,10 @@
 -- Pictures: there is one of a state, it is a best mesh, and what it tells of blocking is a certificate.
-use Rattle.std.proofs.Common.{◌≡◌, ℕ, ◌<◌, ◌≤◌, ◌↔◌, Bool, List, [], ◌∷◌, length, All, Option, IsNone, IfSome, Contains, refl, sym, ◌∙◌, ap, subst, arith}
+use Rattle.std.proofs.Common.{◌≡◌, ℕ, ◌<◌, ◌≤◌, ◌↔◌, Bool, true, false, IsTrue, List, [], ◌∷◌, length, All, Option, None, IsNone, IfSome, Contains, refl, sym, ◌∙◌, ap, subst, arith}
 use Rattle.std.specs.List.{AllByRecursion}
 use Rattle.std.proofs.lemmas.List.Elements.{recursion_from_All, All-from_recursion}
 use Rattle.std.proofs.lemmas.Option.{IfSome_then}
 use Rattle.mesh_defs.specs.ClosedSet.{among, leaves_of}
-use Rattle.mesh_defs.specs.GridSet.{IsAscending}
+use Rattle.mesh_defs.specs.GridSet.{IsAscending, IsGridSet}
 use Rattle.mesh_defs.specs.BestMesh.{IsBestMesh}
 use Rattle.mesh_defs.specs.Priority.{priority_of, worst_of}
 use Rattle.mesh_defs.specs.State.{State, priority_in}
@@ -12,18 +12,47 @@ use Rattle.mesh_defs.specs.View.{View}
 use Rattle.bintree_addr.specs.declared.blocked.Blocked.{Blocked}
 use Rattle.mesh_defs.specs.Falling.{IsFalling}
 use Rattle.closure_laws.specs.Frame.{IsFrame}
-use Rattle.run_laws.specs.Words.{Show, AsMeshes, AsSums}
-use Rattle.run_laws.specs.Picture.{Picture, IsFrameFor, IsChangeFor, IsPicture, ArePictures, IsCertified}
-use Rattle.run_laws.specs.Laws.{FramesExist, AreStates}
+use Rattle.frame_steps.specs.Steps.{IsFrameRun}
+use Rattle.closure_laws.proofs.ClosureLemmas.{nothing_closed, IsLeastClosed-unique, IsLeastClosed-same}
+use Rattle.closure_laws.proofs.SetListLemmas.{list_of, ascending-list_of, among-list_of}
+use Rattle.least_laws.specs.Least.{is_worse, IsLeastMesh}
+use Rattle.least_laws.proofs.LeastLemmas.{least_found, least_list-mesh}
+use Rattle.run_laws.specs.Words.{Show, AsMeshes, AsStrips, AsLeast, AsMeasures, AsSums, is_of_engine}
+use Rattle.run_laws.specs.Picture.{Picture, IsLeastFrame, IsFrameFor, IsChangeFor, IsPicture, ArePictures, last_members, IsCertified}
+use Rattle.run_laws.specs.Laws.{FramesExist, RunsAreUnique, SetsStayClosed, AreStates}
+
+-- the meshes of a tolerance are made without an engine
+pub no-engine : false ≡ true → ⊥
+no-engine e = cc
 
 abbrev made : State → List ℕ → ℕ → Option Blocked → ℕ → ℕ → Picture
 made s l w b i j = record { state = s; members = l; worst = w; blocked = b; splits = i; merges = j }
 
--- the counts are determined
-IsChangeFor-unique : (show : Show) (state : State) (before after : List ℕ) (i j k l : ℕ)
+-- the change that is counted where an engine makes the frames is that of the steps of a frame
+is-run : (show : Show) (state : State) (before after : List ℕ) (splits merges : ℕ) → IsTrue (is_of_engine show) → IsChangeFor show state before after splits merges
+    → IsFrameRun state.grid.n state.budget (priority_in state) before after splits merges
+is-run (AsMeshes prefix) state before after splits merges engine run = run
+is-run (AsStrips prefix) state before after splits merges engine run = run
+is-run (AsLeast prefix tolerance) state before after splits merges engine run = absurd (no-engine engine)
+is-run AsMeasures state before after splits merges engine run = run
+is-run (AsSums n seed) state before after splits merges engine run = run
+
+-- the counts of steps are determined
+counts-unique : RunsAreUnique → (show : Show) (state : State) (before after : List ℕ) (i j k l : ℕ) → IsTrue (is_of_engine show)
     → IsChangeFor show state before after i k → IsChangeFor show state before after j l → (i ≡ j) × (k ≡ l)
-IsChangeFor-unique (AsMeshes prefix) state before after i j k l f g = (f.all_split ∙ sym g.all_split, f.all_merged ∙ sym g.all_merged)
-IsChangeFor-unique (AsSums n seed) state before after i j k l f g = (f.all_split ∙ sym g.all_split, f.all_merged ∙ sym g.all_merged)
+counts-unique runs show state before after i j k l engine f g =
+    let same = runs state.grid.n state.budget (priority_in state) before after after i k j l
+    (is-run show state before after i k engine f) (is-run show state before after j l engine g) in
+    (same.1, same.2)
+
+-- so are all that are counted
+IsChangeFor-unique : RunsAreUnique → (show : Show) (state : State) (before after : List ℕ) (i j k l : ℕ)
+    → IsChangeFor show state before after i k → IsChangeFor show state before after j l → (i ≡ j) × (k ≡ l)
+IsChangeFor-unique runs (AsMeshes prefix) state before after i j k l f g = counts-unique runs (AsMeshes prefix) state before after i j k l refl f g
+IsChangeFor-unique runs (AsStrips prefix) state before after i j k l f g = counts-unique runs (AsStrips prefix) state before after i j k l refl f g
+IsChangeFor-unique runs (AsLeast prefix tolerance) state before after i j k l f g = (f.no_splits ∙ sym g.no_splits, f.no_merges ∙ sym g.no_merges)
+IsChangeFor-unique runs AsMeasures state before after i j k l f g = counts-unique runs AsMeasures state before after i j k l refl f g
+IsChangeFor-unique runs (AsSums n seed) state before after i j k l f g = counts-unique runs (AsSums n seed) state before after i j k l refl f g
 
 -- The frame of a budget is one set, with one worst and one blocking triangle.
 abbrev pub FramesAreUnique : Type 0
@@ -35,24 +64,57 @@ FramesAreUnique = (n budget : ℕ) (priority : ℕ → ℕ) (has instead : ℕ �
 abbrev pub SetsAreLists : Type 0
 SetsAreLists = (xs ys : List ℕ) → IsAscending xs → IsAscending ys → ((a : ℕ) → among xs a ≡ among ys a) → xs ≡ ys
 
+-- the frame that an engine shows is that of the budget in force
+is-frame : (show : Show) (state : State) (members : List ℕ) (worst : ℕ) (blocked : Option Blocked) → IsTrue (is_of_engine show)
+    → IsFrameFor show state members worst blocked → IsFrame state.grid.n state.budget (priority_in state) (among members) worst blocked
+is-frame (AsMeshes prefix) state members worst blocked engine f = f
+is-frame (AsStrips prefix) state members worst blocked engine f = f
+is-frame (AsLeast prefix tolerance) state members worst blocked engine f = absurd (no-engine engine)
+is-frame AsMeasures state members worst blocked engine f = f
+is-frame (AsSums n seed) state members worst blocked engine f = f
+
+-- it is determined
+budget_frame-unique : FramesAreUnique → SetsAreLists → (show : Show) (state : State) (xs ys : List ℕ) (worst other : ℕ) (blocked instead : Option Blocked)
+    → IsTrue (is_of_engine show) → IsAscending xs → IsAscending ys → IsFrameFor show state xs worst blocked → IsFrameFor show state ys other instead
+    → (xs ≡ ys) × (worst ≡ other) × (blocked ≡ instead)
+budget_frame-unique one lists show state xs ys worst other blocked instead engine up goes f g =
+    let same = one state.grid.n state.budget (priority_in state) (among xs) (among ys) worst other blocked instead
+    (is-frame show state xs worst blocked engine f) (is-frame show state ys other instead engine g) in
+    (lists xs ys up goes same.0, same.1, same.2)
+
+-- so is that of a tolerance
+least_frame-unique : SetsAreLists → (n tolerance : ℕ) (priority : ℕ → ℕ) (xs ys : List ℕ) (worst other : ℕ) (blocked instead : Option Blocked)
+    → IsAscending xs → IsAscending ys → IsLeastFrame n tolerance priority (among xs) worst blocked → IsLeastFrame n tolerance priority (among ys) other instead
+    → (xs ≡ ys) × (worst ≡ other) × (blocked ≡ instead)
+least_frame-unique lists n tolerance priority xs ys worst other blocked instead up goes f g =
+    let same : xs ≡ ys = lists xs ys up goes (IsLeastClosed-unique n (is_worse n tolerance priority) (among xs) (among ys) f.closure g.closure) in (
+      same,
+      f.greatest ∙ (ap (λ (l : List ℕ). worst_of priority (leaves_of n (among l))) same ∙ sym g.greatest),
+      f.unblocked ∙ sym g.unblocked,
+    )
+
 -- the frame that is shown is determined
 IsFrameFor-unique : FramesAreUnique → SetsAreLists → (show : Show) (state : State) (xs ys : List ℕ) (worst other : ℕ) (blocked instead : Option Blocked)
     → IsAscending xs → IsAscending ys → IsFrameFor show state xs worst blocked → IsFrameFor show state ys other instead
     → (xs ≡ ys) × (worst ≡ other) × (blocked ≡ instead)
 IsFrameFor-unique one lists (AsMeshes prefix) state xs ys worst other blocked instead up goes f g =
-    let same = one state.grid.n state.budget (priority_in state) (among xs) (among ys) worst other blocked instead f g in
-    (lists xs ys up goes same.0, same.1, same.2)
+    budget_frame-unique one lists (AsMeshes prefix) state xs ys worst other blocked instead refl up goes f g
+IsFrameFor-unique one lists (AsStrips prefix) state xs ys worst other blocked instead up goes f g =
+    budget_frame-unique one lists (AsStrips prefix) state xs ys worst other blocked instead refl up goes f g
+IsFrameFor-unique one lists (AsLeast prefix tolerance) state xs ys worst other blocked instead up goes f g =
+    least_frame-unique lists state.grid.n tolerance (priority_in state) xs ys worst other blocked instead up goes f g
+IsFrameFor-unique one lists AsMeasures state xs ys worst other blocked instead up goes f g =
+    budget_frame-unique one lists AsMeasures state xs ys worst other blocked instead refl up goes f g
 IsFrameFor-unique one lists (AsSums n seed) state xs ys worst other blocked instead up goes f g =
-    let same = one state.grid.n state.budget (priority_in state) (among xs) (among ys) worst other blocked instead f g in
-    (lists xs ys up goes same.0, same.1, same.2)
+    budget_frame-unique one lists (AsSums n seed) state xs ys worst other blocked instead refl up goes f g
 
 -- a picture is determined by its state and the set before
-IsPicture-unique : FramesAreUnique → SetsAreLists → (show : Show) (before : List ℕ) (state : State) (p q : Picture)
+IsPicture-unique : FramesAreUnique → SetsAreLists → RunsAreUnique → (show : Show) (before : List ℕ) (state : State) (p q : Picture)
     → IsPicture show before state p → IsPicture show before state q → p ≡ q
-IsPicture-unique one lists show before state p q f g =
+IsPicture-unique one lists runs show before state p q f g =
     let same = IsFrameFor-unique one lists show state p.members q.members p.worst q.worst p.blocked q.blocked f.ascending g.ascending f.frame g.frame in
     let members : p.members ≡ q.members = same.0 in
-    let counts = IsChangeFor-unique show state before q.members p.splits q.splits p.merges q.merges
+    let counts = IsChangeFor-unique runs show state before q.members p.splits q.splits p.merges q.merges
     (subst (λ (l : List ℕ). IsChangeFor show state before l p.splits p.merges) members f.change) g.change in
     ap (λ (s : State). made s p.members p.worst p.blocked p.splits p.merges) (f.of_state ∙ sym g.of_state)
     ∙ (ap (λ (l : List ℕ). made q.state l p.worst p.blocked p.splits p.merges) members
@@ -62,41 +124,118 @@ IsPicture-unique one lists show before state p q f g =
     ∙ ap (λ (j : ℕ). made q.state q.members q.worst q.blocked q.splits j) counts.1))))
 
 -- the pictures of states are determined
-pub ArePictures-unique : FramesAreUnique → SetsAreLists → (show : Show) (before : List ℕ) (states : List State) (ps qs : List Picture)
+pub ArePictures-unique : FramesAreUnique → SetsAreLists → RunsAreUnique → (show : Show) (before : List ℕ) (states : List State) (ps qs : List Picture)
     → ArePictures show before states ps → ArePictures show before states qs → ps ≡ qs
-ArePictures-unique one lists show before [] [] [] f g = refl
-ArePictures-unique one lists show before [] [] (q ∷ qs) f g = absurd g
-ArePictures-unique one lists show before [] (p ∷ ps) qs f g = absurd f
-ArePictures-unique one lists show before (s ∷ states) [] qs f g = absurd f
-ArePictures-unique one lists show before (s ∷ states) (p ∷ ps) [] f g = absurd g
-ArePictures-unique one lists show before (s ∷ states) (p ∷ ps) (q ∷ qs) f g =
-    let same : p ≡ q = IsPicture-unique one lists show before s p q f.0 g.0 in
+ArePictures-unique one lists runs show before [] [] [] f g = refl
+ArePictures-unique one lists runs show before [] [] (q ∷ qs) f g = absurd g
+ArePictures-unique one lists runs show before [] (p ∷ ps) qs f g = absurd f
+ArePictures-unique one lists runs show before (s ∷ states) [] qs f g = absurd f
+ArePictures-unique one lists runs show before (s ∷ states) (p ∷ ps) [] f g = absurd g
+ArePictures-unique one lists runs show before (s ∷ states) (p ∷ ps) (q ∷ qs) f g =
+    let same : p ≡ q = IsPicture-unique one lists runs show before s p q f.0 g.0 in
     let behind : ArePictures show p.members states qs = subst (λ (l : List ℕ). ArePictures show l states qs) (ap (λ (r : Picture). r.members) (sym same)) g.1 in
-    ap (λ (r : Picture). r ∷ ps) same ∙ ap (λ (rs : List Picture). q ∷ rs) (ArePictures-unique one lists show p.members states ps qs f.1 behind)
+    ap (λ (r : Picture). r ∷ ps) same ∙ ap (λ (rs : List Picture). q ∷ rs) (ArePictures-unique one lists runs show p.members states ps qs f.1 behind)
 
--- a frame, made from any set, is the frame of a picture
-made-picture : (show : Show) (before : List ℕ) (state : State) → (members : List ℕ) (worst : ℕ) (blocked : Option Blocked)
-    → IsAscending members → IsFrame state.grid.n state.budget (priority_in state) (among members) worst blocked
-    → IsPicture show before state (made state members worst blocked (length members) (length before))
-made-picture (AsMeshes prefix) before state members worst blocked up f =
-    record { of_state = refl; ascending = up; frame = f; change = record { all_split = refl; all_merged = refl } }
-made-picture (AsSums n seed) before state members worst blocked up f =
-    record { of_state = refl; ascending = up; frame = f; change = record { all_split = refl; all_merged = refl } }
+-- there is a picture, and its set is closed
+abbrev HasPicture : Show → List ℕ → State → Type 0
+HasPicture show before state = (p : Picture) × IsPicture show before state p × IsGridSet state.grid.n p.members
 
--- states have pictures, from any set on
-pub pictures_of : FramesExist → (show : Show) (n : ℕ) (before : List ℕ) (states : List State)
-    → AreStates n states → (pictures : List Picture) × ArePictures show before states pictures
-pictures_of frames show n before [] low = ([], tt)
-pictures_of frames show n before (state ∷ states) low =
-    let f = frames state.grid.n state.budget (priority_in state) low.1 in
-    let rest = pictures_of frames show n f.0 states low.2 in
-    (made state f.0 f.1 f.2 (length f.0) (length before) ∷ rest.0, (made-picture show before state f.0 f.1 f.2 f.3 f.4, rest.1))
-
--- the frame that is shown is that of the budget in force
-pub is-frame : (show : Show) (state : State) (members : List ℕ) (worst : ℕ) (blocked : Option Blocked) → IsFrameFor show state members worst blocked
+-- the frame to which the steps from a set lead is the frame of a picture
+made-picture : FramesExist → (show : Show) (before : List ℕ) (state : State) → IsGridSet state.grid.n before → 2 ≤ state.budget
+    → ((members : List ℕ) (worst : ℕ) (blocked : Option Blocked) (splits merges : ℕ) → IsAscending members
     → IsFrame state.grid.n state.budget (priority_in state) (among members) worst blocked
-is-frame (AsMeshes prefix) state members worst blocked f = f
-is-frame (AsSums n seed) state members worst blocked f = f
+    → IsFrameRun state.grid.n state.budget (priority_in state) before members splits merges
+    → IsPicture show before state (made state members worst blocked splits merges))
+    → HasPicture show before state
+made-picture frames show before state set low is =
+    let f = frames state before set low in
+    (made state f.0 f.1 f.2 f.3 f.4, is f.0 f.1 f.2 f.3 f.4 f.5.ascending f.6 f.7, f.5)
+
+-- the least closed set of all that is worse than a tolerance is that of a picture
+least-picture : (prefix : List ℕ) (tolerance : ℕ) (before : List ℕ) (state : State) → IsGridSet state.grid.n before
+    → HasPicture (AsLeast prefix tolerance) before state
+least-picture prefix tolerance before state set =
+    let n : ℕ = state.grid.n in
+    let priority : ℕ → ℕ = priority_in state in
+    let found = least_found n tolerance priority in
+    let members : List ℕ = list_of n found.0 in
+    let least = IsLeastClosed-same n (is_worse n tolerance priority) found.0 (among members) (among-list_of n found.0 found.1.closed) found.1 in
+    let worst : ℕ = worst_of priority (leaves_of n (among members)) in
+    let up : IsAscending members = ascending-list_of n found.0 in (
+      made state members worst None 0 0,
+      record {
+        of_state = refl;
+        ascending = up;
+        frame = record { closure = least; greatest = refl; unblocked = refl };
+        change = record { no_splits = refl; no_merges = refl };
+      },
+      record { n_low = set.n_low; n_high = set.n_high; ascending = up; closed = least.closed },
+    )
+
+-- a state with a budget of at least 2 has a picture, from any closed set on
+has-picture : FramesExist → (show : Show) (before : List ℕ) (state : State) → IsGridSet state.grid.n before → 2 ≤ state.budget → HasPicture show before state
+has-picture frames (AsMeshes prefix) before state set low =
+    made-picture frames (AsMeshes prefix) before state set low (λ l w b i j up f run. record { of_state = refl; ascending = up; frame = f; change = run })
+has-picture frames (AsStrips prefix) before state set low =
+    made-picture frames (AsStrips prefix) before state set low (λ l w b i j up f run. record { of_state = refl; ascending = up; frame = f; change = run })
+has-picture frames (AsLeast prefix tolerance) before state set low = least-picture prefix tolerance before state set
+has-picture frames AsMeasures before state set low =
+    made-picture frames AsMeasures before state set low (λ l w b i j up f run. record { of_state = refl; ascending = up; frame = f; change = run })
+has-picture frames (AsSums n seed) before state set low =
+    made-picture frames (AsSums n seed) before state set low (λ l w b i j up f run. record { of_state = refl; ascending = up; frame = f; change = run })
+
+-- so have states, from any closed set on
+pub pictures_of : FramesExist → (show : Show) (n : ℕ) (before : List ℕ) (states : List State)
+    → IsGridSet n before → AreStates n states → (pictures : List Picture) × ArePictures show before states pictures
+pictures_of frames show n before [] set low = ([], tt)
+pictures_of frames show n before (state ∷ states) set low =
+    let P : ℕ → Type 0 = λ k. IsGridSet k before in
+    let f = has-picture frames show before state (subst P (sym low.0) set) low.1 in
+    let Q : ℕ → Type 0 = λ k. IsGridSet k f.0.members in
+    let rest = pictures_of frames show n f.0.members states (subst Q low.0 f.2) low.2 in
+    (f.0 ∷ rest.0, (f.1, rest.1))
+
+-- a set to which the steps of a frame lead is closed
+run-set : SetsStayClosed → (show : Show) (before : List ℕ) (state : State) (p : Picture) → IsTrue (is_of_engine show)
+    → IsGridSet state.grid.n before → IsPicture show before state p → IsGridSet state.grid.n p.members
+run-set stays show before state p engine set f =
+    stays state.grid.n state.budget (priority_in state) before p.members p.splits p.merges set
+    (is-run show state before p.members p.splits p.merges engine f.change)
+
+-- a picture's set is closed where the set before it is
+closed-picture : SetsStayClosed → (show : Show) (before : List ℕ) (state : State) (p : Picture)
+    → IsGridSet state.grid.n before → IsPicture show before state p → IsGridSet state.grid.n p.members
+closed-picture stays (AsMeshes prefix) before state p set f = run-set stays (AsMeshes prefix) before state p refl set f
+closed-picture stays (AsStrips prefix) before state p set f = run-set stays (AsStrips prefix) before state p refl set f
+closed-picture stays (AsLeast prefix tolerance) before state p set f =
+    record { n_low = set.n_low; n_high = set.n_high; ascending = f.ascending; closed = f.frame.closure.closed }
+closed-picture stays AsMeasures before state p set f = run-set stays AsMeasures before state p refl set f
+closed-picture stays (AsSums n seed) before state p set f = run-set stays (AsSums n seed) before state p refl set f
+
+pub picture-set : SetsStayClosed → (show : Show) (n : ℕ) (before : List ℕ) (state : State) (p : Picture) → state.grid.n ≡ n
+    → IsGridSet n before → IsPicture show before state p → IsGridSet n p.members
+picture-set stays show n before state p level set f =
+    let P : ℕ → Type 0 = λ k. IsGridSet k before in
+    let Q : ℕ → Type 0 = λ k. IsGridSet k p.members in
+    subst Q level (closed-picture stays show before state p (subst P (sym level) set) f)
+
+-- so is the set of the last one
+pub last_members-set : SetsStayClosed → (show : Show) (n : ℕ) (before : List ℕ) (states : List State) (ps : List Picture)
+    → IsGridSet n before → AreStates n states → ArePictures show before states ps → IsGridSet n (last_members before ps)
+last_members-set stays show n before [] [] set are f = set
+last_members-set stays show n before [] (p ∷ ps) set are f = absurd f
+last_members-set stays show n before (s ∷ states) [] set are f = absurd f
+last_members-set stays show n before (s ∷ states) (p ∷ ps) set are f =
+    last_members-set stays show n p.members states ps (picture-set stays show n before s p are.0 set f.0) are.2 f.1
+
+-- the set of the two base triangles' mesh is closed
+pub no-members : (n : ℕ) → (1 ≤ n) × (n ≤ 11) → IsGridSet n []
+no-members n range = record {
+  n_low = range.0;
+  n_high = range.1;
+  ascending = tt;
+  closed = nothing_closed n;
+}
 
 -- the worst of a list is 0 exactly where each priority in it is
 worst-zero : (priority : ℕ → ℕ) (triangles : List ℕ) → AllByRecursion (λ a. priority a ≡ 0) triangles → worst_of priority triangles ≡ 0
@@ -118,6 +257,14 @@ module _ (falling : (n : ℕ) (heights : List ℕ) (view : View) → IsFalling n
       → IsBestMesh state.grid.n state.budget (priority_in state) (leaves_of state.grid.n (among members))
   frame-best best state members worst blocked low f =
       best state.grid.n state.budget (priority_in state) (among members) worst blocked f (falling state.grid.n state.grid.heights state.view) low
+
+  -- the frame of a tolerance is the least mesh of the state
+  pub frame-least : (tolerance : ℕ) (state : State) (members : List ℕ) (worst : ℕ) (blocked : Option Blocked)
+      → IsLeastFrame state.grid.n tolerance (priority_in state) (among members) worst blocked
+      → IsLeastMesh state.grid.n tolerance (priority_in state) (leaves_of state.grid.n (among members))
+  frame-least tolerance state members worst blocked f =
+      least_list-mesh state.grid.n tolerance (priority_in state) (leaves_of state.grid.n (among members)) (falling state.grid.n state.grid.heights state.view)
+      (record { has = among members; closure = f.closure; leaves = refl })
 
   module _ (unblocked : (n budget : ℕ) (priority : ℕ → ℕ) (has : ℕ → Bool) (worst : ℕ) (blocked : Option Blocked) →
       IsFrame n budget priority has worst blocked → IsFalling n priority → 2 ≤ budget → (IsNone blocked ↔ All (λ a. priority a ≡ 0) (leaves_of n has)))
@@ -144,14 +291,15 @@ module _ (falling : (n : ℕ) (heights : List ℕ) (view : View) → IsFalling n
           need = IfSome_then blocked some (λ b is. is.0);
         }
 
-    -- so is what each picture of states with a budget of at least 2 tells
-    pub pictures-certified : (show : Show) (before : List ℕ) (n : ℕ) (states : List State) (ps : List Picture) → AreStates n states
+    -- so is what each picture of states with a budget of at least 2 tells, where an engine makes the frames
+    pub pictures-certified : (show : Show) (before : List ℕ) (n : ℕ) (states : List State) (ps : List Picture) → IsTrue (is_of_engine show) → AreStates n states
         → ArePictures show before states ps → AllByRecursion IsCertified ps
-    pictures-certified show before n [] [] low f = tt
-    pictures-certified show before n [] (p ∷ ps) low f = absurd f
-    pictures-certified show before n (s ∷ states) [] low f = absurd f
-    pictures-certified show before n (s ∷ states) (p ∷ ps) low f =
+    pictures-certified show before n [] [] engine low f = tt
+    pictures-certified show before n [] (p ∷ ps) engine low f = absurd f
+    pictures-certified show before n (s ∷ states) [] engine low f = absurd f
+    pictures-certified show before n (s ∷ states) (p ∷ ps) engine low f =
         let P : State → Type 0 = λ t. IsCertified (made t p.members p.worst p.blocked p.splits p.merges) in (
-          subst P (sym f.0.of_state) (frame-certified s p.members p.worst p.blocked p.splits p.merges low.1 (is-frame show s p.members p.worst p.blocked f.0.frame)),
-          pictures-certified show p.members n states ps low.2 f.1,
+          subst P (sym f.0.of_state) (frame-certified s p.members p.worst p.blocked p.splits p.merges low.1
+              (is-frame show s p.members p.worst p.blocked engine f.0.frame)),
+          pictures-certified show p.members n states ps engine low.2 f.1,
         )

@@ -17,10 +17,11 @@ use Rattle.run_laws.specs.ReportText.{line_refusal}
 use Rattle.run_laws.specs.Outcome.{Outcome, picture_acts, shown_acts, sum_acts, stop_acts, frames_outcome, IsFramesOutcome, script_walk}
 use Rattle.run_laws.specs.Promise.{ScriptHasRead}
 use Rattle.run_laws.specs.Step.{Place, HasCome, Refuses, Cuts}
-use Rattle.run_laws.specs.Laws.{AreStates, KeepsStates, BudgetsAreTwo, FramesExist}
+use Rattle.mesh_defs.specs.GridSet.{IsGridSet}
+use Rattle.run_laws.specs.Laws.{AreStates, KeepsStates, BudgetsAreTwo, FramesExist, SetsStayClosed}
 use Rattle.run_laws.proofs.ActLemmas.{stands-nothing, stands-append, cut-append, cut-longer}
 use Rattle.run_laws.proofs.LineLemmas.{NoEnd, lines_of-ends, lines_of-last, lines_of-begins, BeginsWith}
-use Rattle.run_laws.proofs.PictureLemmas.{pictures_of}
+use Rattle.run_laws.proofs.PictureLemmas.{pictures_of, picture-set, last_members-set, no-members}
 use Rattle.run_laws.proofs.WalkLemmas.{walk_of-append, ArePictures-append, walk_of-states, walk_of-grows, walk_lines-stopped, read_text, stopped_text}
 
 abbrev pub place : Walk → List Picture → List ℕ → Place
@@ -191,7 +192,7 @@ module _ (before now : Told) (show : Show) (start : Walk) (read : List ℕ) (her
           (stands-append before now now' (shown_acts show 1 here.pictures) (shown_acts show (1 + length here.walk.frames) new) come.stands stands));
     }
 
-    module _ (two : BudgetsAreTwo) (frames : FramesExist) (n : ℕ) (keeps : KeepsStates n start) (state : State) (shows : shown_by line here.walk.state ≡ state ∷ []) where
+    module _ (two : BudgetsAreTwo) (frames : FramesExist) (stays : SetsStayClosed) (n : ℕ) (range : (1 ≤ n) × (n ≤ 11)) (keeps : KeepsStates n start) (state : State) (shows : shown_by line here.walk.state ≡ state ∷ []) where
       -- a frame was cut short: the later frames need their pictures, though they were never made
       pub cuts-frame : (now' : Told) (files : ℕ) (p : Picture) → IsPicture show (last_members [] here.pictures) state p
           → IsCutShort now now' (picture_acts show (1 + length here.walk.frames) p) → Cuts before now' show files start (read ++ 10 ∷ [])
@@ -205,7 +206,11 @@ module _ (before now : Told) (show : Show) (start : Walk) (read : List ℕ) (her
             let P : List State → Type 0 = λ l. AreStates n l in
             let are : AreStates n walk.frames = (walk_of-states two n start ((read ++ 10 ∷ []) ++ more) keeps).frames in
             let behind : AreStates n later = states-behind n (here.walk.frames ++ state ∷ []) later (subst P cut_frames are) in
-            let rest = pictures_of frames show n p.members later behind in
+            let upto : AreStates n (here.walk.frames ++ state ∷ []) = states-first n (here.walk.frames ++ state ∷ []) later (subst P cut_frames are) in
+            let last : IsGridSet n (last_members [] here.pictures) = last_members-set stays show n [] here.walk.frames here.pictures (no-members n range)
+            (states-first n here.walk.frames (state ∷ []) upto) come.shown in
+            let set : IsGridSet n p.members = picture-set stays show n (last_members [] here.pictures) state p (states-behind n here.walk.frames (state ∷ []) upto).0 last picture in
+            let rest = pictures_of frames show n p.members later set behind in
             let firsts : List Picture = here.pictures ++ p ∷ [] in
             let first_shown : ArePictures show [] (here.walk.frames ++ state ∷ []) firsts =
             ArePictures-append show [] here.walk.frames (state ∷ []) here.pictures (p ∷ []) come.shown (picture, tt) in

@@ -1,6 +1,6 @@
--- What small scripts come to, worked by hand from the format.
--- Words: flat, walk_under, refused, limits_at, and an example a word.
-use Rattle.std.specs.Prelude.{◌≡◌, ℕ, List, [], ◌∷◌, length, replicate, map, Option, Some, None, Ok, Err, codes}
+-- What small scripts come to, worked by hand from the format, and what small meshes are measured to be.
+-- Words: flat, walk_under, refused, limits_at, corner_strip, and an example a word.
+use Rattle.std.specs.Prelude.{◌≡◌, ℕ, List, [], ◌∷◌, ◌++◌, length, replicate, map, Option, Some, None, Ok, Err, codes}
 use Rattle.mesh_defs.specs.HeightField.{HeightField}
 use Rattle.mesh_defs.specs.State.{State, start_state}
 use Rattle.roam_script.specs.declared.limits.Limits.{Limits}
@@ -8,6 +8,8 @@ use Rattle.roam_script.specs.declared.line.Line.TheVariants.{Frame, Blank}
 use Rattle.roam_script.specs.declared.script_fault.ScriptFault.{ScriptFault}
 use Rattle.roam_script.specs.declared.script_fault.ScriptFault.TheVariants.{LineTooLong, UnknownCommand, WrongFields, BadNumber, OutOfRange, TooManyLines, TooManyFrames, TooManyPlanes}
 use Rattle.roam_script.specs.LineText.{line_in}
+use Rattle.deviation_laws.specs.PlaneHeight.{deviation_of, thickest_of}
+use Rattle.run_laws.specs.Turns.{left_turns, right_turns}
 use Rattle.run_laws.specs.Walk.{Refusal, Walk, start_walk, walk_of}
 
 -- nine points of height 0
@@ -72,3 +74,23 @@ abbrev pub WaysAreAddedUp : Type 0
 WaysAreAddedUp =
     ((walk_under 4 (codes "camera -3 -4 0\ncamera 1 0 2\r\n\tframe\n# x\n")).odometer ≡ 17)
     × ((walk_under 4 (codes "set 1 0 7\n")).state.grid.heights ≡ 0 ∷ 0 ∷ 0 ∷ 0 ∷ 0 ∷ 0 ∷ 0 ∷ 7 ∷ 0 ∷ [])
+
+-- the strip of the mesh that a high corner needs in a grid of side 4
+abbrev pub corner_strip : List ℕ
+corner_strip = 9 ∷ (16 ∷ (35 ∷ (34 ∷ (22 ∷ (23 ∷ (10 ∷ (6 ∷ (7 ∷ []))))))))
+
+-- two triangles have no turn, the four quarters of a square have two, and that strip seven
+abbrev pub TurnsOfStrips : Type 0
+TurnsOfStrips =
+    (left_turns 1 (2 ∷ (3 ∷ [])) ≡ 0) × (right_turns 1 (2 ∷ (3 ∷ [])) ≡ 0)
+    × (left_turns 1 (4 ∷ (5 ∷ (6 ∷ (7 ∷ [])))) ≡ 0) × (right_turns 1 (4 ∷ (5 ∷ (6 ∷ (7 ∷ [])))) ≡ 2)
+    × (left_turns 2 corner_strip ≡ 2) × (right_turns 2 corner_strip ≡ 5)
+
+-- a peak of 10 between two triangles and among four; and a corner of 1, which is off by three quarters beside it
+abbrev pub MeshesAreMeasured : Type 0
+MeshesAreMeasured =
+    let peak : List ℕ = 0 ∷ 0 ∷ 0 ∷ 0 ∷ 10 ∷ 0 ∷ 0 ∷ 0 ∷ 0 ∷ [] in
+    let corner : List ℕ = replicate 20 0 ++ 1 ∷ replicate 4 0 in
+    (deviation_of 1 peak (2 ∷ (3 ∷ [])) ≡ 20) × (thickest_of 1 peak (2 ∷ (3 ∷ [])) ≡ 20)
+    × (deviation_of 1 peak (4 ∷ (5 ∷ (6 ∷ (7 ∷ [])))) ≡ 0) × (thickest_of 1 peak (4 ∷ (5 ∷ (6 ∷ (7 ∷ [])))) ≡ 0)
+    × (deviation_of 2 corner (2 ∷ (3 ∷ [])) ≡ 3) × (thickest_of 2 corner (2 ∷ (3 ∷ [])) ≡ 3)

@@ -1,14 +1,19 @@
--- The headline: each frame's mesh is a best mesh within the budget in force, whatever the mesh before.
--- Words: IsBestIn, IsGoodText, IsGoodFrame, AreGoodFrames, IsRunOf, KeepsGoodMeshes.
-use Rattle.std.specs.Prelude.{◌≡◌, ⊤, ℕ, ◌+◌, true, IsTrue, IsSome, List, [], ◌∷◌, ◌++◌, length, All, Option, Some}
+-- The headline: each frame's mesh is a best mesh within the budget in force, whatever the mesh before; or the least mesh of a
+-- tolerance.
+-- Words: IsBestIn, IsBestStripIn, IsLeastIn, IsGoodText, IsGoodFrame, AreGoodFrames, IsRunOf, KeepsGoodMeshes.
+use Rattle.std.specs.Prelude.{◌≡◌, ⊤, ℕ, ◌+◌, Bool, true, IsTrue, IsSome, List, [], ◌∷◌, ◌++◌, length, count_by, nat_eq, All, Contains, Option, Some}
 use Rattle.mesh_defs.specs.HeightField.{HeightField, IsHeightField}
 use Rattle.mesh_defs.specs.BestMesh.{IsBestMesh}
+use Rattle.mesh_defs.specs.ClosedSet.{leaves_of}
 use Rattle.mesh_defs.specs.State.{State, priority_in, text_in}
 use Rattle.roam_edge.specs.MeshSink.{Mesh}
 use Rattle.roam_edge.specs.Shelf.{NamedFile, bytes_of}
 use Rattle.pgm_grid.specs.PgmText.{IsFileText}
 use Rattle.run_laws.specs.declared.status.Status.{Status}
-use Rattle.run_laws.specs.Words.{Show, AsMeshes, AsSums, Scripted, Frames, OnGrid, prefix_of, command_of}
+use Rattle.tiling_laws.specs.Ancestors.{AreLeaves}
+use Rattle.strip_laws.specs.Strip.{strip_of, IsRing}
+use Rattle.least_laws.specs.Least.{IsLeastMesh}
+use Rattle.run_laws.specs.Words.{Show, AsMeshes, AsStrips, AsLeast, AsMeasures, AsSums, Scripted, Frames, OnGrid, prefix_of, command_of}
 use Rattle.run_laws.specs.Outcome.{script_walk}
 use Rattle.run_laws.specs.Promise.{ends_script}
 
@@ -16,9 +21,27 @@ use Rattle.run_laws.specs.Promise.{ends_script}
 abbrev pub IsBestIn : State → List ℕ → Type 0
 IsBestIn state triangles = IsBestMesh state.grid.n state.budget (priority_in state) triangles
 
--- The bytes are the text of what is shown of a state: its best mesh.
+-- The list is the strip of a best mesh: its triangles, each once, in an order in which each two neighbours share a whole edge, and
+-- so do the last and the first.
+pub record IsBestStripIn (state : State) (order : List ℕ) : Type 0 where
+  pub has : ℕ → Bool
+  pub best : IsBestIn state (leaves_of state.grid.n has)
+  pub strip : order ≡ strip_of state.grid.n has
+  pub leaves : AreLeaves state.grid.n has order
+  pub once : (a : ℕ) → Contains order a → count_by (λ t. nat_eq t a) order ≡ 1
+  pub ring : IsRing state.grid.n order
+
+-- the list is the least mesh of the state for a tolerance: none is worse, and every such mesh refines it
+abbrev pub IsLeastIn : ℕ → State → List ℕ → Type 0
+IsLeastIn tolerance state triangles = IsLeastMesh state.grid.n tolerance (priority_in state) triangles
+
+-- The bytes are the text of what is shown of a state: its best mesh, the strip of that mesh, or its least mesh.
 abbrev pub IsGoodText : Show → State → List ℕ → Type 0
 IsGoodText (AsMeshes prefix) state bytes = (triangles : List ℕ) × IsBestIn state triangles × (bytes ≡ text_in state triangles)
+IsGoodText (AsStrips prefix) state bytes = (order : List ℕ) × IsBestStripIn state order × (bytes ≡ text_in state order)
+IsGoodText (AsLeast prefix tolerance) state bytes =
+    (triangles : List ℕ) × IsLeastIn tolerance state triangles × (bytes ≡ text_in state triangles)
+IsGoodText AsMeasures state bytes = ⊥
 IsGoodText (AsSums n seed) state bytes = ⊥
 
 -- The mesh has this number and the prefix of the words, and its bytes are right for this state.

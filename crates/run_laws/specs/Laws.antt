@@ -1,12 +1,16 @@
 -- Laws of walks, pictures and outcomes.
--- Words: WalksGoOn, PicturesGoOn, FramesExistFrom, FramesExist, BudgetsAreTwo, AreStates, KeepsStates, OutcomesAreUnique, OutcomesExist,
--- AcceptedIsDone, PicturesAreCertified, HeadlineFollows.
-use Rattle.std.specs.Prelude.{◌≡◌, ⊤, ℕ, ◌≤◌, IsTrue, is_some, List, [], ◌∷◌, ◌++◌, All, Option, Some, Ok}
+-- Words: WalksGoOn, PicturesGoOn, FramesExistFrom, FramesExist, RunsAreUnique, SetsStayClosed, LevelsAreInRange, BudgetsAreTwo, AreStates, KeepsStates, OutcomesAreUnique, OutcomesExist,
+-- AcceptedIsDone, PicturesAreCertified, HeadlineFollows, TurnsAreCounted.
+use Rattle.std.specs.Prelude.{◌≡◌, ⊤, ℕ, ◌≤◌, Bool, IsTrue, is_some, List, [], ◌∷◌, ◌++◌, All, Option, Some, Ok}
 use Rattle.mesh_defs.specs.HeightField.{HeightField}
-use Rattle.mesh_defs.specs.State.{State}
-use Rattle.mesh_defs.specs.ClosedSet.{among}
-use Rattle.mesh_defs.specs.GridSet.{IsAscending}
+use Rattle.mesh_defs.specs.State.{State, priority_in}
+use Rattle.mesh_defs.specs.ClosedSet.{IsClosed, among}
+use Rattle.mesh_defs.specs.GridSet.{IsGridSet}
 use Rattle.closure_laws.specs.Frame.{IsFrame}
+use Rattle.frame_steps.specs.Steps.{IsFrameRun}
+use Rattle.strip_laws.specs.Strip.{strip_of}
+use Rattle.strip_laws.specs.Turn.{HasTurns}
+use Rattle.pgm_grid.specs.Progress.{grid_of}
 use Rattle.bintree_addr.specs.declared.blocked.Blocked.{Blocked}
 use Rattle.roam_edge.specs.MeshSink.{Mesh}
 use Rattle.roam_edge.specs.Shelf.{NamedFile, bytes_of}
@@ -19,6 +23,7 @@ use Rattle.run_laws.specs.Walk.{Walk, walk_of, AreWhole}
 use Rattle.run_laws.specs.Words.{Show, Scripted, command_of}
 use Rattle.run_laws.specs.Act.{Told}
 use Rattle.run_laws.specs.Picture.{Picture, ArePictures, IsCertified, last_members}
+use Rattle.run_laws.specs.Turns.{left_turns, right_turns}
 use Rattle.run_laws.specs.Outcome.{Outcome, IsOutcome, HasOneOutcome}
 use Rattle.run_laws.specs.Promise.{Seen, EndsRight, LeavesAtReadFault, LeavesAtNoMemory, IsAccepted}
 use Rattle.run_laws.specs.Headline.{IsRunOf, KeepsGoodMeshes}
@@ -32,14 +37,31 @@ abbrev pub PicturesGoOn : Type 0
 PicturesGoOn = (show : Show) (before : List ℕ) (ss ts : List State) (ps qs : List Picture) → ArePictures show before ss ps
     → ArePictures show (last_members before ps) ts qs → ArePictures show before (ss ++ ts) (ps ++ qs)
 
--- each budget of at least this many triangles has a frame
+-- From each closed set the steps of a frame lead to the frame of a state with a budget of at least so many triangles.
 abbrev pub FramesExistFrom : ℕ → Type 0
-FramesExistFrom least = (n budget : ℕ) (priority : ℕ → ℕ) → least ≤ budget
-    → (members : List ℕ) × (worst : ℕ) × (blocked : Option Blocked) × IsAscending members × IsFrame n budget priority (among members) worst blocked
+FramesExistFrom least = (state : State) (before : List ℕ) → IsGridSet state.grid.n before → least ≤ state.budget
+    → (members : List ℕ) × (worst : ℕ) × (blocked : Option Blocked) × (splits : ℕ) × (merges : ℕ) × IsGridSet state.grid.n members
+    × IsFrame state.grid.n state.budget (priority_in state) (among members) worst blocked
+    × IsFrameRun state.grid.n state.budget (priority_in state) before members splits merges
 
 -- each budget of at least 2 has one: the mesh of the two base triangles is the smallest
 abbrev pub FramesExist : Type 0
 FramesExist = FramesExistFrom 2
+
+-- the steps of a frame end at one set, with one pair of counts
+abbrev pub RunsAreUnique : Type 0
+RunsAreUnique = (n budget : ℕ) (priority : ℕ → ℕ) (start last other : List ℕ) (added removed more less : ℕ)
+    → IsFrameRun n budget priority start last added removed → IsFrameRun n budget priority start other more less
+    → (last ≡ other) × (added ≡ more) × (removed ≡ less)
+
+-- the steps of a frame lead from a closed set to a closed set
+abbrev pub SetsStayClosed : Type 0
+SetsStayClosed = (n budget : ℕ) (priority : ℕ → ℕ) (before after : List ℕ) (splits merges : ℕ) → IsGridSet n before
+    → IsFrameRun n budget priority before after splits merges → IsGridSet n after
+
+-- a grid that is read has a side of 3 to 2049
+abbrev pub LevelsAreInRange : Type 0
+LevelsAreInRange = (grid : HeightField) (bytes : List ℕ) → grid_of bytes ≡ Ok grid → (1 ≤ grid.n) × (grid.n ≤ 11)
 
 -- an accepted line sets no budget below 2
 abbrev pub BudgetsAreTwo : Type 0
@@ -73,6 +95,11 @@ AcceptedIsDone = (words : List (List ℕ)) (files : List NamedFile) (end : Outco
 abbrev pub PicturesAreCertified : Type 0
 PicturesAreCertified = (words : List (List ℕ)) (files : List NamedFile) (end : Outcome) → IsTrue (is_some end.engine)
     → IsOutcome words files end → All IsCertified end.pictures
+
+-- the turns of a strip are as many as the tests of turns count
+abbrev pub TurnsAreCounted : Type 0
+TurnsAreCounted = (n lefts rights : ℕ) (has : ℕ → Bool) → IsClosed n has → HasTurns n (strip_of n has) lefts rights
+    → (left_turns n (strip_of n has) ≡ lefts) × (right_turns n (strip_of n has) ≡ rights)
 
 -- the headline: whatever the status, from what stands after each, each finished mesh is a best mesh of the state
 -- at its frame line

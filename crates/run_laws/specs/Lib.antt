@@ -1,6 +1,7 @@
 pub mod Walk
 pub mod Words
 pub mod Picture
+pub mod Turns
 pub mod ReportText
 pub mod Act
 pub mod Outcome
@@ -10,3 +11,5 @@ pub mod Cause
 pub mod Step
 pub mod Laws
 pub mod Examples
+pub mod CutShort
+pub mod Status

@@ -12,10 +12,10 @@ use Rattle.roam_gen.specs.Generated.{made_grid, made_lines}
 use Rattle.run_laws.specs.declared.status.Status.{Status}
 use Rattle.run_laws.specs.declared.status.Status.TheVariants.{Done, Usage, GridRefused, ScriptRefused}
 use Rattle.run_laws.specs.Walk.{Refusal, Walk, start_walk, walk_along, walk_of}
-use Rattle.run_laws.specs.Words.{Show, AsMeshes, AsSums, Scripted, Job, Frames, Facts, Command, OnGrid, Generated, command_of}
+use Rattle.run_laws.specs.Words.{Show, AsMeshes, AsStrips, AsLeast, AsMeasures, AsSums, Scripted, Job, Frames, Facts, Command, OnGrid, Generated, command_of}
 use Rattle.run_laws.specs.Act.{Act, WholeMesh, ReportText}
-use Rattle.run_laws.specs.Picture.{Picture, triangles_of, ArePictures, last_members}
-use Rattle.run_laws.specs.ReportText.{frame_line, try_line, info_line, grid_refusal, line_refusal}
+use Rattle.run_laws.specs.Picture.{Picture, triangles_of, strip_triangles, ArePictures, last_members}
+use Rattle.run_laws.specs.ReportText.{frame_line, strip_line, least_line, measure_line, try_line, info_line, grid_refusal, line_refusal}
 
 -- what an engine holds at the end: the state, how far the camera went, the frames made, the set of the
 -- last one, and the sums of their splits and merges
@@ -43,10 +43,15 @@ plain_outcome done last files = record { acts = done; status = last; opened = fi
 abbrev pub text_outcome : List ℕ → Status → ℕ → Outcome
 text_outcome bytes last files = plain_outcome (ReportText bytes ∷ []) last files
 
--- the acts of the frame of this number: its mesh, and then its line
+-- the acts of the frame of this number: its mesh, and then its line; or its line alone
 abbrev pub picture_acts : Show → ℕ → Picture → List Act
 picture_acts (AsMeshes prefix) number picture =
     WholeMesh prefix number (text_in picture.state (triangles_of picture)) ∷ (ReportText (frame_line number picture) ∷ [])
+picture_acts (AsStrips prefix) number picture =
+    WholeMesh prefix number (text_in picture.state (strip_triangles picture)) ∷ (ReportText (strip_line number picture) ∷ [])
+picture_acts (AsLeast prefix tolerance) number picture =
+    WholeMesh prefix number (text_in picture.state (triangles_of picture)) ∷ (ReportText (least_line number picture) ∷ [])
+picture_acts AsMeasures number picture = ReportText (measure_line number picture) ∷ []
 picture_acts (AsSums n seed) number picture = []
 
 -- the acts of frames, of which the first has this number
@@ -57,6 +62,9 @@ shown_acts show number (picture ∷ pictures) = picture_acts show number picture
 -- the acts behind all frames
 abbrev pub sum_acts : Show → List Picture → List Act
 sum_acts (AsMeshes prefix) pictures = []
+sum_acts (AsStrips prefix) pictures = []
+sum_acts (AsLeast prefix tolerance) pictures = []
+sum_acts AsMeasures pictures = []
 sum_acts (AsSums n seed) pictures = ReportText (try_line n seed pictures) ∷ []
 
 -- the refusal of a line, where one stopped the walk
@@ -79,9 +87,12 @@ engine_end walk pictures = record {
   merges = sum_by (λ (p : Picture). p.merges) pictures;
 }
 
--- the engine that is left where frames are shown so
+-- the engine that is left where frames are shown so; the meshes of a tolerance are made without one
 abbrev pub engine_for : Show → Walk → List Picture → Option EngineEnd
 engine_for (AsMeshes prefix) walk pictures = Some (engine_end walk pictures)
+engine_for (AsStrips prefix) walk pictures = Some (engine_end walk pictures)
+engine_for (AsLeast prefix tolerance) walk pictures = None
+engine_for AsMeasures walk pictures = Some (engine_end walk pictures)
 engine_for (AsSums n seed) walk pictures = Some (engine_end walk pictures)
 
 -- The outcome of a walk and its pictures: the frames in order, and then the refusal, if a line is refused.

@@ -1,17 +1,21 @@
 -- What a frame shows: the mesh of a state, what blocks a finer one, and what changed since the frame before.
 -- Source: the greedy algorithm of Duchaineau et al., "ROAMing Terrain", IEEE Visualization 1997; the rest is
 -- this project's own.
--- Words: Picture, triangles_of, mark_count, IsFrameFor, IsRebuilt, IsChange, IsChangeFor, IsPicture,
--- ArePictures, IsCertified.
-use Rattle.std.specs.Prelude.{◌≡◌, ℕ, ◌<◌, ◌↔◌, ⊤, List, [], ◌∷◌, length, count_by, Option, IsNone, IfSome, Contains}
+-- Words: Picture, triangles_of, strip_triangles, mark_count, IsLeastFrame, IsFrameFor, IsNotCounted, IsChangeFor, IsPicture, ArePictures,
+-- last_members, IsCertified.
+use Rattle.std.specs.Prelude.{◌≡◌, ℕ, ◌<◌, ◌↔◌, ⊤, Bool, List, [], ◌∷◌, count_by, Option, None, IsNone, IfSome, Contains}
 use Rattle.mesh_defs.specs.declared.mark.Mark.{Mark}
-use Rattle.mesh_defs.specs.ClosedSet.{leaves_of, among}
+use Rattle.mesh_defs.specs.ClosedSet.{IsLeastClosed, leaves_of, among}
+use Rattle.mesh_defs.specs.Priority.{worst_of}
 use Rattle.mesh_defs.specs.MeshText.{triangle_mark, is_same_mark}
 use Rattle.mesh_defs.specs.State.{State, priority_in}
 use Rattle.bintree_addr.specs.declared.blocked.Blocked.{Blocked}
 use Rattle.mesh_defs.specs.GridSet.{IsAscending}
 use Rattle.closure_laws.specs.Frame.{IsFrame}
-use Rattle.run_laws.specs.Words.{Show, AsMeshes, AsSums}
+use Rattle.frame_steps.specs.Steps.{IsFrameRun}
+use Rattle.strip_laws.specs.Strip.{strip_of}
+use Rattle.least_laws.specs.Least.{is_worse}
+use Rattle.run_laws.specs.Words.{Show, AsMeshes, AsStrips, AsLeast, AsMeasures, AsSums}
 
 -- what it shows; the triangles that are split, in ascending order; the greatest priority among the leaves; the
 -- triangle that blocks, with its need, if there is one; and how many splits and merges led there
@@ -27,32 +31,52 @@ pub record Picture : Type 0 where
 abbrev pub triangles_of : Picture → List ℕ
 triangles_of picture = leaves_of picture.state.grid.n (among picture.members)
 
+-- the same triangles in the order of their strip
+abbrev pub strip_triangles : Picture → List ℕ
+strip_triangles picture = strip_of picture.state.grid.n (among picture.members)
+
 -- how many of the triangles have this mark
 abbrev pub mark_count : State → Mark → List ℕ → ℕ
 mark_count state mark triangles =
     count_by (λ a. is_same_mark mark (triangle_mark state.grid.n state.grid.heights state.view.spacing state.view.planes a)) triangles
 
--- the frame that is shown so: that of the budget in force
+-- The frame of a tolerance, without a budget: the set is the least closed set of all triangles that are worse than the tolerance,
+-- worst is the greatest priority of its leaves, and nothing blocks.
+pub record IsLeastFrame (n tolerance : ℕ) (priority : ℕ → ℕ) (has : ℕ → Bool) (worst : ℕ) (blocked : Option Blocked) : Type 0 where
+  pub closure : IsLeastClosed n (is_worse n tolerance priority) has
+  pub greatest : worst ≡ worst_of priority (leaves_of n has)
+  pub unblocked : blocked ≡ None
+
+-- the frame that is shown so: that of the budget in force, or that of a tolerance
 abbrev pub IsFrameFor : Show → State → List ℕ → ℕ → Option Blocked → Type 0
 IsFrameFor (AsMeshes prefix) state members worst blocked =
+    IsFrame state.grid.n state.budget (priority_in state) (among members) worst blocked
+IsFrameFor (AsStrips prefix) state members worst blocked =
+    IsFrame state.grid.n state.budget (priority_in state) (among members) worst blocked
+IsFrameFor (AsLeast prefix tolerance) state members worst blocked =
+    IsLeastFrame state.grid.n tolerance (priority_in state) (among members) worst blocked
+IsFrameFor AsMeasures state members worst blocked =
     IsFrame state.grid.n state.budget (priority_in state) (among members) worst blocked
 IsFrameFor (AsSums n seed) state members worst blocked =
     IsFrame state.grid.n state.budget (priority_in state) (among members) worst blocked
 
--- each frame merges all that was split before and splits all that it shows
-pub record IsRebuilt (state : State) (before after : List ℕ) (splits merges : ℕ) : Type 0 where
-  pub all_split : splits ≡ length after
-  pub all_merged : merges ≡ length before
+-- no change is counted
+pub record IsNotCounted (splits merges : ℕ) : Type 0 where
+  pub no_splits : splits ≡ 0
+  pub no_merges : merges ≡ 0
 
--- How many splits and merges lead from the set before to the set after. Each mesh is made anew, so they are
--- those of a rebuild.
-abbrev pub IsChange : State → List ℕ → List ℕ → ℕ → ℕ → Type 0
-IsChange = IsRebuilt
-
--- the change that is counted where frames are shown so
+-- The change that is counted where frames are shown so: the triangles that the frame's steps split and merge, from the
+-- set of the frame before. The mesh of a tolerance is made without steps.
 abbrev pub IsChangeFor : Show → State → List ℕ → List ℕ → ℕ → ℕ → Type 0
-IsChangeFor (AsMeshes prefix) state before after splits merges = IsChange state before after splits merges
-IsChangeFor (AsSums n seed) state before after splits merges = IsChange state before after splits merges
+IsChangeFor (AsMeshes prefix) state before after splits merges =
+    IsFrameRun state.grid.n state.budget (priority_in state) before after splits merges
+IsChangeFor (AsStrips prefix) state before after splits merges =
+    IsFrameRun state.grid.n state.budget (priority_in state) before after splits merges
+IsChangeFor (AsLeast prefix tolerance) state before after splits merges = IsNotCounted splits merges
+IsChangeFor AsMeasures state before after splits merges =
+    IsFrameRun state.grid.n state.budget (priority_in state) before after splits merges
+IsChangeFor (AsSums n seed) state before after splits merges =
+    IsFrameRun state.grid.n state.budget (priority_in state) before after splits merges
 
 -- The picture of a state, where the frame before has split these triangles. There is one alone.
 pub record IsPicture (show : Show) (before : List ℕ) (state : State) (picture : Picture) : Type 0 where

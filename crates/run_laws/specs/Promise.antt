@@ -1,8 +1,8 @@
 -- What a run of `roam` promises, by its status.
 -- Words: Seen, seen, AreFiles, is_complete, ends_script, EndsAs, EndsRight, HasEnded, may_end, OpensForStatus,
--- IsUndecided, ScriptHasRead, JobHasRead, HasRead, FileReadFault, LeavesAtReadFault, AreFirstFrames,
--- IsEarlyOverFrames, IsEarly, HasReadHeader, LeavesAtNoMemory, IsAcceptedJob, IsAcceptedInput, IsAccepted.
-use Rattle.std.specs.Prelude.{◌≡◌, ◌≢◌, ⊤, ℕ, zero, suc, ◌+◌, ◌<◌, ◌≤◌, ◌⊎◌, Bool, true, false, nat_lt, IsTrue, List, [], ◌++◌, length, take, Option, Some, None, Ok, Err, slice_get}
+-- IsUndecided, ScriptHasRead, JobHasRead, HasRead, FileReadFault, LeavesAtReadFault, grids_named, HasReadHeader,
+-- LeavesAtNoMemory, IsAcceptedJob, IsAcceptedInput, IsAccepted, leaves_engine.
+use Rattle.std.specs.Prelude.{◌≡◌, ◌≢◌, ⊤, ℕ, zero, suc, ◌+◌, ◌<◌, ◌≤◌, ◌⊎◌, Bool, true, false, ◌&&◌, nat_lt, IsTrue, List, [], ◌++◌, length, take, Option, Some, None, Ok, Err, slice_get}
 use Rattle.mesh_defs.specs.HeightField.{HeightField, IsHeightField}
 use Rattle.roam_edge.specs.Shelf.{NamedFile, bytes_of}
 use Rattle.pgm_header.specs.declared.accepted.Header.{Header}
@@ -12,7 +12,7 @@ use Rattle.pgm_grid.specs.Progress.{grid_of}
 use Rattle.run_laws.specs.declared.status.Status.{Status}
 use Rattle.run_laws.specs.declared.status.Status.TheVariants.{Done, NoMemory, Usage, GridRefused, ScriptRefused, ReadFault, WriteFault}
 use Rattle.run_laws.specs.Walk.{AreWhole, HasBegun}
-use Rattle.run_laws.specs.Words.{Scripted, Job, Frames, Facts, Command, OnGrid, Generated, names_of, file_count, has_script, command_of}
+use Rattle.run_laws.specs.Words.{Scripted, Job, Frames, Facts, Command, OnGrid, Generated, names_of, file_count, has_script, is_of_engine, command_of}
 use Rattle.run_laws.specs.Picture.{Picture, ArePictures}
 use Rattle.run_laws.specs.Act.{Act, Told, Stands, IsCutShort}
 use Rattle.run_laws.specs.Outcome.{Outcome, shown_acts, script_walk, IsOutcome}
@@ -140,41 +140,26 @@ pub record LeavesAtReadFault (before now : Told) (old new : Seen) (words : List 
   pub before_script : (IsTrue (has_script command) → file ≡ 0) → Stands before now []
   pub at_file : (files : List NamedFile) → old.files ≡ Some files → FileReadFault before now new command files file
 
--- these acts are those of the first frames of a script
-abbrev pub AreFirstFrames : Command → List NamedFile → List Act → Type 0
-AreFirstFrames (OnGrid name (Frames s)) files stood =
-    (grid : HeightField) × (pictures : List Picture) × (made : ℕ) × (grid_of (bytes_of files name) ≡ Ok grid)
-    × ArePictures s.show [] (take made (script_walk s grid (bytes_of files s.script)).frames) pictures × (stood ≡ shown_acts s.show 1 pictures)
-AreFirstFrames _ files stood = ⊥
+-- the grid of a command, if it names one, is all that was opened by the time that all memory is taken
+abbrev pub grids_named : Command → ℕ
+grids_named (OnGrid name job) = 1
+grids_named (Generated n seed) = 0
 
--- memory ran out at any moment, and what stands is some of the first frames, whole
-pub record IsEarlyOverFrames (command : Command) (files : Option (List NamedFile)) (opened : ℕ) (stood : List Act) : Type 0 where
-  pub opened_before : stood ≢ [] → opened ≡ length (names_of command)
-  pub frames : (all : List NamedFile) → files ≡ Some all → (stood ≡ []) ⊎ AreFirstFrames command all stood
-
--- When memory may run out: while each frame takes memory, at any of them.
-abbrev pub IsEarly : Command → Option (List NamedFile) → ℕ → List Act → Type 0
-IsEarly = IsEarlyOverFrames
-
--- the bytes have a whole accepted header, and where nothing was opened after their file it was read
-abbrev pub HasReadHeader : List ℕ → ℕ → Option (List ℕ) → Type 0
-HasReadHeader bytes opened rest =
+-- the bytes have a whole accepted header, which was read
+abbrev pub HasReadHeader : List ℕ → Option (List ℕ) → Type 0
+HasReadHeader bytes rest =
     (header : Header) × (at : ℕ) × (behind : List ℕ) × HasHeader bytes header at behind
-    × (opened ≡ 1 → (unread : List ℕ) → rest ≡ Some unread → (read : List ℕ) × (behind ≡ read ++ unread))
+    × ((unread : List ℕ) → rest ≡ Some unread → (read : List ℕ) × (behind ≡ read ++ unread))
 
--- Memory ran out, which is free. It does so only for words of a command, and if they name a grid not before a
--- whole accepted header of it was read. What stands is whole acts of the run.
+-- Memory ran out, which is free. It does so only for words of a command, before a script is opened and before anything
+-- is written, and if they name a grid not before a whole accepted header of it was read.
 pub record LeavesAtNoMemory (before now : Told) (old new : Seen) (words : List (List ℕ)) : Type 0 where
   pub command : Command
-  pub opened : ℕ
-  pub stood : List Act
   pub is_command : command_of words ≡ Some command
-  pub count : new.opens ≡ old.opens + opened
-  pub early : IsEarly command old.files opened stood
-  pub stands : Stands before now stood
-  pub grid_opened : (name : List ℕ) (job : Job) → command ≡ OnGrid name job → 1 ≤ opened
+  pub count : new.opens ≡ old.opens + grids_named command
+  pub stands : Stands before now []
   pub header : (name : List ℕ) (job : Job) (files : List NamedFile) → command ≡ OnGrid name job → old.files ≡ Some files
-      → HasReadHeader (bytes_of files name) opened new.rest
+      → HasReadHeader (bytes_of files name) new.rest
 
 -- what a job reads is accepted: each line of its script
 abbrev pub IsAcceptedJob : Job → HeightField → List NamedFile → Type 0
@@ -190,3 +175,10 @@ IsAcceptedInput (Generated n seed) files = ⊤
 -- the words are a command, and what it reads is accepted
 abbrev pub IsAccepted : List (List ℕ) → List NamedFile → Type 0
 IsAccepted words files = (command : Command) × (command_of words ≡ Some command) × IsAcceptedInput command files
+
+-- an engine is left where it made the frames and all lines were carried out
+abbrev pub leaves_engine : Option Command → Status → Bool
+leaves_engine (Some (OnGrid name (Frames s))) status = is_of_engine s.show && ends_script status
+leaves_engine (Some (OnGrid name Facts)) status = false
+leaves_engine (Some (Generated n seed)) status = ends_script status
+leaves_engine None status = false

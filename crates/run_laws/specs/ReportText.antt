@@ -1,7 +1,7 @@
 -- The lines of the report. This project's own; each ends with one LF (10).
--- Words: blocked_text, marks_text, frame_line, all_triangles, worst_in, count_blocked, sums_line, try_line,
--- info_line, grid_fault_text, grid_refusal, script_fault_text, line_refusal.
-use Rattle.std.specs.Prelude.{ℕ, max, is_some, List, [], ◌∷◌, ◌++◌, length, map, sum_by, count_by, Option, Some, None, codes, decimal}
+-- Words: blocked_text, marks_text, frame_line, strip_line, least_line, measure_line, all_triangles, worst_in, count_blocked, sums_line,
+-- try_line, info_line, grid_fault_text, grid_refusal, script_fault_text, line_refusal.
+use Rattle.std.specs.Prelude.{ℕ, ◌^◌, max, is_some, List, [], ◌∷◌, ◌++◌, length, map, sum_by, count_by, Option, Some, None, codes, decimal}
 use Rattle.mesh_defs.specs.declared.mark.Mark.TheVariants.{Inside, Cut, Outside}
 use Rattle.mesh_defs.specs.HeightField.{HeightField, side_of}
 use Rattle.mesh_defs.specs.View.{ViewPlane}
@@ -15,7 +15,9 @@ use Rattle.bintree_addr.specs.declared.blocked.Blocked.{Blocked}
 use Rattle.roam_script.specs.declared.script_fault.ScriptFault.{ScriptFault}
 use Rattle.roam_script.specs.declared.script_fault.ScriptFault.TheVariants.{LineTooLong, UnknownCommand, WrongFields, BadNumber, OutOfRange, TooManyLines, TooManyFrames, TooManyPlanes}
 use Rattle.run_laws.specs.Walk.{Refusal}
-use Rattle.run_laws.specs.Picture.{Picture, triangles_of, mark_count}
+use Rattle.deviation_laws.specs.PlaneHeight.{deviation_of, thickest_of}
+use Rattle.run_laws.specs.Picture.{Picture, triangles_of, strip_triangles, mark_count}
+use Rattle.run_laws.specs.Turns.{left_turns, right_turns}
 
 -- `none`; or `A needs L`: the address of the triangle that blocks, and the number of triangles that it needs
 abbrev pub blocked_text : Option Blocked → List ℕ
@@ -37,6 +39,30 @@ frame_line number picture =
     ++ codes " vertices " ++ decimal (length (vertices_of picture.state.grid.n triangles)) ++ codes " worst " ++ decimal picture.worst
     ++ codes " splits " ++ decimal picture.splits ++ codes " merges " ++ decimal picture.merges
     ++ codes " blocked " ++ blocked_text picture.blocked ++ marks_text picture.state picture.state.view.planes triangles ++ codes "\n"
+
+-- `strip K triangles T left A right B`: how many triangles the strip has, and how many turns to either side
+abbrev pub strip_line : ℕ → Picture → List ℕ
+strip_line number picture =
+    let order : List ℕ = strip_triangles picture in
+    codes "strip " ++ decimal number ++ codes " triangles " ++ decimal (length order)
+    ++ codes " left " ++ decimal (left_turns picture.state.grid.n order) ++ codes " right " ++ decimal (right_turns picture.state.grid.n order)
+    ++ codes "\n"
+
+-- `frame K least T vertices V worst W`
+abbrev pub least_line : ℕ → Picture → List ℕ
+least_line number picture =
+    let triangles : List ℕ = triangles_of picture in
+    codes "frame " ++ decimal number ++ codes " least " ++ decimal (length triangles)
+    ++ codes " vertices " ++ decimal (length (vertices_of picture.state.grid.n triangles)) ++ codes " worst " ++ decimal picture.worst ++ codes "\n"
+
+-- `measure K deviation N over M thickness E`: N over M is how far the surface is from the mesh at a grid point at most, in units
+-- of height, where M is 2^n; E is the greatest thickness of a triangle, in half units of height. The fraction is not reduced.
+abbrev pub measure_line : ℕ → Picture → List ℕ
+measure_line number picture =
+    let triangles : List ℕ = triangles_of picture in
+    let n : ℕ = picture.state.grid.n in
+    codes "measure " ++ decimal number ++ codes " deviation " ++ decimal (deviation_of n picture.state.grid.heights triangles)
+    ++ codes " over " ++ decimal (2 ^ n) ++ codes " thickness " ++ decimal (thickest_of n picture.state.grid.heights triangles) ++ codes "\n"
 
 -- how many triangles the meshes of pictures have, all together
 abbrev pub all_triangles : List Picture → ℕ

@@ -1,15 +1,19 @@
 -- The words of a command line that are a command. This project's own.
 -- Words: Show, Scripted, Job, Command, job_files, names_of, file_count, is_scripted, has_script, is_of_engine,
 -- prefix_of, is_prefix, within, number_word, least_budget, greatest_budget, greatest_spacing, greatest_level, greatest_seed,
--- frames_command, try_command, command_of.
+-- greatest_tolerance, budget_word, spacing_word, frames_command, meshes_command, try_command, command_of.
 use Rattle.std.specs.Prelude.{ℕ, Bool, true, false, ◌&&◌, nat_le, if◌then◌else◌, List, [], ◌∷◌, length, Option, Some, None, codes, bytes_eq}
 use Rattle.roam_edge.specs.declared.mesh_sink.TheConstants.{LONGEST_PREFIX}
 use Rattle.roam_num.specs.DecText.{number_in}
 
--- how frames are shown: as meshes whose names begin with this prefix; or by their sums alone, of a run that is
--- generated from this level and seed
+-- how frames are shown: as meshes whose names begin with this prefix, of a budget, with the triangles depth first or in the
+-- order of a strip, or of a tolerance; by how far the meshes of a budget are from the surface; or by their sums alone, of a
+-- run that is generated from this level and seed
 pub data Show : Type 0 where
   AsMeshes : (prefix : List ℕ) → Show
+  AsStrips : (prefix : List ℕ) → Show
+  AsLeast : (prefix : List ℕ) (tolerance : ℕ) → Show
+  AsMeasures : Show
   AsSums : (n seed : ℕ) → Show
 
 -- the frames of a script: its name, the greatest budget, how many world units a grid step has, and how
@@ -54,9 +58,20 @@ abbrev pub has_script : Command → Bool
 has_script (OnGrid grid job) = is_scripted job
 has_script (Generated n seed) = false
 
+-- an engine makes the frames that are shown so; the meshes of a tolerance are made without one
+abbrev pub is_of_engine : Show → Bool
+is_of_engine (AsMeshes prefix) = true
+is_of_engine (AsStrips prefix) = true
+is_of_engine (AsLeast prefix tolerance) = false
+is_of_engine AsMeasures = true
+is_of_engine (AsSums n seed) = true
+
 -- what the names of meshes begin with, where meshes are shown
 abbrev pub prefix_of : Show → Option (List ℕ)
 prefix_of (AsMeshes prefix) = Some prefix
+prefix_of (AsStrips prefix) = Some prefix
+prefix_of (AsLeast prefix tolerance) = Some prefix
+prefix_of AsMeasures = None
 prefix_of (AsSums n seed) = None
 
 -- a prefix has at least 1 byte, and no more than a mesh sink takes
@@ -78,6 +93,10 @@ least_budget = 2
 
 abbrev pub greatest_budget : ℕ
 greatest_budget = 1048576
+
+-- the greatest tolerance, as a priority
+abbrev pub greatest_tolerance : ℕ
+greatest_tolerance = 999999999999
 
 -- the greatest spacing, in world units a grid step
 abbrev pub greatest_spacing : ℕ
@@ -106,6 +125,7 @@ frames_command grid_name script_name shown _ _ = None
 abbrev pub meshes_command : List ℕ → List ℕ → List ℕ → List ℕ → List ℕ → List ℕ → Option Command
 meshes_command word i j prefix number step =
     if bytes_eq word (codes "mesh") then frames_command i j (AsMeshes prefix) (budget_word number) (spacing_word step)
+    else if bytes_eq word (codes "strip") then frames_command i j (AsStrips prefix) (budget_word number) (spacing_word step)
     else None
 
 -- the generated run, if level and seed are there
@@ -113,11 +133,13 @@ abbrev pub try_command : Option ℕ → Option ℕ → Option Command
 try_command (Some n) (Some seed) = Some (Generated n seed)
 try_command _ _ = None
 
--- The command that the words are, None of other words: `info GRID`, `try N SEED`, or
--- `mesh GRID SCRIPT PREFIX BUDGET SPACING`.
+-- The command that the words are, None of other words: `info GRID`, `try N SEED`, `mesh GRID SCRIPT PREFIX BUDGET SPACING`,
+-- `strip GRID SCRIPT PREFIX BUDGET SPACING`, or `measure GRID SCRIPT BUDGET SPACING`.
 abbrev pub command_of : List (List ℕ) → Option Command
 command_of (word ∷ (i ∷ [])) = if bytes_eq word (codes "info") then Some (OnGrid i Facts) else None
 command_of (word ∷ (i ∷ (j ∷ []))) =
     if bytes_eq word (codes "try") then try_command (number_word 1 greatest_level i) (number_word 0 greatest_seed j) else None
+command_of (word ∷ (i ∷ (j ∷ (k ∷ (l ∷ []))))) =
+    if bytes_eq word (codes "measure") then frames_command i j AsMeasures (budget_word k) (spacing_word l) else None
 command_of (word ∷ (i ∷ (j ∷ (k ∷ (l ∷ (m ∷ [])))))) = if is_prefix k then meshes_command word i j k l m else None
 command_of _ = None

@@ -1,9 +1,10 @@
 //! Laws of the definitions, as clauses of functions with empty bodies.
 
-ghost use Rattle.run_laws.specs.Examples.{WrongFieldsStop, FirstLinesAreRefused, CountsAreBounded, SeventhPlaneStops, BudgetsAreInForce, AreasAreRaised, WaysAreAddedUp};
-ghost use Rattle.run_laws.specs.Laws.{WalksGoOn, PicturesGoOn, FramesExistFrom, BudgetsAreTwo, OutcomesAreUnique, OutcomesExist, AcceptedIsDone, PicturesAreCertified, HeadlineFollows};
+ghost use Rattle.run_laws.specs.Examples.{WrongFieldsStop, FirstLinesAreRefused, CountsAreBounded, SeventhPlaneStops, BudgetsAreInForce, AreasAreRaised, WaysAreAddedUp, TurnsOfStrips, MeshesAreMeasured};
+ghost use Rattle.run_laws.specs.Laws.{WalksGoOn, PicturesGoOn, FramesExistFrom, RunsAreUnique, SetsStayClosed, LevelsAreInRange, BudgetsAreTwo, OutcomesAreUnique, OutcomesExist, AcceptedIsDone, PicturesAreCertified, HeadlineFollows, TurnsAreCounted};
 
-use closure_laws::{existence_laws, frame_laws, member_laws};
+use closure_laws::{frame_laws, member_laws};
+use frame_steps as steps;
 use pgm_grid::grids_and_texts;
 use plain_mesh::falling_laws;
 use roam_script::line_laws;
@@ -14,12 +15,18 @@ pub fn walk_laws()
     ensures pictures { PicturesGoOn }
 {}
 
-/// Each budget has a frame, and no line sets a budget below 2: so each state of a script has a picture.
+/// From each closed set the steps of a frame lead to the frame of a state, whose set is closed again, and no line sets a
+/// budget below 2: so each state of a script has a picture.
 pub fn state_laws()
     ensures frames { FramesExistFrom 2 }
+    ensures runs { RunsAreUnique }
+    ensures sets { SetsStayClosed }
+    ensures levels { LevelsAreInRange }
     ensures budgets { BudgetsAreTwo }
 {
-    existence_laws();
+    steps::frame_laws();
+    falling_laws();
+    grids_and_texts();
     line_laws();
 }
 
@@ -39,6 +46,11 @@ pub fn run_laws()
     falling_laws();
 }
 
+/// How many turns a strip takes to either side is what the tests of turns count.
+pub fn turn_count_laws()
+    ensures counts { TurnsAreCounted }
+{}
+
 /// What small scripts come to, worked by hand.
 pub fn script_examples()
     ensures wrong_fields { WrongFieldsStop }
@@ -48,4 +60,10 @@ pub fn script_examples()
     ensures budgets { BudgetsAreInForce }
     ensures areas { AreasAreRaised }
     ensures ways { WaysAreAddedUp }
+{}
+
+/// What small meshes are measured to be, worked by hand: the turns of strips, deviations and thicknesses.
+pub fn measure_examples()
+    ensures turns { TurnsOfStrips }
+    ensures measured { MeshesAreMeasured }
 {}

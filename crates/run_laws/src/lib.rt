@@ -6,8 +6,12 @@
 
 #![tactic(auto)]
 
+mod cut_short;
 mod laws;
 mod status;
 
-pub use laws::{run_laws, script_examples, state_laws, walk_laws};
+pub use cut_short::cut_short_laws;
+pub use laws::{
+    measure_examples, run_laws, script_examples, state_laws, turn_count_laws, walk_laws,
+};
 pub use status::Status;

@@ -1,12 +1,15 @@
 //! How a run ends.
 
+ghost use Rattle.std.specs.Prelude.{◌≡◌};
+ghost use Rattle.run_laws.specs.Status.{exit_status};
+
 /// How a run ended. Its number is the exit status of the program.
 #[derive(Clone, Copy, Debug, PartialEq, Eq)]
 pub enum Status {
     /// The command was carried out, and its script, where it has one, was read to its end.
     Done = 0,
-    /// Out of memory. Free to come at any time, but where the words name a grid only once a whole accepted
-    /// header of it was read.
+    /// Out of memory. Nothing was written. It is free to come for words of a command before its script is opened, but where
+    /// the words name a grid only once a whole accepted header of it was read.
     NoMemory = 1,
     /// The words are no command. Nothing was opened or written.
     Usage = 2,
@@ -18,4 +21,13 @@ pub enum Status {
     ReadFault = 5,
     /// A mesh or the report could not be written.
     WriteFault = 6,
+}
+
+impl Status {
+    /// The exit status of the program for a run that ended so.
+    pub fn number(self) -> u8
+        ensures { result ≡ exit_status self }
+    {
+        self as u8
+    }
 }

@@ -12,25 +12,28 @@ same-place n seed k line is =
     let e : k + 1 - 1 ≡ k = omega arith in
     subst P e is
 
-pub apply-requires : goal.apply-requires
-apply-requires c =
+pub carry_out-requires : goal.carry_out-requires
+carry_out-requires c =
     let here = c.requires.here in
     record {
-      ranges = made-ranges c.args.n c.args.scene.now c.gen_line.result (line_at c.args.n c.args.seed (c.args.k + 1)) here.level here.heights c.gen_line.ensures.there
+      other = c.in_default.not-Frame;
+      ranges = made-ranges c.args.n c.args.engine.now c.gen_line.result (line_at c.args.n c.args.seed (c.args.k + 1)) here.level here.heights c.gen_line.ensures.there
           (c.generator_laws.ensures.ranges c.args.n c.args.seed (c.args.k + 1) c.requires.n_high (omega arith) (let e = c.requires.k in omega (arith, e)));
+      near = here.camera;
+      far = (let e = c.requires.k in let o = here.few.gone in omega (arith, e, o));
     }
 
-pub returns-in_ok-make-in-Frame : goal.returns-in_ok-make-in-Frame
-returns-in_ok-make-in-Frame c =
+pub returns-in-Frame : goal.returns-in-Frame
+returns-in-Frame c =
     let add = c.add.ensures in
-    gone-frame c.args.n c.args.seed c.args.k c.args.scene.now c.args.sums.now c.requires.here c.in_ok-make-in-Frame.field-0 c.add.new.self
-    (same-place c.args.n c.args.seed c.args.k c.gen_line.result c.gen_line.ensures.value ∙ ap Some c.in-Frame.is)
-    c.in_ok-make-in-Frame.ensures add.frames add.triangles add.few add.worst add.blocked
+    gone-frame c.args.n c.args.seed c.args.k c.args.engine.now c.args.sums.now c.requires.here c.frame.new.self c.frame.result c.add.new.self
+    (same-place c.args.n c.args.seed c.args.k c.gen_line.result c.gen_line.ensures.value ∙ ap Some c.in-Frame.is) c.frame.ensures
+    add.frames add.triangles add.few add.worst add.blocked
 
 pub returns-in_default : goal.returns-in_default
 returns-in_default c =
-    gone-other c.args.n c.args.seed c.args.k c.args.scene.now c.args.sums.now c.requires.here c.apply.new.self c.gen_line.result
+    gone-other c.args.n c.args.seed c.args.k c.args.engine.now c.args.sums.now c.requires.here c.carry_out.new.engine c.gen_line.result
     (line_at c.args.n c.args.seed (c.args.k + 1)) (same-place c.args.n c.args.seed c.args.k c.gen_line.result c.gen_line.ensures.value)
     c.in_default.not-Frame c.gen_line.ensures.there
     (c.generator_laws.ensures.ranges c.args.n c.args.seed (c.args.k + 1) c.requires.n_high (omega arith) (let e = c.requires.k in omega (arith, e)))
-    c.apply.ensures
+    c.carry_out.ensures

@@ -1,7 +1,10 @@
 use Rattle.std.proofs.Common.{◌≡◌, ℕ, List, map, string_bytes, Some, None, refl, sym, ◌∙◌, ap, arith}
 use Rattle.run_laws.specs.Words.{Command, OnGrid, Generated, Frames, Facts, command_of}
+use Rattle.run_laws.specs.declared.status.Status.TheVariants.{Usage}
+use Rattle.run_laws.specs.Promise.{seen}
 use Rattle.roam_run.specs.WordView.{scripted_seen, command_seen}
-use Rattle.roam_run.proofs.TopLemmas.{told-files, usage-ends, words-end, words-read_fault, words-no_memory, not-read, not-write, write-cause, accepted-done}
+use Rattle.roam_run.proofs.TopLemmas.{told-files, usage-ends, usage-engine, words-end, words-engine, words-left, words-read_fault, words-no_memory, not-read, not-write, write-cause, accepted-done}
+use Rattle.roam_run.proofs.ShowingLemmas.{frames-left}
 use Rattle.roam_run.proofs.run.roam.Goals as goal
 
 pub returns-in-None-clause-outcome : goal.returns-in-None-clause-outcome
@@ -12,36 +15,46 @@ returns-in-None-clause-outcome g c files are =
 pub returns-in-None-clause-certificate : goal.returns-in-None-clause-certificate
 returns-in-None-clause-certificate g c files end = c.run_laws.ensures.certificate (map string_bytes c.args.words.now) files end
 
-pub returns-in-Some-Mesh-clause-best : goal.returns-in-Some-Mesh-clause-best
-returns-in-Some-Mesh-clause-best g c files all run grid told_files told_meshes is_run =
+pub returns-in-None-clause-engine : goal.returns-in-None-clause-engine
+returns-in-None-clause-engine g c =
+    let is_none : command_of (map string_bytes c.args.words.now) ≡ None = sym c.in-None.ensures.value in
+    words-left (map string_bytes c.args.words.now) None None Usage is_none ((λ e. e), (λ e. e))
+
+pub returns-in-None-clause-engine_end : goal.returns-in-None-clause-engine_end
+returns-in-None-clause-engine_end g c files end are outcome complete =
+    let is_none : command_of (map string_bytes c.args.words.now) ≡ None = sym c.in-None.ensures.value in
+    usage-engine (map string_bytes c.args.words.now) files is_none end outcome
+
+pub returns-in-Some-Frames-clause-best : goal.returns-in-Some-Frames-clause-best
+returns-in-Some-Frames-clause-best g c files all run grid told_files told_meshes is_run =
     let words : List (List ℕ) = map string_bytes c.args.words.now in
-    let command : Command = OnGrid c.in-Some-Mesh.command.grid.now (Frames (scripted_seen c.in-Some-Mesh.command)) in
+    let command : Command = OnGrid c.in-Some-Frames.command.grid.now (Frames (scripted_seen c.in-Some-Frames.command)) in
     let is_command : command_of words ≡ Some command =
-    sym c.in-Some-Mesh.ensures.value ∙ ap (λ command. Some (command_seen command)) c.in-Some-Mesh.field-0-is in
+    sym c.in-Some-Frames.ensures.value ∙ ap (λ command. Some (command_seen command)) c.in-Some-Frames.field-0-is in
     c.run_laws.ensures.headline words files run grid _ _ _ _ all _ is_run told_files told_meshes
-    (words-end _ _ _ _ words command is_command files _ (c.run_mesh-status.ensures.outcome files told_files))
-    (λ e. words-read_fault _ _ _ _ words command is_command (c.run_mesh-status.ensures.read_fault e))
-    (λ e. words-no_memory _ _ _ _ words command is_command (c.run_mesh-status.ensures.no_memory e))
+    (words-end _ _ _ _ words command is_command files _ _ (c.run_frames.ensures.outcome files told_files))
+    (λ e. words-read_fault _ _ _ _ words command is_command (c.run_frames.ensures.read_fault e))
+    (λ e. words-no_memory _ _ _ _ words command is_command (c.run_frames.ensures.no_memory e))
 
-pub returns-in-Some-Mesh-clause-outcome : goal.returns-in-Some-Mesh-clause-outcome
-returns-in-Some-Mesh-clause-outcome g c files are =
+pub returns-in-Some-Frames-clause-outcome : goal.returns-in-Some-Frames-clause-outcome
+returns-in-Some-Frames-clause-outcome g c files are =
     let words : List (List ℕ) = map string_bytes c.args.words.now in
-    let command : Command = OnGrid c.in-Some-Mesh.command.grid.now (Frames (scripted_seen c.in-Some-Mesh.command)) in
+    let command : Command = OnGrid c.in-Some-Frames.command.grid.now (Frames (scripted_seen c.in-Some-Frames.command)) in
     let is_command : command_of words ≡ Some command =
-    sym c.in-Some-Mesh.ensures.value ∙ ap (λ command. Some (command_seen command)) c.in-Some-Mesh.field-0-is in
-    words-end _ _ _ _ words command is_command files _
-    (c.run_mesh-status.ensures.outcome files (told-files _ words files _ _ is_command are))
+    sym c.in-Some-Frames.ensures.value ∙ ap (λ command. Some (command_seen command)) c.in-Some-Frames.field-0-is in
+    words-end _ _ _ _ words command is_command files _ _
+    (c.run_frames.ensures.outcome files (told-files _ words files _ _ is_command are))
 
-pub returns-in-Some-Mesh-clause-complete : goal.returns-in-Some-Mesh-clause-complete
-returns-in-Some-Mesh-clause-complete g c files are accepted shelf_same meshes_same report_same =
+pub returns-in-Some-Frames-clause-complete : goal.returns-in-Some-Frames-clause-complete
+returns-in-Some-Frames-clause-complete g c files are accepted shelf_same meshes_same report_same =
     let words : List (List ℕ) = map string_bytes c.args.words.now in
-    let cause = c.run_mesh-status.ensures.faults in
-    accepted-done c.run_laws.ensures.done _ _ _ _ words files accepted _ (returns-in-Some-Mesh-clause-outcome g c files are)
+    let cause = c.run_frames.ensures.faults in
+    accepted-done c.run_laws.ensures.done _ _ _ _ words files accepted _ (returns-in-Some-Frames-clause-outcome g c files are)
     (not-read _ _ _ _ _ _ _ c.requires.shelf_faults shelf_same cause)
     (not-write _ _ _ _ _ _ _ c.requires.mesh_faults c.requires.report_faults meshes_same report_same cause)
 
-pub returns-in-Some-Mesh-clause-certificate : goal.returns-in-Some-Mesh-clause-certificate
-returns-in-Some-Mesh-clause-certificate g c files end = c.run_laws.ensures.certificate (map string_bytes c.args.words.now) files end
+pub returns-in-Some-Frames-clause-certificate : goal.returns-in-Some-Frames-clause-certificate
+returns-in-Some-Frames-clause-certificate g c files end = c.run_laws.ensures.certificate (map string_bytes c.args.words.now) files end
 
 pub returns-in-Some-Info-clause-outcome : goal.returns-in-Some-Info-clause-outcome
 returns-in-Some-Info-clause-outcome g c files are =
@@ -49,7 +62,7 @@ returns-in-Some-Info-clause-outcome g c files are =
     let command : Command = OnGrid c.in-Some-Info.grid.now Facts in
     let is_command : command_of words ≡ Some command =
     sym c.in-Some-Info.ensures.value ∙ ap (λ command. Some (command_seen command)) c.in-Some-Info.field-0-is in
-    words-end _ _ _ _ words command is_command files _
+    words-end _ _ _ _ words command is_command files _ _
     (c.run_info-status.ensures.outcome (g.M.MeshSink.meshes c.args.meshes.now) files (told-files _ words files _ _ is_command are))
 
 pub returns-in-Some-Info-clause-read_fault : goal.returns-in-Some-Info-clause-read_fault
@@ -85,8 +98,8 @@ returns-in-Some-Try-clause-outcome g c files are =
     let command : Command = Generated c.in-Some-Try.n c.in-Some-Try.seed in
     let is_command : command_of words ≡ Some command =
     sym c.in-Some-Try.ensures.value ∙ ap (λ command. Some (command_seen command)) c.in-Some-Try.field-0-is in
-    words-end _ _ _ _ words command is_command files _
-    (c.run_try-status.ensures.outcome (g.M.MeshSink.meshes c.args.meshes.now) _ files)
+    words-end _ _ _ _ words command is_command files _ _
+    (c.run_try.ensures.outcome (g.M.MeshSink.meshes c.args.meshes.now) _ files)
 
 pub returns-in-Some-Try-clause-no_memory : goal.returns-in-Some-Try-clause-no_memory
 returns-in-Some-Try-clause-no_memory g c e =
@@ -94,12 +107,12 @@ returns-in-Some-Try-clause-no_memory g c e =
     let command : Command = Generated c.in-Some-Try.n c.in-Some-Try.seed in
     let is_command : command_of words ≡ Some command =
     sym c.in-Some-Try.ensures.value ∙ ap (λ command. Some (command_seen command)) c.in-Some-Try.field-0-is in
-    words-no_memory _ _ _ _ words command is_command (c.run_try-status.ensures.no_memory e (g.M.MeshSink.meshes c.args.meshes.now) _)
+    words-no_memory _ _ _ _ words command is_command (c.run_try.ensures.no_memory e (g.M.MeshSink.meshes c.args.meshes.now) _)
 
 pub returns-in-Some-Try-clause-complete : goal.returns-in-Some-Try-clause-complete
 returns-in-Some-Try-clause-complete g c files are accepted shelf_same meshes_same report_same =
     let words : List (List ℕ) = map string_bytes c.args.words.now in
-    let cause = c.run_try-status.ensures.faults (g.F.Shelf.faults c.args.shelf.now) (g.M.MeshSink.faults c.args.meshes.now) in
+    let cause = c.run_try.ensures.faults (g.F.Shelf.faults c.args.shelf.now) (g.M.MeshSink.faults c.args.meshes.now) in
     accepted-done c.run_laws.ensures.done _ _ _ _ words files accepted _ (returns-in-Some-Try-clause-outcome g c files are)
     (not-read _ _ _ _ _ _ _ c.requires.shelf_faults shelf_same cause)
     (not-write _ _ _ _ _ _ _ c.requires.mesh_faults c.requires.report_faults meshes_same report_same cause)
@@ -108,9 +121,60 @@ pub returns-in-Some-Try-clause-certificate : goal.returns-in-Some-Try-clause-cer
 returns-in-Some-Try-clause-certificate g c files end = c.run_laws.ensures.certificate (map string_bytes c.args.words.now) files end
 
 pub returns-in-Some-Try-clause-faults : goal.returns-in-Some-Try-clause-faults
-returns-in-Some-Try-clause-faults g c = c.run_try-status.ensures.faults (g.F.Shelf.faults c.args.shelf.now) (g.M.MeshSink.faults c.args.meshes.now)
+returns-in-Some-Try-clause-faults g c = c.run_try.ensures.faults (g.F.Shelf.faults c.args.shelf.now) (g.M.MeshSink.faults c.args.meshes.now)
 
 pub returns-in-Some-Try-clause-write_cause : goal.returns-in-Some-Try-clause-write_cause
 returns-in-Some-Try-clause-write_cause g c =
     write-cause _ _ _ _ c.requires.mesh_faults c.requires.report_faults
-    (c.run_try-status.ensures.faults (g.F.Shelf.faults c.args.shelf.now) (g.M.MeshSink.faults c.args.meshes.now)).writes
+    (c.run_try.ensures.faults (g.F.Shelf.faults c.args.shelf.now) (g.M.MeshSink.faults c.args.meshes.now)).writes
+
+pub returns-in-Some-Frames-clause-engine : goal.returns-in-Some-Frames-clause-engine
+returns-in-Some-Frames-clause-engine g c =
+    let words : List (List ℕ) = map string_bytes c.args.words.now in
+    let command : Command = OnGrid c.in-Some-Frames.command.grid.now (Frames (scripted_seen c.in-Some-Frames.command)) in
+    let is_command : command_of words ≡ Some command =
+    sym c.in-Some-Frames.ensures.value ∙ ap (λ command. Some (command_seen command)) c.in-Some-Frames.field-0-is in
+    words-left words (Some command) _ _ is_command (frames-left c.in-Some-Frames.command.showing _ c.run_frames.result.status c.run_frames.ensures.engine)
+
+pub returns-in-Some-Frames-clause-engine_end : goal.returns-in-Some-Frames-clause-engine_end
+returns-in-Some-Frames-clause-engine_end g c files end are is_outcome complete =
+    let words : List (List ℕ) = map string_bytes c.args.words.now in
+    let command : Command = OnGrid c.in-Some-Frames.command.grid.now (Frames (scripted_seen c.in-Some-Frames.command)) in
+    let is_command : command_of words ≡ Some command =
+    sym c.in-Some-Frames.ensures.value ∙ ap (λ command. Some (command_seen command)) c.in-Some-Frames.field-0-is in
+    words-engine _ _ _ _ words command is_command c.run_laws.ensures.one_outcome tt files _ _
+    (c.run_frames.ensures.outcome files (told-files _ words files _ _ is_command are)) end is_outcome complete
+
+pub returns-in-Some-Info-clause-engine : goal.returns-in-Some-Info-clause-engine
+returns-in-Some-Info-clause-engine g c =
+    let words : List (List ℕ) = map string_bytes c.args.words.now in
+    let command : Command = OnGrid c.in-Some-Info.grid.now Facts in
+    let is_command : command_of words ≡ Some command =
+    sym c.in-Some-Info.ensures.value ∙ ap (λ command. Some (command_seen command)) c.in-Some-Info.field-0-is in
+    words-left words (Some command) None c.run_info-status.result is_command ((λ e. e), (λ e. e))
+
+pub returns-in-Some-Info-clause-engine_end : goal.returns-in-Some-Info-clause-engine_end
+returns-in-Some-Info-clause-engine_end g c files end are is_outcome complete =
+    let words : List (List ℕ) = map string_bytes c.args.words.now in
+    let command : Command = OnGrid c.in-Some-Info.grid.now Facts in
+    let is_command : command_of words ≡ Some command =
+    sym c.in-Some-Info.ensures.value ∙ ap (λ command. Some (command_seen command)) c.in-Some-Info.field-0-is in
+    words-engine _ _ _ _ words command is_command c.run_laws.ensures.one_outcome tt files _ _
+    (c.run_info-status.ensures.outcome (g.M.MeshSink.meshes c.args.meshes.now) files (told-files _ words files _ _ is_command are)) end is_outcome complete
+
+pub returns-in-Some-Try-clause-engine : goal.returns-in-Some-Try-clause-engine
+returns-in-Some-Try-clause-engine g c =
+    let words : List (List ℕ) = map string_bytes c.args.words.now in
+    let command : Command = Generated c.in-Some-Try.n c.in-Some-Try.seed in
+    let is_command : command_of words ≡ Some command =
+    sym c.in-Some-Try.ensures.value ∙ ap (λ command. Some (command_seen command)) c.in-Some-Try.field-0-is in
+    words-left words (Some command) _ _ is_command c.run_try.ensures.engine
+
+pub returns-in-Some-Try-clause-engine_end : goal.returns-in-Some-Try-clause-engine_end
+returns-in-Some-Try-clause-engine_end g c files end are is_outcome complete =
+    let words : List (List ℕ) = map string_bytes c.args.words.now in
+    let command : Command = Generated c.in-Some-Try.n c.in-Some-Try.seed in
+    let is_command : command_of words ≡ Some command =
+    sym c.in-Some-Try.ensures.value ∙ ap (λ command. Some (command_seen command)) c.in-Some-Try.field-0-is in
+    words-engine _ _ _ _ words command is_command c.run_laws.ensures.one_outcome tt files _ _
+    (c.run_try.ensures.outcome (g.M.MeshSink.meshes c.args.meshes.now) (seen (g.F.Shelf.files c.args.shelf.now) (g.F.Shelf.rest c.args.shelf.now) (g.F.Shelf.opens c.args.shelf.now) (g.F.Shelf.ended c.args.shelf.now)) files) end is_outcome complete

@@ -2,24 +2,22 @@ use Rattle.std.proofs.Common.{◌≡◌, ◌++◌, ℕ, List, [], Some, take, dr
 use Rattle.std.proofs.lemmas.Grind.{common_steps}
 use Rattle.roam_edge.specs.Shelf.{bytes_of}
 use Rattle.run_laws.specs.declared.status.Status.{Status}
-use Rattle.run_laws.specs.Walk.{walk_of}
-use Rattle.run_laws.specs.Words.{AsMeshes}
+use Rattle.roam_run.specs.ShowView.{show_seen}
 use Rattle.run_laws.specs.Act.{told}
-use Rattle.run_laws.specs.Outcome.{Outcome, IsFramesOutcome}
-use Rattle.roam_run.specs.Taking.{DoesAs, AreFirst, EndsScript}
+use Rattle.roam_run.specs.Taking.{EndsScript}
 use Rattle.roam_run.proofs.ReadingLemmas.{front-read}
-use Rattle.roam_run.proofs.EndLemmas.{begins-at, file-cut, stops-reading, ended-file, piece-file, halts-stop, halts-first, ends-stop}
+use Rattle.roam_run.proofs.EndLemmas.{begins-at, file-cut, stops-reading, ended-file, piece-file, ends-stop}
 use Rattle.roam_run.proofs.script.run_script.Goals as goal
 
 pub returns-in_default-clause-read_fault : goal.returns-in_default-clause-read_fault
-returns-in_default-clause-read_fault g c is start keeps begins all told_files =
+returns-in_default-clause-read_fault g c is start begins all told_files =
     let at_end : g.F.Shelf.ended c.open_named.new.self ≡ true = grind (arith, common_steps) in
     stops-reading _ _ _ start c.args.stage.now [] (bytes_of all c.args.name.now) (bytes_of all c.args.name.now) _ _ (begins-at _ _ start c.args.stage.now begins) refl (λ e. refl)
     (λ e. absurd (let f : true ≡ false = sym at_end ∙ e in cc))
 
 pub pieces-init : goal.pieces-init
 pieces-init g c = record {
-  carried = λ start keeps begins. (
+  carried = λ start begins. (
     [],
     record {
       place = begins-at _ _ start c.args.stage.now begins;
@@ -37,33 +35,22 @@ pieces-init g c = record {
 }
 
 pub returns-in_default-read-clause-read_fault : goal.returns-in_default-read-clause-read_fault
-returns-in_default-read-clause-read_fault g c is start keeps begins all told_files =
-    let old = c.pieces.invariant.carried start keeps begins in
+returns-in_default-read-clause-read_fault g c is start begins all told_files =
+    let old = c.pieces.invariant.carried start begins in
     let there = old.1.told_script all told_files in
     stops-reading _ _ _ start c.pieces.stage old.0 (bytes_of all c.args.name.now) there.0 _ _ old.1.place there.2
     (λ e. absurd (let f : false ≡ true = sym (c.in_default-read.ensures.ends.failed ∙ c.pieces.invariant.open_file) ∙ e in cc))
     (λ e. c.in_default-read.ensures.bytes.kept ∙ there.1)
 
 pub returns-then-count-eq0-clause-ends : goal.returns-then-count-eq0-clause-ends
-returns-then-count-eq0-clause-ends g c start keeps begins all told_files read memory =
-    let old = c.pieces.invariant.carried start keeps begins in
+returns-then-count-eq0-clause-ends g c start begins all told_files read =
+    let old = c.pieces.invariant.carried start begins in
     let same : bytes_of all c.args.name.now ≡ old.0 = ended-file _ _ _ start c.pieces.stage _ _ _ old.0 old.1
     (λ unread is. (c.in-Ok-read.ensures.bytes.empty unread is).0 c.if-count-eq0.true) all told_files in
-    let P = λ (l : List ℕ). (end : Outcome) × IsFramesOutcome (AsMeshes c.args.prefix.now) 2 (walk_of start l) end
-    × DoesAs (told (g.M.MeshSink.meshes c.args.meshes.now) (g.R.Sink.contents c.args.report.now))
-    (told (g.M.MeshSink.meshes c.end_script.new.meshes) (g.R.Sink.contents c.end_script.new.report)) end c.end_script.result in
-    subst P (sym same) ((c.end_script.ensures.ends _ start old.0 keeps old.1.place).finished memory)
-
-pub returns-then-count-eq0-clause-no_memory : goal.returns-then-count-eq0-clause-no_memory
-returns-then-count-eq0-clause-no_memory g c is start keeps begins =
-    let old = c.pieces.invariant.carried start keeps begins in
-    let halts = (c.end_script.ensures.ends _ start old.0 keeps old.1.place).halts is in
-    let P = λ (l : List ℕ). AreFirst (AsMeshes c.args.prefix.now) (walk_of start l) halts.0 in (
-      halts.0,
-      halts.1,
-      λ all told_files. subst P (sym (ended-file _ _ _ start c.pieces.stage _ _ _ old.0 old.1
-          (λ unread here. (c.in-Ok-read.ensures.bytes.empty unread here).0 c.if-count-eq0.true) all told_files)) halts.2,
-    )
+    let P = λ (l : List ℕ). EndsScript (told (g.M.MeshSink.meshes c.args.meshes.now) (g.R.Sink.contents c.args.report.now))
+    (told (g.M.MeshSink.meshes c.end_script.new.meshes) (g.R.Sink.contents c.end_script.new.report)) (show_seen c.args.showing) start l
+    c.end_script.new.stage.engine c.end_script.result in
+    subst P (sym same) (c.end_script.ensures.ends _ start old.0 begins.starts old.1.place)
 
 pub returns-then-count-eq0-clause-done : goal.returns-then-count-eq0-clause-done
 returns-then-count-eq0-clause-done g c is = record {
@@ -75,43 +62,28 @@ returns-then-count-eq0-clause-done g c is = record {
 }
 
 pub returns-in-Err-clause-ends : goal.returns-in-Err-clause-ends
-returns-in-Err-clause-ends g c start keeps begins all told_files read memory =
-    let old = c.pieces.invariant.carried start keeps begins in
+returns-in-Err-clause-ends g c start begins all told_files read =
+    let old = c.pieces.invariant.carried start begins in
     let file = piece-file _ _ _ start c.pieces.stage _ _ _ old.0 (take c.in-Ok-read.count c.read.new.buf) c.in-Ok-read.count old.1
     (λ unread here. ap (take c.in-Ok-read.count) (c.in-Ok-read.ensures.bytes.gives unread here)
     ∙ front-read c.in-Ok-read.count unread _ (c.in-Ok-read.ensures.bytes.within unread here)) all told_files in
-    let P = λ (l : List ℕ). (end : Outcome) × IsFramesOutcome (AsMeshes c.args.prefix.now) 2 (walk_of start l) end
-    × DoesAs (told (g.M.MeshSink.meshes c.args.meshes.now) (g.R.Sink.contents c.args.report.now))
-    (told (g.M.MeshSink.meshes c.take_piece.new.meshes) (g.R.Sink.contents c.take_piece.new.report)) end c.status_of.result in
-    let stop = ends-stop _ _ c.args.prefix.now start (old.0 ++ take c.in-Ok-read.count c.read.new.buf) file.0 c.take_piece.new.stage c.in-Err.stop
-    (c.in-Err.ensures.outcome _ start old.0 keeps old.1.place) in
+    let P = λ (l : List ℕ). EndsScript (told (g.M.MeshSink.meshes c.args.meshes.now) (g.R.Sink.contents c.args.report.now))
+    (told (g.M.MeshSink.meshes c.take_piece.new.meshes) (g.R.Sink.contents c.take_piece.new.report)) (show_seen c.args.showing) start l
+    c.take_piece.new.stage.engine c.status_of.result in
+    let stop = ends-stop _ _ c.args.showing start (old.0 ++ take c.in-Ok-read.count c.read.new.buf) file.0 c.take_piece.new.stage c.in-Err.stop
+    (c.in-Err.ensures.outcome _ start old.0 begins.starts old.1.place) in
     let Q = λ (status : Status). EndsScript (told (g.M.MeshSink.meshes c.args.meshes.now) (g.R.Sink.contents c.args.report.now))
-    (told (g.M.MeshSink.meshes c.take_piece.new.meshes) (g.R.Sink.contents c.take_piece.new.report)) (AsMeshes c.args.prefix.now) start
-    ((old.0 ++ take c.in-Ok-read.count c.read.new.buf) ++ file.0) status in
-    subst P (sym file.1) ((subst Q (sym c.status_of.ensures) stop).finished memory)
-
-pub returns-in-Err-clause-no_memory : goal.returns-in-Err-clause-no_memory
-returns-in-Err-clause-no_memory g c is start keeps begins =
-    let old = c.pieces.invariant.carried start keeps begins in
-    let halts = halts-stop _ _ _ start (old.0 ++ take c.in-Ok-read.count c.read.new.buf) c.take_piece.new.stage c.in-Err.stop
-    (c.in-Err.ensures.outcome _ start old.0 keeps old.1.place) (sym c.status_of.ensures ∙ is) in
-    let P = λ (l : List ℕ). AreFirst (AsMeshes c.args.prefix.now) (walk_of start l) halts.here.pictures in (
-      halts.here.pictures,
-      halts.come.stands,
-      λ all told_files.
-          let file = piece-file _ _ _ start c.pieces.stage _ _ _ old.0 (take c.in-Ok-read.count c.read.new.buf) c.in-Ok-read.count old.1
-          (λ unread here. ap (take c.in-Ok-read.count) (c.in-Ok-read.ensures.bytes.gives unread here)
-          ∙ front-read c.in-Ok-read.count unread _ (c.in-Ok-read.ensures.bytes.within unread here)) all told_files in
-          subst P (sym file.1) (halts-first _ _ c.args.prefix.now start (old.0 ++ take c.in-Ok-read.count c.read.new.buf) file.0 halts),
-    )
+    (told (g.M.MeshSink.meshes c.take_piece.new.meshes) (g.R.Sink.contents c.take_piece.new.report)) (show_seen c.args.showing) start
+    ((old.0 ++ take c.in-Ok-read.count c.read.new.buf) ++ file.0) c.take_piece.new.stage.engine status in
+    subst P (sym file.1) (subst Q (sym c.status_of.ensures) stop)
 
 pub pieces-preserved : goal.pieces-preserved
 pieces-preserved g c = record {
-  carried = λ start keeps begins.
-      let old = c.pieces.invariant.carried start keeps begins in (
+  carried = λ start begins.
+      let old = c.pieces.invariant.carried start begins in (
         old.0 ++ take c.in-Ok-read.count c.read.new.buf,
         record {
-          place = (c.in_default-take_piece.ensures.outcome _ start old.0 keeps old.1.place).ok;
+          place = (c.in_default-take_piece.ensures.outcome _ start old.0 begins.starts old.1.place).ok;
           told_script = λ all is.
               let there = old.1.told_script all is in (
                 drop c.in-Ok-read.count there.0,

@@ -2,10 +2,9 @@ use Rattle.std.proofs.Common.{◌≡◌, ◌+◌, ◌-◌, ◌*◌, ℕ, List, S
 use Rattle.roam_edge.specs.Shelf.{NamedFile}
 use Rattle.roam_edge.specs.Fault.{next_count}
 use Rattle.run_laws.specs.Walk.{Walk}
-use Rattle.run_laws.specs.Words.{AsMeshes}
 use Rattle.run_laws.specs.Act.{told}
 use Rattle.run_laws.specs.Cause.{NoFault}
-use Rattle.run_laws.specs.Laws.{KeepsStates}
+use Rattle.roam_run.specs.ShowView.{show_seen}
 use Rattle.roam_run.specs.StageView.{IsStage, Begins}
 use Rattle.roam_run.proofs.EndLemmas.{IsCarried}
 use Rattle.roam_run.proofs.script.run_script.Given as goal
@@ -13,12 +12,12 @@ use Rattle.roam_run.proofs.script.run_script.Given as goal
 -- the bytes that were read were carried out, and nothing outside has failed
 abbrev pub invariant-pieces : goal.invariant-pieces
 invariant-pieces g l = record {
-  carried : (start : Walk) → KeepsStates start.state.grid.n start → Begins start l.fn.stage → (bytes : List ℕ)
+  carried : (start : Walk) → Begins start l.fn.stage → (bytes : List ℕ)
       × IsCarried (told (g.M.MeshSink.meshes l.fn.meshes) (g.R.Sink.contents l.fn.report))
-      (told (g.M.MeshSink.meshes l.meshes) (g.R.Sink.contents l.report)) (AsMeshes l.prefix) start l.stage
+      (told (g.M.MeshSink.meshes l.meshes) (g.R.Sink.contents l.report)) (show_seen l.showing) start l.stage
       (g.F.Shelf.files l.fn.shelf) (g.F.Shelf.rest l.shelf) l.name bytes;
   told_rest : (all : List NamedFile) → g.F.Shelf.files l.fn.shelf ≡ Some all → (unread : List ℕ) × (g.F.Shelf.rest l.shelf ≡ Some unread);
-  stage : IsStage l.stage;
+  stage : IsStage l.showing l.stage;
   idle : g.M.MeshSink.under_way l.meshes ≡ false;
   faults : NoFault (g.M.MeshSink.faults l.fn.meshes) (g.M.MeshSink.faults l.meshes) (g.R.Sink.faults l.fn.report) (g.R.Sink.faults l.report);
   open_file : g.F.Shelf.ended l.shelf ≡ false;

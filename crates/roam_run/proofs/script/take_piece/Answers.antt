@@ -1,4 +1,4 @@
-use Rattle.std.proofs.Common.{◌<◌, ◌+◌, ◌++◌, length, take, drop, sym, ap, ◌∙◌, arith, append_assoc}
+use Rattle.std.proofs.Common.{◌<◌, ◌+◌, ◌++◌, length, take, drop, refl, sym, ap, ◌∙◌, arith, append_assoc}
 use Rattle.std.proofs.lemmas.List.{take_more, take-append-drop}
 use Rattle.std.proofs.lemmas.Result.{err_from_is_err_and}
 use Rattle.roam_run.proofs.StageLemmas.{takes-longer}
@@ -11,5 +11,5 @@ returns-in_err-take_byte-clause-outcome g c before start read keeps at =
     let cut = sym (take-append-drop (c.loop-byte.byte-index + 1) c.args.piece.now)
     ∙ ap (λ m. m ++ drop (c.loop-byte.byte-index + 1) c.args.piece.now) (take_more c.args.piece.now c.loop-byte.byte-index 0 below) in
     rw (p.1, p.2) (takes-longer before _ _ start _ (drop (c.loop-byte.byte-index + 1) c.args.piece.now) _ c.take_byte.new.stage _ _
-    (ap (λ m. read ++ m) cut ∙ (sym (append_assoc read _ _) ∙ ap (λ m. m ++ drop (c.loop-byte.byte-index + 1) c.args.piece.now) (sym (append_assoc read _ _))))
+    (ap (λ m. read ++ m) cut ∙ (sym (append_assoc read _ _) ∙ ap (λ m. m ++ drop (c.loop-byte.byte-index + 1) c.args.piece.now) (sym (append_assoc read _ _)))) refl
     (c.in_err-take_byte.ensures.outcome before start (read ++ take c.loop-byte.byte-index c.args.piece.now) keeps (c.loop-byte.invariant.carried before start read keeps at)))

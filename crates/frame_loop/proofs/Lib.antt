@@ -1,0 +1,13 @@
+pub mod OutlookLemmas
+pub mod KeepLemmas
+pub mod EditLemmas
+pub mod LeafListLemmas
+pub mod MarkLemmas
+pub mod CountLemmas
+pub mod PoolLemmas
+pub mod EngineLemmas
+pub mod ListingLemmas
+pub mod ExpiryLemmas
+pub mod BelowLemmas
+pub mod WalkLemmas
+pub mod HeightLemmas

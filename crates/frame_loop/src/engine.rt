@@ -1,0 +1,244 @@
+//! The engine.
+
+ghost use Rattle.std.specs.Prelude.{◌≡◌, ℕ, ◌+◌, ◌*◌, ◌<◌, ◌≤◌, ◌^◌, min, false, All, None, IfOk, length};
+ghost use Rattle.mesh_defs.specs.View.{start_view};
+ghost use Rattle.mesh_defs.specs.State.{start_state, with_camera, with_budget, move_length};
+ghost use Rattle.mesh_defs.specs.Triangle.{level_of};
+ghost use Rattle.mesh_defs.specs.ClosedSet.{leaves_of, among};
+ghost use Rattle.edge_laws.specs.Slots.{split_set};
+ghost use Rattle.obj_write.specs.Numbers.{numbers_of};
+ghost use Rattle.mesh_defs.specs.HeightField.{side_of};
+ghost use Rattle.roam_mesh.specs.Mesh.{stamp_of, members_of};
+
+use crate::laws::outlook_laws;
+use crate::listing::list_and_number;
+use crate::outlook::Outlook;
+use bintree_addr::Tri;
+use cull_marks::Planes;
+use obj_write::{MeshView, VertexTable};
+use pgm_grid::Grid;
+use roam_edge::NoMemory;
+use roam_mesh::Mesh;
+use std::alloc::Global;
+use std::marker::Model;
+use triangle_pool::Pool;
+use view_priority::{Camera, Meter};
+use wedgie_tree::Wedges;
+
+/// Terrain, a view of it, and the mesh that follows the view.
+#[derive(Drop)]
+pub struct Engine {
+    pub(crate) outlook: Outlook,
+    pub(crate) mesh: Mesh,
+    pub(crate) meter: Meter,
+    /// The greatest budget.
+    pub(crate) most: u32,
+    /// The budget in force.
+    pub(crate) budget: u32,
+    /// How far the camera has gone, added up over the three axes.
+    pub(crate) odometer: u64,
+    pub(crate) frames: u32,
+    /// Whether each stamp is known to be expired, so that no walk need expire them again.
+    pub(crate) all_expired: bool,
+    /// The leaves of the mesh in the first places, depth first.
+    pub(crate) leaves: Vec<Tri>,
+    pub(crate) leaf_count: u32,
+    /// The vertex number of each grid point, or 0.
+    pub(crate) numbers: VertexTable,
+    pub(crate) vertices: u32,
+}
+
+impl Model for Engine {
+    ghost use Rattle.std.specs.Prelude.{◌≡◌, ◌*◌, ◌≤◌, ◌^◌, length, min, take};
+    ghost use Rattle.mesh_defs.specs.HeightField.{side_of};
+    ghost use Rattle.mesh_defs.specs.MeshText.{vertices_of};
+    ghost use Rattle.std.specs.Prelude.{true};
+    ghost use Rattle.frame_loop.specs.Engine.{EngineState, IsEngine, IsLeafList, AreAllExpired, engine_of};
+
+    ghost Value = { EngineState };
+
+    ghost view = { λ e. engine_of e.outlook e.budget e.most e.mesh e.odometer e.frames e.meter };
+
+    ghost invariant = { λ e. IsEngine (engine_of e.outlook e.budget e.most e.mesh e.odometer e.frames e.meter)
+        × IsLeafList (engine_of e.outlook e.budget e.most e.mesh e.odometer e.frames e.meter) (take e.leaf_count e.leaves.items) e.numbers
+        × (e.all_expired ≡ true → AreAllExpired e.mesh)
+        × (length e.leaves.items ≡ min e.most (2 * 4 ^ e.outlook.grid.n))
+        × (e.leaf_count ≤ length e.leaves.items)
+        × (length e.numbers ≡ side_of e.outlook.grid.n * side_of e.outlook.grid.n)
+        × (e.vertices ≡ length (vertices_of e.outlook.grid.n (take e.leaf_count e.leaves.items))) };
+}
+
+impl Engine {
+    /// The engine of a grid: seen from (0, 0, 0), no plane, the two halves of the square. All memory is taken here.
+    pub fn make(alloc: Global, grid: Grid, budget: u32, spacing: u32) -> Result<Engine, NoMemory>
+        requires some { 2 ≤ budget }
+        requires few { budget ≤ 1048576 }
+        requires spacing_low { 1 ≤ spacing }
+        requires spacing_high { spacing ≤ 1024 }
+        ensures state { IfOk result (λ e. e.state ≡ start_state grid spacing budget) }
+        ensures most { IfOk result (λ e. e.most ≡ budget) }
+        ensures base { IfOk result (λ e. (a : ℕ) → split_set e.mesh.pool.pairs a ≡ false) }
+        ensures stamps { IfOk result (λ e. (a : ℕ) → stamp_of e.mesh a ≡ None) }
+        ensures odometer { IfOk result (λ e. e.odometer ≡ 0) }
+        ensures frames { IfOk result (λ e. e.frames ≡ 0) }
+        ensures evaluations { IfOk result (λ e. e.evaluations ≡ 0) }
+        ensures splits { IfOk result (λ e. e.mesh.pool.splits ≡ 0) }
+        ensures merges { IfOk result (λ e. e.mesh.pool.merges ≡ 0) }
+    {
+        let n = grid.n();
+        let wedges = Wedges::build(alloc, grid)?;
+        let room = room(n, budget);
+        let mesh = Mesh::make(alloc, n, room)?;
+        let mut leaves = vec![in alloc; Tri::default(); room as usize]?;
+        let mut numbers = VertexTable::new(alloc, n)?;
+        let (leaf_count, vertices) = list_and_number(mesh.pool(), &mut leaves, &mut numbers);
+        Ok(Engine {
+            outlook: start_outlook(wedges, spacing),
+            mesh,
+            meter: Meter::new(),
+            most: budget,
+            budget,
+            odometer: 0,
+            frames: 0,
+            all_expired: true,
+            leaves,
+            leaf_count,
+            numbers,
+            vertices,
+        })
+    }
+
+    /// The grid, with the heights as they are.
+    pub fn grid(&self) -> &Grid
+        ensures { result.now ≡ self.now.state.grid }
+    {
+        self.outlook.wedges.grid()
+    }
+
+    /// The greatest budget, for which there is room.
+    pub fn most(&self) -> u32
+        ensures { result ≡ self.now.most }
+    {
+        self.most
+    }
+
+    /// Puts the camera to a place.
+    pub fn camera(&mut self, camera: Camera)
+        requires far { self.old.odometer + move_length self.old.state.view.camera camera ≤ 2 ^ 62 }
+        ensures { self.new ≡ record self.old {
+          state = with_camera camera self.old.state;
+          odometer = self.old.odometer + move_length self.old.state.view.camera camera;
+        } }
+    {
+        outlook_laws();
+        self.odometer += self.outlook.move_to(camera);
+    }
+
+    /// How far the camera would go to a place: the sum of the way's lengths along the three axes, at most 2^33.
+    pub fn way_to(&self, camera: Camera) -> u64
+        ensures value { result ≡ move_length self.now.state.view.camera camera }
+        ensures small { result ≤ 2 ^ 33 }
+    {
+        self.outlook.way_to(camera)
+    }
+
+    /// How far the camera has gone: the sum of the ways of its moves along the three axes.
+    pub fn odometer(&self) -> u64
+        ensures { result ≡ self.now.odometer }
+    {
+        self.odometer
+    }
+
+    /// Puts another budget in force.
+    pub fn budget(&mut self, budget: u32)
+        requires some { 2 ≤ budget }
+        requires few { budget ≤ self.old.most }
+        ensures { self.new ≡ record self.old { state = with_budget budget self.old.state } }
+    {
+        self.budget = budget;
+    }
+
+    /// The budget in force: 2 to the greatest one.
+    pub fn budget_in_force(&self) -> u32
+        ensures value { result ≡ self.now.state.budget }
+        ensures low { 2 ≤ result }
+        ensures high { result ≤ self.now.most }
+    {
+        self.budget
+    }
+
+    /// How many view planes are in force.
+    pub fn planes(&self) -> u32
+        ensures { result ≡ length self.now.state.view.planes }
+    {
+        self.outlook.planes.len()
+    }
+
+    /// How many frames were made.
+    pub fn frames(&self) -> u32
+        ensures { result ≡ self.now.frames }
+    {
+        self.frames
+    }
+
+    /// How often a priority was evaluated.
+    pub fn evaluations(&self) -> u64
+        ensures { result ≡ self.now.evaluations }
+    {
+        self.meter.count()
+    }
+
+    /// The pool of the mesh.
+    pub fn pool(&self) -> &Pool
+        ensures { result.now ≡ self.now.mesh.pool }
+    {
+        self.mesh.pool()
+    }
+
+    /// The mesh of the last frame, or the two halves of the square before the first one, with the heights and planes as they are.
+    pub fn view(&self) -> MeshView<'_>
+        ensures leaves { result.leaves.now ≡ leaves_of self.now.state.grid.n (split_set self.now.mesh.pool.pairs) }
+        ensures wedges { result.wedges.now ≡ self.now.state.grid }
+        ensures planes { result.planes.now ≡ self.now.state.view.planes }
+        ensures spacing { result.spacing ≡ self.now.state.view.spacing }
+        ensures numbers { result.numbers.now ≡ numbers_of self.now.state.grid.n result.leaves.now }
+        ensures members { result.leaves.now ≡ leaves_of self.now.state.grid.n (among (members_of self.now.mesh.pool)) }
+        ensures levels { All (λ a. level_of a ≤ 2 * self.now.state.grid.n) result.leaves.now }
+        ensures spacing_low { 1 ≤ result.spacing }
+        ensures spacing_high { result.spacing ≤ 1024 }
+    {
+        let _pool = self.mesh.pool();
+        MeshView {
+            wedges: &self.outlook.wedges,
+            leaves: &self.leaves[..self.leaf_count as usize],
+            numbers: self.numbers.numbers(),
+            spacing: self.outlook.spacing,
+            planes: &self.outlook.planes,
+        }
+    }
+}
+
+/// What is seen of the wedges from (0, 0, 0), without a plane.
+fn start_outlook(wedges: Wedges, spacing: u32) -> Outlook
+    requires spacing_low { 1 ≤ spacing }
+    requires spacing_high { spacing ≤ 1024 }
+    ensures { result ≡ record { grid = wedges; view = start_view spacing } }
+{
+    Outlook {
+        wedges,
+        camera: Camera::new(0, 0, 0).unwrap(),
+        spacing,
+        planes: Planes::none(),
+    }
+}
+
+/// For how many leaves a mesh has room: for those of the budget, or for all that there can be.
+fn room(n: u32, budget: u32) -> u32
+    requires in_grid { n ≤ 11 }
+    requires some { 2 ≤ budget }
+    ensures value { result ≡ min budget (2 * 4 ^ n) }
+    ensures some { 2 ≤ result }
+    ensures few { result ≤ budget }
+{
+    budget.min(2 * 4u32.pow(n))
+}

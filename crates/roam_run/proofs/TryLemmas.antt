@@ -1,0 +1,79 @@
+-- The end of a generated run: all that it does is its line.
+use Rattle.std.proofs.Common.{◌≡◌, ℕ, ◌+◌, ◌++◌, ◌⊎◌, true, IsTrue, if◌then◌else◌, List, [], ◌∷◌, length, Option, Some, None, option_map, refl, sym, ◌∙◌, ap, subst, arith, inl, inr}
+use Rattle.std.proofs.lemmas.Bool.{false≢true}
+use Rattle.roam_edge.specs.Shelf.{NamedFile}
+use Rattle.roam_gen.specs.Generated.{made_lines}
+use Rattle.frame_loop.specs.Engine.{EngineState}
+use Rattle.run_laws.specs.declared.status.Status.{Status}
+use Rattle.run_laws.specs.declared.status.Status.TheVariants as ends
+use Rattle.run_laws.specs.Walk.{Refusal}
+use Rattle.run_laws.specs.Words.{AsSums, Generated}
+use Rattle.run_laws.specs.Picture.{Picture}
+use Rattle.run_laws.specs.ReportText.{all_triangles, worst_in, count_blocked, sums_line, try_line}
+use Rattle.run_laws.specs.Act.{Act, ReportText, Told, Stands, IsCutShort}
+use Rattle.run_laws.specs.Outcome.{Outcome, text_outcome, shown_acts, sum_acts, stop_acts, stop_status, frames_outcome, engine_end, made_walk}
+use Rattle.run_laws.specs.Promise.{Seen, is_complete, ends_script}
+use Rattle.run_laws.proofs.WalkLemmas.{along-stop}
+use Rattle.roam_run.specs.declared.generated.Sums.{Sums}
+use Rattle.roam_run.specs.EngineSeen.{engine_seen}
+use Rattle.roam_run.specs.Taking.{DoesAs}
+use Rattle.roam_run.specs.Leaving.{CommandEnds}
+use Rattle.roam_run.specs.SumView.{made_start, IsSumOf, SumsUp}
+use Rattle.roam_run.proofs.EngineLemmas.{followed-end}
+
+no-acts : (n seed k : ℕ) (ps : List Picture) → shown_acts (AsSums n seed) k ps ≡ []
+no-acts n seed k [] = refl
+no-acts n seed k (p ∷ ps) = no-acts n seed (k + 1) ps
+
+goes-on : (n seed : ℕ) → (made_walk n seed).stop ≡ None
+goes-on n seed = along-stop (made_start n seed) (made_lines n seed)
+
+-- all that it does is its line
+made-acts : (n seed : ℕ) (ps : List Picture) → (frames_outcome (AsSums n seed) 0 (made_walk n seed) ps).acts ≡ ReportText (try_line n seed ps) ∷ []
+made-acts n seed ps =
+    let tail : List Act = sum_acts (AsSums n seed) ps ++ stop_acts (made_walk n seed).stop in
+    ap (λ (l : List Act). l ++ tail) (no-acts n seed 1 ps) ∙ ap (λ (s : Option Refusal). sum_acts (AsSums n seed) ps ++ stop_acts s) (goes-on n seed)
+
+-- the line of these sums is that of the pictures
+pub sums-text : (n seed : ℕ) (ps : List Picture) (sums : Sums) (text : List ℕ) → IsSumOf ps sums
+    → text ≡ sums_line n seed sums.frames sums.triangles sums.worst sums.blocked → text ≡ try_line n seed ps
+sums-text n seed ps sums text are is =
+    is ∙ (ap (λ (k : ℕ). sums_line n seed k sums.triangles sums.worst sums.blocked) are.frames
+    ∙ (ap (λ (k : ℕ). sums_line n seed (length ps) k sums.worst sums.blocked) are.triangles
+    ∙ (ap (λ (k : ℕ). sums_line n seed (length ps) (all_triangles ps) k sums.blocked) are.worst
+    ∙ ap (λ (k : ℕ). sums_line n seed (length ps) (all_triangles ps) (worst_in ps) k) are.blocked)))
+
+-- where it was carried out its engine is left
+left-by : (n seed : ℕ) (sums : Sums) (engine : EngineState) (left : Option EngineState) (status : Status) (all : SumsUp n seed sums engine)
+    → (status ≡ ends.Done) ⊎ (status ≡ ends.WriteFault) → left ≡ (if ends_script status then Some engine else None) → IsTrue (is_complete status)
+    → option_map engine_seen left ≡ Some (engine_end (made_walk n seed) all.pictures)
+left-by n seed sums engine left status all (inl done) is e =
+    let P : Status → Type 0 = λ s. left ≡ (if ends_script s then Some engine else None) in
+    ap (option_map engine_seen) (subst P done is) ∙ ap Some (followed-end (made_walk n seed) all.pictures engine all.followed)
+left-by n seed sums engine left status all (inr failed) is e =
+    let P : Status → Type 0 = λ s. is_complete s ≡ true in
+    absurd (false≢true (subst P failed e))
+
+-- the line of its sums ends it
+pub made-ends : (before now : Told) (shelf : Seen) (n seed : ℕ) (sums : Sums) (engine : EngineState) (left : Option EngineState) (files : List NamedFile)
+    (text : List ℕ) (status : Status) → SumsUp n seed sums engine → text ≡ sums_line n seed sums.frames sums.triangles sums.worst sums.blocked
+    → (status ≡ ends.Done) ⊎ (status ≡ ends.WriteFault) → left ≡ (if ends_script status then Some engine else None)
+    → DoesAs before now (text_outcome text ends.Done 0) status → CommandEnds before now shelf shelf (Generated n seed) files status left
+made-ends before now shelf n seed sums engine left files text status all is either by does =
+    let end : Outcome = frames_outcome (AsSums n seed) 0 (made_walk n seed) all.pictures in
+    let same : ReportText text ∷ [] ≡ end.acts =
+    ap (λ (t : List ℕ). ReportText t ∷ []) (sums-text n seed all.pictures sums text all.summed is) ∙ sym (made-acts n seed all.pictures) in
+    let P : List Act → Type 0 = λ l. Stands before now l in
+    let Q : List Act → Type 0 = λ l. IsCutShort before now l in
+    record {
+      ends = λ m r. (
+        end,
+        (all.pictures, all.shown, refl),
+        record {
+          opened = omega arith;
+          complete = λ e. (let c = does.complete e in (subst P same c.0, c.1 ∙ sym (ap stop_status (goes-on n seed))));
+          cut_short = λ e. subst Q same (does.cut_short e);
+        },
+        left-by n seed sums engine left status all either by,
+      );
+    }
