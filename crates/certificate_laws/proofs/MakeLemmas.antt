@@ -12,12 +12,12 @@ use Rattle.tiling_laws.proofs.DescentLemmas.{IsAddress-splittable}
 use Rattle.tiling_laws.proofs.ConformityLemmas.{IsConforming-leaves_of}
 use Rattle.mesh_defs.proofs.ListLemmas.{IsIn, IsIn-among, among-in}
 use Rattle.mesh_defs.specs.Falling.{IsFalling}
-use Rattle.closure_laws.proofs.RankLemmas.{IsBestMesh-greedy, IsGreedyEnd-closure}
+use Rattle.closure_laws.proofs.RankLemmas.{IsBestMesh-greedy, IsGreedyEnd-closure, splittable-positive}
 use Rattle.closure_laws.proofs.SetListLemmas.{list_of, ascending-list_of, among-list_of}
 use Rattle.closure_laws.proofs.SetListLemmas.{length-distinct}
 use Rattle.closure_laws.proofs.DiamondLemmas.{mate_or_none}
 use Rattle.least_laws.specs.Least.{is_worse}
-use Rattle.least_laws.proofs.LeastLemmas.{worse-iff, least_found, least_within, splittable-positive}
+use Rattle.least_laws.proofs.LeastLemmas.{worse-iff, least_found, least_within}
 use Rattle.certificate_laws.specs.declared.reason.Kind.TheVariants.{Want, Parent, Mate}
 use Rattle.certificate_laws.specs.declared.reason.Reason.{Reason}
 use Rattle.certificate_laws.specs.Certificate.{triangles_of, named_in, IsReason, AreReasons, IsSound, IsOptimal, AreAllReasons}
@@ -103,7 +103,7 @@ module _ (n tolerance : ℕ) (priority : ℕ → ℕ) (has : ℕ → Bool) (clos
         record { kind = Want; triangle = w.0 },
         closure.holds w.0 w.2.0,
         record {
-          address = IsAddress-splittable n w.0 worse.0;
+          splittable = worse.0;
           new = w.2.1;
           why = let high = worse.1 in omega arith;
         },
@@ -115,7 +115,7 @@ module _ (n tolerance : ℕ) (priority : ℕ → ℕ) (has : ℕ → Bool) (clos
         record { kind = Parent; triangle = p.0 / 2 },
         member,
         record {
-          address = IsAddress-splittable n (p.0 / 2) (closure.closed.splittable (p.0 / 2) member);
+          splittable = closure.closed.splittable (p.0 / 2) member;
           new = p.2.1;
           why = (p.0, among-in p.0 (triangles_of reasons) p.1, p.2.0, refl);
         },
@@ -126,7 +126,7 @@ module _ (n tolerance : ℕ) (priority : ℕ → ℕ) (has : ℕ → Bool) (clos
         record { kind = Mate; triangle = p.2.0 },
         closure.closed.mate p.0 p.2.0 (inside p.0 p.1) p.2.1,
         record {
-          address = p.2.1.address;
+          splittable = closure.closed.splittable p.2.0 (closure.closed.mate p.0 p.2.0 (inside p.0 p.1) p.2.1);
           new = p.2.2;
           why = (p.0, among-in p.0 (triangles_of reasons) p.1, p.2.1);
         },

@@ -6,6 +6,7 @@ use Rattle.mesh_defs.specs.Triangle.{IsAddress}
 use Rattle.mesh_defs.specs.ClosedSet.{IsClosed}
 use Rattle.mesh_defs.specs.Priority.{worst_of}
 use Rattle.tiling_laws.specs.Ancestors.{ancestors_of}
+use Rattle.tiling_laws.proofs.DescentLemmas.{IsAddress-splittable}
 use Rattle.mesh_defs.proofs.ListLemmas.{IsIn, IsIn-among, among-in}
 use Rattle.tiling_laws.proofs.ConverseLemmas.{IsClosed-ancestors_of}
 use Rattle.mesh_defs.specs.Falling.{IsFalling}
@@ -88,7 +89,7 @@ module _ (n : ℕ) (priority : ℕ → ℕ) (worst : ℕ) where
         AreReasons n priority worst before reasons → (a : ℕ) → IsIn a (triangles_of reasons) → IsTrue (other a)
     reasons_inside before [] inside are a h = absurd h
     reasons_inside before (x ∷ xs) inside are a h =
-        let own : IsTrue (other x.triangle) = reason_inside before inside x.kind x.triangle are.0.address are.0.why in
+        let own : IsTrue (other x.triangle) = reason_inside before inside x.kind x.triangle (IsAddress-splittable n x.triangle are.0.splittable) are.0.why in
         ⊎_elim
         (λ (same : x.triangle ≡ a). subst (λ z. IsTrue (other z)) same own)
         (λ rest. reasons_inside (before ++ x ∷ []) xs (λ b i. ⊎_elim

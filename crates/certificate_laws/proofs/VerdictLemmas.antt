@@ -1,21 +1,25 @@
 -- Whether a reason is one is decided, so each certificate has a verdict; and it has one alone.
-use Rattle.std.proofs.Common.{◌≡◌, ℕ, ◌+◌, ◌*◌, ◌/◌, ◌%◌, ◌<◌, ◌≤◌, max, ◌⊎◌, ◌↔◌, inl, inr, Bool, IsTrue, List, [], ◌∷◌, ◌++◌, length, take, drop, refl, sym, ◌∙◌, ap, subst, arith, ⊎_elim, append_assoc, length-append}
+use Rattle.std.proofs.Common.{◌≡◌, ℕ, ◌+◌, ◌*◌, ◌/◌, ◌%◌, ◌^◌, ◌<◌, ◌≤◌, max, ◌⊎◌, ◌↔◌, inl, inr, Bool, IsTrue, List, [], ◌∷◌, ◌++◌, length, take, drop, refl, sym, ◌∙◌, ap, ap₂, subst, arith, ⊎_elim, append_assoc, length-append}
 use Rattle.std.proofs.lemmas.Bool.{cases_lt, cases_order, cases_Bool, both_ways}
 use Rattle.std.proofs.lemmas.List.{append-nil, take_at, take-append-le, take-append-drop}
-use Rattle.mesh_defs.specs.Triangle.{IsAddress, IsMate}
+use Rattle.mesh_defs.specs.Triangle.{IsAddress, IsSplittable, IsMate}
 use Rattle.mesh_defs.specs.Tiling.{IsConforming}
 use Rattle.mesh_defs.specs.Priority.{worst_of}
 use Rattle.bintree_laws.proofs.CentreLemmas.{mate_unique, mate_symmetric}
+use Rattle.tiling_laws.proofs.DescentLemmas.{IsAddress-splittable}
+use Rattle.least_laws.proofs.SweepLemmas.{splittable-lt, lt-splittable}
 use Rattle.mesh_defs.proofs.ListLemmas.{IsIn, IsIn-among}
 use Rattle.closure_laws.proofs.DiamondLemmas.{mate_or_none}
 use Rattle.certificate_laws.specs.declared.reason.Reason.{Reason}
+use Rattle.certificate_laws.specs.declared.reason.Reject.{Reject}
+use Rattle.certificate_laws.specs.declared.reason.Reject.TheVariants.{BadLine, NotConforming, OverBudget, BadReason, TooFewReasons, MeshDiffers}
 use Rattle.certificate_laws.specs.declared.reason.Verdict.{Verdict}
-use Rattle.certificate_laws.specs.declared.reason.Verdict.TheVariants.{Certified, NotConforming, OverBudget, BadReason, TooFew}
+use Rattle.certificate_laws.specs.declared.reason.Verdict.TheVariants.{Certified, Rejected}
 use Rattle.certificate_laws.specs.declared.reason.Kind.{Kind}
 use Rattle.certificate_laws.specs.declared.reason.Kind.TheVariants.{Want, Parent, Mate}
-use Rattle.certificate_laws.specs.Certificate.{triangles_of, named_in, IsWhy, IsReason, AreReasons, IsFirstBad, IsVerdict}
+use Rattle.certificate_laws.specs.Certificate.{triangles_of, named_in, IsWhy, IsReason, AreReasons, IsFirstBad, IsSound, IsRejected, IsVerdict}
 use Rattle.certificate_laws.proofs.SoundLemmas.{reasons_next, reasons_before}
-use Rattle.certificate_laws.proofs.CutLemmas.{address_or_not, conforming_or_not}
+use Rattle.certificate_laws.proofs.CutLemmas.{conforming_or_not}
 
 -- one reason
 
@@ -47,7 +51,7 @@ no_mate-why n earlier a addresses none w = none w.0 (mate_symmetric n w.0 a (add
 pub reason-same : (n : ℕ) (priority : ℕ → ℕ) (worst : ℕ) (some other : ℕ → Bool) (r : Reason) → ((a : ℕ) → some a ≡ other a) →
     IsReason n priority worst some r → IsReason n priority worst other r
 reason-same n priority worst some other r same is = record {
-  address = is.address;
+  splittable = is.splittable;
   new = sym (same r.triangle) ∙ is.new;
   why = why_same r.kind r.triangle is.why;
 }
@@ -80,27 +84,37 @@ module _ (n : ℕ) (priority : ℕ → ℕ) (worst : ℕ) where
       (λ (none : (m : ℕ) → IsMate n a m → ⊥). inr (no_mate-why n earlier a addresses none))
       (mate_or_none n a address)
 
+  -- whether a triangle may be split is decided
+  splittable_or_not : (a : ℕ) → IsSplittable n a ⊎ (IsSplittable n a → ⊥)
+  splittable_or_not a = ⊎_elim
+      (λ small. inr (λ (s : IsSplittable n a). let low = s.low in absurd (omega arith)))
+      (λ low. ⊎_elim
+      (λ coarse. inl (lt-splittable n a low coarse))
+      (λ fine. inr (λ (s : IsSplittable n a). let coarse = splittable-lt n a s in absurd (omega arith)))
+      (cases_lt a (2 ^ (2 * n + 1))))
+      (cases_lt a 2)
+
   -- whether a reason is one is decided
   pub reason_or_not : (earlier : ℕ → Bool) → ((b : ℕ) → IsTrue (earlier b) → IsAddress n b) → (r : Reason) →
       IsReason n priority worst earlier r ⊎ (IsReason n priority worst earlier r → ⊥)
   reason_or_not earlier addresses r = ⊎_elim
-      (λ (address : IsAddress n r.triangle). ⊎_elim
+      (λ (splittable : IsSplittable n r.triangle). ⊎_elim
       (λ old. inr (λ (is : IsReason n priority worst earlier r). both_ways (earlier r.triangle) is.new old))
       (λ new. ⊎_elim
-      (λ (why : IsWhy n priority worst earlier r.kind r.triangle). inl record { address = address; new = new; why = why })
+      (λ (why : IsWhy n priority worst earlier r.kind r.triangle). inl record { splittable = splittable; new = new; why = why })
       (λ (no_why : IsWhy n priority worst earlier r.kind r.triangle → ⊥). inr (λ (is : IsReason n priority worst earlier r). no_why is.why))
-      (why_or_not earlier addresses r.kind r.triangle address))
+      (why_or_not earlier addresses r.kind r.triangle (IsAddress-splittable n r.triangle splittable)))
       (cases_Bool (earlier r.triangle)))
-      (λ (no_address : IsAddress n r.triangle → ⊥). inr (λ (is : IsReason n priority worst earlier r). no_address is.address))
-      (address_or_not n r.triangle)
+      (λ (not_splittable : IsSplittable n r.triangle → ⊥). inr (λ (is : IsReason n priority worst earlier r). not_splittable is.splittable))
+      (splittable_or_not r.triangle)
 
   -- reasons
 
-  -- the triangles of reasons are addresses
-  pub reasons-addresses : (before reasons : List Reason) → AreReasons n priority worst before reasons → (a : ℕ) → IsIn a (triangles_of reasons) → IsAddress n a
-  reasons-addresses before [] are a h = absurd h
-  reasons-addresses before (x ∷ xs) are a (inl e) = subst (λ z. IsAddress n z) e are.0.address
-  reasons-addresses before (x ∷ xs) are a (inr h) = reasons-addresses (before ++ x ∷ []) xs are.1 a h
+  -- the triangles of reasons may be split
+  pub reasons-splittable : (before reasons : List Reason) → AreReasons n priority worst before reasons → (a : ℕ) → IsIn a (triangles_of reasons) → IsSplittable n a
+  reasons-splittable before [] are a h = absurd h
+  reasons-splittable before (x ∷ xs) are a (inl e) = subst (λ z. IsSplittable n z) e are.0.splittable
+  reasons-splittable before (x ∷ xs) are a (inr h) = reasons-splittable (before ++ x ∷ []) xs are.1 a h
 
   -- behind good ones all are reasons, or some is the first that is none
   first_bad_from : (good rest : List Reason) → AreReasons n priority worst [] good →
@@ -111,8 +125,8 @@ module _ (n : ℕ) (priority : ℕ → ℕ) (worst : ℕ) where
       subst (λ l. AreReasons n priority worst [] l ⊎ ((index : ℕ) × IsFirstBad n priority worst l index)) (append_assoc good (x ∷ []) xs)
       (first_bad_from (good ++ x ∷ []) xs (reasons_next n priority worst [] good x are is)))
       (λ (fails : IsReason n priority worst (named_in good) x → ⊥).
-      inr (length good, record { good = good; bad = x; rest = xs; parts = refl; place = refl; reasoned = are; fails = fails }))
-      (reason_or_not (named_in good) (λ b h. reasons-addresses [] good are b (IsIn-among b (triangles_of good) h)) x)
+      inr (length good + 1, record { good = good; bad = x; rest = xs; parts = refl; place = refl; reasoned = are; fails = fails }))
+      (reason_or_not (named_in good) (λ b h. IsAddress-splittable n b (reasons-splittable [] good are b (IsIn-among b (triangles_of good) h))) x)
 
   -- all are reasons, or some is the first that is none
   pub first_bad_or_none : (reasons : List Reason) → AreReasons n priority worst [] reasons ⊎ ((index : ℕ) × IsFirstBad n priority worst reasons index)
@@ -127,7 +141,7 @@ module _ (n : ℕ) (priority : ℕ → ℕ) (worst : ℕ) where
   not_earlier : (reasons : List Reason) (i j : ℕ) → IsFirstBad n priority worst reasons i → IsFirstBad n priority worst reasons j → i < j → ⊥
   not_earlier reasons i j b d less =
       let k : ℕ = length b.good + 1 in
-      let own = b.place in let others = d.place in
+      let own : length b.good + 1 ≡ i = b.place in let others : length d.good + 1 ≡ j = d.place in
       let begins : take k reasons ≡ b.good ++ b.bad ∷ [] =
       ap (λ l. take k l) (b.parts ∙ sym (append_assoc b.good (b.bad ∷ []) b.rest))
       ∙ take_at (b.good ++ b.bad ∷ []) b.rest k (length-append b.good (b.bad ∷ [])) in
@@ -150,49 +164,72 @@ module _ (n budget : ℕ) (priority : ℕ → ℕ) (leaves : List ℕ) (reasons 
   pub verdict_of : (verdict : Verdict) × IsVerdict n budget priority leaves reasons verdict
   verdict_of = ⊎_elim
       (λ (conforming : IsConforming n leaves). ⊎_elim
-      (λ over. (OverBudget, (conforming, over)))
+      (λ over. (Rejected OverBudget, (conforming, over)))
       (λ within. ⊎_elim
       (λ (are : AreReasons n priority (worst_of priority leaves) [] reasons). ⊎_elim
-      (λ none. (Certified, record { conforming = conforming; within = within; reasoned = are; enough = λ some. absurd (omega arith) }))
+      (λ none. certified record { conforming = conforming; within = within; reasoned = are; enough = λ some. absurd (omega arith) })
       (λ some. ⊎_elim
-      (λ few. (TooFew, (conforming, within, are, some, few)))
-      (λ enough. (Certified, record { conforming = conforming; within = within; reasoned = are; enough = λ _. enough }))
+      (λ few. (Rejected TooFewReasons, (conforming, within, are, some, few)))
+      (λ enough. certified record { conforming = conforming; within = within; reasoned = are; enough = λ _. enough })
       (cases_lt (length reasons + 1) budget))
       (cases_lt (worst_of priority leaves) 1))
-      (λ (bad : (index : ℕ) × IsFirstBad n priority (worst_of priority leaves) reasons index). (BadReason bad.0, (conforming, within, bad.1)))
+      (λ (bad : (index : ℕ) × IsFirstBad n priority (worst_of priority leaves) reasons index). (Rejected (BadReason bad.0), (conforming, within, bad.1)))
       (first_bad_or_none n priority (worst_of priority leaves) reasons))
       (cases_lt budget (length leaves)))
-      (λ (cracked : IsConforming n leaves → ⊥). (NotConforming, cracked))
+      (λ (cracked : IsConforming n leaves → ⊥). (Rejected NotConforming, cracked))
       (conforming_or_not n leaves)
+    where
+      certified : IsSound n budget priority leaves reasons → (verdict : Verdict) × IsVerdict n budget priority leaves reasons verdict
+      certified sound = (Certified (length leaves) (worst_of priority leaves), (sound, refl, refl))
 
   -- what a verdict says, in parts: each part decides between two verdicts
   abbrev Is : Verdict → Type 0
   Is verdict = IsVerdict n budget priority leaves reasons verdict
 
-  -- and one alone
+  abbrev Fails : Reject → Type 0
+  Fails why = IsRejected n budget priority leaves reasons why
+
+  -- a sound one fails in no part
+  sound_or_not : (why : Reject) → IsSound n budget priority leaves reasons → Fails why → ⊥
+  sound_or_not (BadLine line) v u = u
+  sound_or_not NotConforming v u = u v.conforming
+  sound_or_not OverBudget v u = omega (arith, v.within, u.1)
+  sound_or_not (BadReason i) v u = bad_or_good n priority (worst_of priority leaves) reasons i u.2 v.reasoned
+  sound_or_not TooFewReasons v u = omega (arith, v.enough u.3, u.4)
+  sound_or_not (MeshDiffers at) v u = u
+
+  -- one part alone is the first that fails
+  rejected_unique : (why other : Reject) → Fails why → Fails other → why ≡ other
+  rejected_unique (BadLine line) other v u = absurd v
+  rejected_unique (MeshDiffers at) other v u = absurd v
+  rejected_unique NotConforming (BadLine line) v u = absurd u
+  rejected_unique NotConforming NotConforming v u = refl
+  rejected_unique NotConforming OverBudget v u = absurd (v u.0)
+  rejected_unique NotConforming (BadReason i) v u = absurd (v u.0)
+  rejected_unique NotConforming TooFewReasons v u = absurd (v u.0)
+  rejected_unique NotConforming (MeshDiffers at) v u = absurd u
+  rejected_unique OverBudget (BadLine line) v u = absurd u
+  rejected_unique OverBudget NotConforming v u = absurd (u v.0)
+  rejected_unique OverBudget OverBudget v u = refl
+  rejected_unique OverBudget (BadReason i) v u = absurd (omega (arith, v.1, u.1))
+  rejected_unique OverBudget TooFewReasons v u = absurd (omega (arith, v.1, u.1))
+  rejected_unique OverBudget (MeshDiffers at) v u = absurd u
+  rejected_unique (BadReason i) (BadLine line) v u = absurd u
+  rejected_unique (BadReason i) NotConforming v u = absurd (u v.0)
+  rejected_unique (BadReason i) OverBudget v u = absurd (omega (arith, v.1, u.1))
+  rejected_unique (BadReason i) (BadReason j) v u = ap (λ k. BadReason k) (first_bad_unique n priority (worst_of priority leaves) reasons i j v.2 u.2)
+  rejected_unique (BadReason i) TooFewReasons v u = absurd (bad_or_good n priority (worst_of priority leaves) reasons i v.2 u.2)
+  rejected_unique (BadReason i) (MeshDiffers at) v u = absurd u
+  rejected_unique TooFewReasons (BadLine line) v u = absurd u
+  rejected_unique TooFewReasons NotConforming v u = absurd (u v.0)
+  rejected_unique TooFewReasons OverBudget v u = absurd (omega (arith, v.1, u.1))
+  rejected_unique TooFewReasons (BadReason i) v u = absurd (bad_or_good n priority (worst_of priority leaves) reasons i u.2 v.2)
+  rejected_unique TooFewReasons TooFewReasons v u = refl
+  rejected_unique TooFewReasons (MeshDiffers at) v u = absurd u
+
+  -- and one verdict alone
   pub verdict_unique : (verdict other : Verdict) → Is verdict → Is other → verdict ≡ other
-  verdict_unique Certified Certified v u = refl
-  verdict_unique Certified NotConforming v u = absurd (u v.conforming)
-  verdict_unique Certified OverBudget v u = absurd (omega (arith, v.within, u.1))
-  verdict_unique Certified (BadReason i) v u = absurd (bad_or_good n priority (worst_of priority leaves) reasons i u.2 v.reasoned)
-  verdict_unique Certified TooFew v u = absurd (omega (arith, v.enough u.3, u.4))
-  verdict_unique NotConforming Certified v u = absurd (v u.conforming)
-  verdict_unique NotConforming NotConforming v u = refl
-  verdict_unique NotConforming OverBudget v u = absurd (v u.0)
-  verdict_unique NotConforming (BadReason i) v u = absurd (v u.0)
-  verdict_unique NotConforming TooFew v u = absurd (v u.0)
-  verdict_unique OverBudget Certified v u = absurd (omega (arith, v.1, u.within))
-  verdict_unique OverBudget NotConforming v u = absurd (u v.0)
-  verdict_unique OverBudget OverBudget v u = refl
-  verdict_unique OverBudget (BadReason i) v u = absurd (omega (arith, v.1, u.1))
-  verdict_unique OverBudget TooFew v u = absurd (omega (arith, v.1, u.1))
-  verdict_unique (BadReason i) Certified v u = absurd (bad_or_good n priority (worst_of priority leaves) reasons i v.2 u.reasoned)
-  verdict_unique (BadReason i) NotConforming v u = absurd (u v.0)
-  verdict_unique (BadReason i) OverBudget v u = absurd (omega (arith, v.1, u.1))
-  verdict_unique (BadReason i) (BadReason j) v u = ap (λ k. BadReason k) (first_bad_unique n priority (worst_of priority leaves) reasons i j v.2 u.2)
-  verdict_unique (BadReason i) TooFew v u = absurd (bad_or_good n priority (worst_of priority leaves) reasons i v.2 u.2)
-  verdict_unique TooFew Certified v u = absurd (omega (arith, u.enough v.3, v.4))
-  verdict_unique TooFew NotConforming v u = absurd (u v.0)
-  verdict_unique TooFew OverBudget v u = absurd (omega (arith, v.1, u.1))
-  verdict_unique TooFew (BadReason i) v u = absurd (bad_or_good n priority (worst_of priority leaves) reasons i u.2 v.2)
-  verdict_unique TooFew TooFew v u = refl
+  verdict_unique (Certified t w) (Certified s x) v u = ap₂ (λ a b. Certified a b) (v.1 ∙ sym u.1) (v.2 ∙ sym u.2)
+  verdict_unique (Certified t w) (Rejected why) v u = absurd (sound_or_not why v.0 u)
+  verdict_unique (Rejected why) (Certified t w) v u = absurd (sound_or_not why u.0 v)
+  verdict_unique (Rejected why) (Rejected other) v u = ap (λ r. Rejected r) (rejected_unique why other v u)

@@ -14,13 +14,13 @@ use Rattle.certificate_laws.specs.declared.reason.Reason.{Reason}
 use Rattle.certificate_laws.specs.declared.reason.Kind.{Kind}
 use Rattle.certificate_laws.specs.declared.reason.Kind.TheVariants.{Want, Parent, Mate}
 use Rattle.certificate_laws.specs.Certificate.{triangles_of, named_in, IsWhy, IsReason, AreReasons, IsFirstBad}
-use Rattle.certificate_laws.proofs.VerdictLemmas.{parent-why, mate-why, no_mate-why, reason-same}
+use Rattle.certificate_laws.proofs.VerdictLemmas.{parent-why, mate-why, no_mate-why, reason-same, reasons-splittable}
 use Rattle.certificate_laws.proofs.SoundLemmas.{earlier_cases, earlier_old, earlier_new, reasons_next}
 
 module _ (n : ℕ) (priority : ℕ → ℕ) (worst : ℕ) (earlier : ℕ → Bool) (t : ℕ) (splittable : IsSplittable n t) where
   -- a new triangle with a cause is a reason, and no other is
   pub reason-why : (kind : Kind) → earlier t ≡ false → IsWhy n priority worst earlier kind t ↔ IsReason n priority worst earlier (record { kind = kind; triangle = t })
-  reason-why kind new = ((λ w. record { address = IsAddress-splittable n t splittable; new = new; why = w }), (λ r. r.why))
+  reason-why kind new = ((λ w. record { splittable = splittable; new = new; why = w }), (λ r. r.why))
 
   -- a listed triangle is none
   pub reason-old : (kind : Kind) → earlier t ≡ true → IsReason n priority worst earlier (record { kind = kind; triangle = t }) → ⊥
@@ -73,18 +73,10 @@ with-same some other f a same = ap (λ b. b || eqb f a) same
 pub take-next : (reasons : List Reason) (k : ℕ) (r : Reason) → k < length reasons → r ≡ get_or reasons k r → take (k + 1) reasons ≡ take k reasons ++ r ∷ []
 take-next reasons k r within is = take_more reasons k r within ∙ ap (λ x. take k reasons ++ x ∷ []) (sym is)
 
--- the triangles of some of the reasons are splittable where all are
-pub named-splittable : (n : ℕ) (reasons : List Reason) (k a : ℕ) → All (λ (r : Reason). IsSplittable n r.triangle) reasons →
-    IsTrue (named_in (take k reasons) a) → IsSplittable n a
-named-splittable n reasons k a all h = within_all k reasons (IsIn-among a (triangles_of (take k reasons)) h) (λ i less. All-get_or (λ (r : Reason). IsSplittable n r.triangle) reasons i
-    (record { kind = Want; triangle = 0 }) less all)
-  where
-    within_all : (k : ℕ) (xs : List Reason) → IsIn a (triangles_of (take k xs)) → ((i : ℕ) → i < length xs → IsSplittable n (get_or xs i (record { kind = Want; triangle = 0 })).triangle) →
-        IsSplittable n a
-    within_all zero xs i each = absurd i
-    within_all (suc k) [] i each = absurd i
-    within_all (suc k) (x ∷ xs) (inl e) each = subst (λ z. IsSplittable n z) e (each 0 (omega arith))
-    within_all (suc k) (x ∷ xs) (inr i) each = within_all k xs i (λ j less. each (suc j) (omega arith))
+-- the triangles of good reasons may be split
+pub named-splittable : (n : ℕ) (priority : ℕ → ℕ) (worst : ℕ) (reasons : List Reason) (a : ℕ) → AreReasons n priority worst [] reasons →
+    IsTrue (named_in reasons a) → IsSplittable n a
+named-splittable n priority worst reasons a are h = reasons-splittable n priority worst [] reasons are a (IsIn-among a (triangles_of reasons) h)
 
 module _ (n : ℕ) (priority : ℕ → ℕ) (worst : ℕ) (reasons : List Reason) (k : ℕ) (r : Reason) (within : k < length reasons) (is : r ≡ get_or reasons k r)
     (earlier : ℕ → Bool) (same : (a : ℕ) → earlier a ≡ named_in (take k reasons) a) (good : AreReasons n priority worst [] (take k reasons)) where
@@ -100,14 +92,14 @@ module _ (n : ℕ) (priority : ℕ → ℕ) (worst : ℕ) (reasons : List Reason
       ∙ sym (ap (λ l. named_in l a) (take-next reasons k r within is) ∙ named-next (take k reasons) r a)
 
   -- one that is none is the first
-  pub bad-first : (IsReason n priority worst earlier r → ⊥) → IsFirstBad n priority worst reasons k
+  pub bad-first : (IsReason n priority worst earlier r → ⊥) → IsFirstBad n priority worst reasons (k + 1)
   bad-first fails = record {
     good = take k reasons;
     bad = r;
     rest = drop (k + 1) reasons;
     parts = sym (take-append-drop (k + 1) reasons) ∙ ap (λ l. l ++ drop (k + 1) reasons) (take-next reasons k r within is)
         ∙ append_assoc (take k reasons) (r ∷ []) (drop (k + 1) reasons);
-    place = length-take-le k reasons (omega arith);
+    place = ap (λ m. m + 1) (length-take-le k reasons (omega arith));
     reasoned = good;
     fails = λ reason. fails (reason-same n priority worst (named_in (take k reasons)) earlier r (λ a. sym (same a)) reason);
   }

@@ -4,7 +4,6 @@ use Rattle.std.proofs.lemmas.Bool.{cases_lt}
 use Rattle.std.proofs.lemmas.List.{append-nil, take-append-le, take-append-drop, take_all}
 use Rattle.mesh_defs.specs.Triangle.{IsSplittable, IsMate}
 use Rattle.bintree_laws.proofs.LevelLemmas.{level_of-parent}
-use Rattle.tiling_laws.proofs.DescentLemmas.{IsAddress-splittable}
 use Rattle.mesh_defs.proofs.ListLemmas.{IsIn, IsIn-among, among-in}
 use Rattle.least_laws.specs.Sweep.{is_flagged}
 use Rattle.certificate_laws.specs.declared.reason.Reason.{Reason}
@@ -110,7 +109,7 @@ module _ (n limit : ℕ) (kind : Kind) (t : ℕ) (flags : List Bool) (reasons : 
   pushed-reasoned priority worst flags_after after m splittable why are (left_out left same_flags kept) = subst (λ l. AreReasons n priority worst [] l) (sym kept) are
   pushed-reasoned priority worst flags_after after m splittable why are (listed new less room added grown) = subst (λ l. AreReasons n priority worst [] l) (sym grown)
       (reasons_next n priority worst [] reasons (record { kind = kind; triangle = t }) are
-      record { address = IsAddress-splittable n t splittable; new = sym (m.same t) ∙ new; why = why })
+      record { splittable = splittable; new = sym (m.same t) ∙ new; why = why })
 
 -- causes
 

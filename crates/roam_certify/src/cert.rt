@@ -1,4 +1,4 @@
-//! A certificate, and the one of a mesh made from scratch.
+//! The certificate of a mesh made from scratch.
 
 ghost use Rattle.std.specs.Prelude.{◌≡◌, ◌<◌, ◌≤◌, [], IfOk, length};
 ghost use Rattle.mesh_defs.specs.BestMesh.{IsBestMesh};
@@ -6,29 +6,19 @@ ghost use Rattle.mesh_defs.specs.Priority.{priority_of};
 ghost use Rattle.wedgie_tree.specs.declared.wedges.TheConstants.{GREATEST_SPACING};
 ghost use Rattle.view_priority.specs.Camera.{view_from};
 ghost use Rattle.certificate_laws.specs.Certificate.{IsSound};
+ghost use Rattle.cert_text.specs.declared.limits.TheConstants.{MOST_LEAVES};
 
 use crate::flags::end;
 use crate::making::make_reasons;
 use crate::sight::Sight;
-use bintree_addr::Tri;
-use certificate_laws::{Reason, certificate_laws, reason_laws};
+use cert_text::Cert;
+use certificate_laws::{certificate_laws, reason_laws};
 use cull_marks::Planes;
 use plain_mesh::{falling_laws, plain_frame};
 use roam_edge::NoMemory;
 use std::alloc::Global;
 use view_priority::Camera;
 use wedgie_tree::Wedges;
-
-/// A certificate of optimality: a camera, a mesh, and reasons why no better one is within the budget.
-#[derive(Drop)]
-pub struct Cert {
-    /// Where the mesh is seen from.
-    pub camera: Camera,
-    /// The triangles of the mesh.
-    pub leaves: Vec<Tri>,
-    /// Triangles that every better mesh would have split, each behind its cause.
-    pub reasons: Vec<Reason>,
-}
 
 /// A sound certificate of the best mesh of a budget, seen from the camera without view planes.
 ///
@@ -43,15 +33,16 @@ pub fn make_cert(
 ) -> Result<Cert, NoMemory>
     requires spacing_low { 1 ≤ spacing }
     requires spacing_high { spacing ≤ GREATEST_SPACING }
-    requires budget { 2 ≤ budget }
+    requires budget_low { 2 ≤ budget }
+    requires budget_high { budget ≤ MOST_LEAVES }
     ensures camera { IfOk result (λ c. c.camera ≡ camera.now) }
     ensures best { IfOk result (λ c.
         let p = priority_of w.now.n w.now.heights (view_from camera.now spacing []) in
-        IsBestMesh w.now.n budget p c.leaves.items) }
+        IsBestMesh w.now.n budget p c.leaves) }
     ensures sound { IfOk result (λ c.
         let p = priority_of w.now.n w.now.heights (view_from camera.now spacing []) in
-        IsSound w.now.n budget p c.leaves.items c.reasons.items) }
-    ensures few { IfOk result (λ c. length c.reasons.items < budget) }
+        IsSound w.now.n budget p c.leaves c.reasons) }
+    ensures few { IfOk result (λ c. length c.reasons < budget) }
 {
     certificate_laws();
     reason_laws();
@@ -68,9 +59,5 @@ pub fn make_cert(
         planes: &planes,
     };
     let reasons = make_reasons(alloc, n, &mut named, &view, frame.worst, budget)?;
-    Ok(Cert {
-        camera: *camera,
-        leaves,
-        reasons,
-    })
+    Ok(Cert::new(*camera, leaves, reasons))
 }

@@ -1,10 +1,10 @@
 //! Checking the reasons of a certificate by one flag per address.
 
-ghost use Rattle.std.specs.Prelude.{◌≡◌, ℕ, ◌+◌, ◌*◌, ◌^◌, ◌≤◌, ◌↔◌, IsTrue, IfSome, IfNone, false, [], length, All};
+ghost use Rattle.std.specs.Prelude.{◌≡◌, ℕ, ◌+◌, ◌*◌, ◌^◌, ◌≤◌, ◌↔◌, IsTrue, IfSome, IfNone, false, [], length};
 ghost use Rattle.mesh_defs.specs.Triangle.{IsSplittable};
 ghost use Rattle.least_laws.specs.Sweep.{is_flagged};
-ghost use Rattle.certificate_laws.specs.declared.reason.Reason.{Reason};
 ghost use Rattle.certificate_laws.specs.Certificate.{IsReason, AreReasons, IsFirstBad};
+ghost use Rattle.cert_text.specs.declared.limits.TheConstants.{MOST_REASONS};
 ghost use Rattle.roam_certify.specs.Sight.{seen_by, IsSeen};
 
 use crate::flags::flag;
@@ -12,7 +12,7 @@ use crate::sight::{Sight, told};
 use bintree_addr::Tri;
 use certificate_laws::{Kind, Reason};
 
-/// The place of the first reason that is none, if there is one.
+/// The number of the first reason that is none, counted from 1, if there is one.
 ///
 /// The flags are those of no triangle at first, and at the end those of the good reasons. Takes no memory.
 pub fn first_bad(
@@ -21,19 +21,19 @@ pub fn first_bad(
     view: &Sight<'_>,
     worst: u64,
     reasons: &[Reason],
-) -> Option<usize>
+) -> Option<u32>
     requires in_grid { (1 ≤ n) × (n ≤ 11) }
     requires room { length flags.old ≡ 2 ^ (2 * n + 1) }
     requires seen { IsSeen n view.now }
     requires empty { (a : ℕ) → is_flagged flags.old a ≡ false }
-    requires splittable { All (λ (r : Reason). IsSplittable n r.triangle) reasons.now }
+    requires few { length reasons.now ≤ MOST_REASONS }
     ensures good { IfNone result (AreReasons n (seen_by view.now) worst [] reasons.now) }
     ensures bad { IfSome result (λ k. IsFirstBad n (seen_by view.now) worst reasons.now k) }
 {
     for index in 0..reasons.len() {
         let Reason { kind, triangle } = reasons[index];
         if !is_reason(n, flags, view, worst, kind, triangle) {
-            return Some(index);
+            return Some(index as u32 + 1);
         }
         flag(flags, triangle);
     }
@@ -42,6 +42,22 @@ pub fn first_bad(
 
 /// Whether this is a reason behind those of the flagged triangles.
 fn is_reason(n: u32, flags: &[bool], view: &Sight<'_>, worst: u64, kind: Kind, t: Tri) -> bool
+    requires in_grid { (1 ≤ n) × (n ≤ 11) }
+    requires room { length flags.now ≡ 2 ^ (2 * n + 1) }
+    requires seen { IsSeen n view.now }
+    requires addresses { (a : ℕ) → IsTrue (is_flagged flags.now a) → IsSplittable n a }
+    ensures value { IsTrue result ↔
+        IsReason n (seen_by view.now) worst (is_flagged flags.now) (record { kind = kind; triangle = t }) }
+{
+    if t.level() < 2 * n {
+        has_cause(n, flags, view, worst, kind, t)
+    } else {
+        false
+    }
+}
+
+/// The same, for a triangle that may be split.
+fn has_cause(n: u32, flags: &[bool], view: &Sight<'_>, worst: u64, kind: Kind, t: Tri) -> bool
     requires in_grid { (1 ≤ n) × (n ≤ 11) }
     requires room { length flags.now ≡ 2 ^ (2 * n + 1) }
     requires seen { IsSeen n view.now }

@@ -16,6 +16,7 @@ mod sight;
 mod tests;
 mod verdict;
 
-pub use cert::{Cert, make_cert};
-pub use certificate_laws::{Kind, Reason, Verdict};
+pub use cert::make_cert;
+pub use cert_text::Cert;
+pub use certificate_laws::{Kind, Reason, Reject, Verdict};
 pub use verdict::check;

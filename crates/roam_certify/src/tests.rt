@@ -1,11 +1,9 @@
 //! Certificates of small grids, worked by hand, seen from the origin at spacing 1.
 
-ghost use Rattle.std.specs.Prelude.{◌≡◌, ◌^◌, ◌≤◌, All, IfOk};
-ghost use Rattle.mesh_defs.specs.Triangle.{IsAddress, IsSplittable};
-ghost use Rattle.certificate_laws.specs.declared.reason.Reason.{Reason};
+ghost use Rattle.std.specs.Prelude.{◌≡◌, ◌^◌, ◌≤◌, IfOk};
 
-use crate::{Cert, Kind, Reason, Verdict, check, make_cert};
-use bintree_addr::Tri;
+use crate::{Reject, Verdict, check, make_cert};
+use cert_text::CertReader;
 use pgm_grid::Grid;
 use std::alloc::Global;
 use std::process::Abort;
@@ -25,68 +23,93 @@ fn hill(alloc: Global, n: u32, x: u32, y: u32) -> Result<Wedges, Fail>
     Ok(wedges)
 }
 
-/// The triangle with this address, of the grid of side 2.
-fn triangle(rt: &impl Abort, number: u32) -> Tri
-    ensures { IsAddress 1 result }
-{
-    let t = Tri::new(number).expect(rt, "an address");
-    assert!(rt; t.number() < 16);
-    t
-}
-
-/// A reason of a splittable triangle of the grid of side 2.
-fn reason(rt: &impl Abort, kind: Kind, number: u32) -> Reason
-    ensures { IsSplittable 1 result.triangle }
-{
-    let triangle = Tri::new(number).expect(rt, "an address");
-    assert!(rt; triangle.level() < 2);
-    Reason { kind, triangle }
-}
-
-/// The verdict on a certificate of the grid of side 2 whose middle is a hill.
-fn judge(alloc: Global, leaves: &[Tri], reasons: &[Reason], budget: u32) -> Result<Verdict, Fail>
-    requires leaves { All (IsAddress 1) leaves.now }
-    requires reasons { All (λ (r : Reason). IsSplittable 1 r.triangle) reasons.now }
-{
+/// Fails unless this is the verdict on the certificate of these lines, of the grid of side 2 whose middle is a hill.
+fn judge(
+    rt: &impl Abort,
+    alloc: Global,
+    lines: &[&str],
+    budget: u32,
+    want: Verdict,
+) -> Result<(), Fail> {
     let wedges = hill(alloc, 1, 1, 1)?;
-    let cert = Cert {
-        camera: Camera::new(0, 0, 0).ok_or("a camera")?,
-        leaves: Vec::from_slice(alloc, leaves)?,
-        reasons: Vec::from_slice(alloc, reasons)?,
-    };
-    Ok(check(alloc, &wedges, &cert, 1, budget)?)
+    let mut reader = CertReader::new(alloc, 1);
+    for line in lines {
+        reader.line(line.as_bytes())?;
+    }
+    let cert = reader.finish()?;
+    let verdict = check(alloc, &wedges, &cert, 1, budget)?;
+    assert_eq!(rt; verdict, want);
+    Ok(())
+}
+
+/// The verdict that a certificate is rejected.
+fn rejected(why: Reject) -> Verdict {
+    Verdict::Rejected { why }
 }
 
 // Both halves of the square have priority 1310720, and their children 0.
 #[test]
 fn the_halves_are_certified_by_enough_reasons(rt: HostRuntime) -> Result<(), Fail> {
-    let halves = [triangle(&rt, 2), triangle(&rt, 3)];
-    let want = [reason(&rt, Kind::Want, 2)];
-    let both = [reason(&rt, Kind::Want, 2), reason(&rt, Kind::Mate, 3)];
-    assert_eq!(rt; judge(rt.alloc(), &halves, &want, 2)?, Verdict::Certified);
-    assert_eq!(rt; judge(rt.alloc(), &halves, &want, 3)?, Verdict::TooFew);
-    assert_eq!(rt; judge(rt.alloc(), &halves, &both, 3)?, Verdict::Certified);
-    Ok(())
+    let certified = Verdict::Certified {
+        triangles: 2,
+        worst: 1310720,
+    };
+    let want = ["camera 0 0 0", "leaf 2", "leaf 3", "want 2"];
+    let both = ["camera 0 0 0", "leaf 2", "leaf 3", "want 2", "mate 3"];
+    judge(&rt, rt.alloc(), &want, 2, certified)?;
+    judge(&rt, rt.alloc(), &want, 3, rejected(Reject::TooFewReasons))?;
+    judge(&rt, rt.alloc(), &both, 3, certified)
 }
 
 #[test]
-fn a_half_is_not_conforming(rt: HostRuntime) -> Result<(), Fail> {
-    let half = [triangle(&rt, 2)];
-    let want = [reason(&rt, Kind::Want, 2)];
-    assert_eq!(rt; judge(rt.alloc(), &half, &want, 2)?, Verdict::NotConforming);
-    Ok(())
+fn a_mesh_with_a_hole_or_without_a_triangle_is_not_conforming(rt: HostRuntime) -> Result<(), Fail> {
+    let half = ["camera 0 0 0", "leaf 2", "want 2"];
+    let none = ["camera 0 0 0"];
+    let cracked = rejected(Reject::NotConforming);
+    judge(&rt, rt.alloc(), &half, 2, cracked)?;
+    judge(&rt, rt.alloc(), &none, 2, cracked)
 }
 
 #[test]
-fn a_repeated_or_a_causeless_reason_is_bad(rt: HostRuntime) -> Result<(), Fail> {
-    let halves = [triangle(&rt, 3), triangle(&rt, 2)];
-    let repeated = [reason(&rt, Kind::Want, 2), reason(&rt, Kind::Want, 2)];
-    let told = judge(rt.alloc(), &halves, &repeated, 2)?;
-    assert_eq!(rt; told, Verdict::BadReason { index: 1 });
-    let causeless = [reason(&rt, Kind::Want, 4)];
-    let told = judge(rt.alloc(), &halves, &causeless, 2)?;
-    assert_eq!(rt; told, Verdict::BadReason { index: 0 });
-    Ok(())
+fn more_leaves_than_the_budget_are_rejected(rt: HostRuntime) -> Result<(), Fail> {
+    let four = ["camera 0 0 0", "leaf 4", "leaf 5", "leaf 6", "leaf 7"];
+    judge(&rt, rt.alloc(), &four, 3, rejected(Reject::OverBudget))
+}
+
+// Reasons are counted from 1, and looked at where the worst is 0, too: triangle 4 is a finest one.
+#[test]
+fn a_repeated_a_causeless_and_a_finest_reason_are_bad(rt: HostRuntime) -> Result<(), Fail> {
+    let repeated = ["camera 0 0 0", "leaf 3", "leaf 2", "want 2", "want 2"];
+    let causeless = ["camera 0 0 0", "leaf 3", "leaf 2", "mate 3"];
+    let seen = [
+        "camera 0 0 0",
+        "leaf 4",
+        "leaf 5",
+        "leaf 6",
+        "leaf 7",
+        "parent 2",
+    ];
+    judge(
+        &rt,
+        rt.alloc(),
+        &repeated,
+        2,
+        rejected(Reject::BadReason { index: 2 }),
+    )?;
+    judge(
+        &rt,
+        rt.alloc(),
+        &causeless,
+        2,
+        rejected(Reject::BadReason { index: 1 }),
+    )?;
+    judge(
+        &rt,
+        rt.alloc(),
+        &seen,
+        4,
+        rejected(Reject::BadReason { index: 1 }),
+    )
 }
 
 // The best mesh of 8 triangles stops at 17, which needs 9.
@@ -95,6 +118,7 @@ fn a_certificate_is_made(rt: HostRuntime) -> Result<(), Fail> {
     let camera = Camera::new(0, 0, 0).ok_or("a camera")?;
     let wedges = hill(rt.alloc(), 2, 1, 0)?;
     let cert = make_cert(rt.alloc(), &wedges, &camera, 1, 8)?;
-    assert_eq!(rt; (cert.leaves.len(), cert.reasons.len()), (8, 7));
+    assert_eq!(rt; (cert.leaves().len(), cert.reasons().len()), (8, 7));
+    assert_eq!(rt; cert.camera(), camera);
     Ok(())
 }

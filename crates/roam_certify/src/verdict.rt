@@ -1,22 +1,23 @@
 //! The verdict on a certificate.
 
 ghost use Rattle.std.specs.Prelude.{◌≡◌, ℕ, ◌+◌, ◌*◌, ◌^◌, ◌<◌, ◌≤◌, false, [], All, IfOk, length, max};
-ghost use Rattle.mesh_defs.specs.Triangle.{level_of, IsAddress, IsSplittable};
+ghost use Rattle.mesh_defs.specs.Triangle.{level_of, IsAddress};
 ghost use Rattle.mesh_defs.specs.Priority.{priority_of, worst_of};
 ghost use Rattle.wedgie_tree.specs.declared.wedges.TheConstants.{GREATEST_SPACING};
 ghost use Rattle.view_priority.specs.Camera.{view_from};
 ghost use Rattle.least_laws.specs.Sweep.{is_flagged};
-ghost use Rattle.certificate_laws.specs.declared.reason.Reason.{Reason};
+ghost use Rattle.certificate_laws.specs.declared.reason.Verdict.{Verdict};
 ghost use Rattle.certificate_laws.specs.Certificate.{IsVerdict};
+ghost use Rattle.cert_text.specs.declared.limits.TheConstants.{MOST_REASONS};
 ghost use Rattle.roam_certify.specs.Sight.{seen_by, IsSeen};
 
-use crate::Cert;
 use crate::checking::first_bad;
 use crate::conforming::is_conforming;
 use crate::flags::end;
 use crate::sight::{Sight, told};
 use bintree_addr::Tri;
-use certificate_laws::{Reason, Verdict};
+use cert_text::Cert;
+use certificate_laws::{Reason, Reject, Verdict};
 use cull_marks::Planes;
 use roam_edge::NoMemory;
 use std::alloc::Global;
@@ -33,22 +34,22 @@ pub fn check(
     spacing: u32,
     budget: u32,
 ) -> Result<Verdict, NoMemory>
-    requires leaves { All (IsAddress w.now.n) cert.now.leaves.items }
-    requires reasons { All (λ (r : Reason). IsSplittable w.now.n r.triangle) cert.now.reasons.items }
+    requires leaves { All (IsAddress w.now.n) cert.now.leaves }
     requires spacing_low { 1 ≤ spacing }
     requires spacing_high { spacing ≤ GREATEST_SPACING }
     ensures verdict { IfOk result (λ v.
         let p = priority_of w.now.n w.now.heights (view_from cert.now.camera spacing []) in
-        IsVerdict w.now.n budget p cert.now.leaves.items cert.now.reasons.items v) }
+        IsVerdict w.now.n budget p cert.now.leaves cert.now.reasons v) }
 {
     let n = w.grid().n();
     let mut splits = vec![in alloc; false; end(n) as usize]?;
     let mut seen = vec![in alloc; false; 2 * end(n) as usize]?;
     let mut named = vec![in alloc; false; end(n) as usize]?;
     let planes = Planes::none();
+    let camera = cert.camera();
     let view = Sight {
         wedges: w,
-        camera: &cert.camera,
+        camera: &camera,
         spacing,
         planes: &planes,
     };
@@ -58,8 +59,8 @@ pub fn check(
         &mut splits,
         &mut seen,
         &mut named,
-        &cert.leaves,
-        &cert.reasons,
+        cert.leaves(),
+        cert.reasons(),
         budget,
     ))
 }
@@ -86,26 +87,33 @@ fn verdict(
     requires seen_empty { (a : ℕ) → is_flagged seen.old a ≡ false }
     requires named_empty { (a : ℕ) → is_flagged named.old a ≡ false }
     requires addresses { All (IsAddress n) leaves.now }
-    requires splittable { All (λ (r : Reason). IsSplittable n r.triangle) reasons.now }
+    requires few { length reasons.now ≤ MOST_REASONS }
     ensures verdict { IsVerdict n budget (seen_by view.now) leaves.now reasons.now result }
 {
     if !is_conforming(n, splits, seen, leaves) {
-        return Verdict::NotConforming;
+        return rejected(Reject::NotConforming);
     }
     if leaves.len() > budget as usize {
-        return Verdict::OverBudget;
+        return rejected(Reject::OverBudget);
     }
     let worst = worst_leaf(n, view, leaves);
-    match first_bad(n, named, view, worst, reasons) {
-        Some(index) => Verdict::BadReason { index },
-        None => {
-            if worst > 0 && reasons.len() + 1 < budget as usize {
-                Verdict::TooFew
-            } else {
-                Verdict::Certified
-            }
-        }
+    if let Some(index) = first_bad(n, named, view, worst, reasons) {
+        return rejected(Reject::BadReason { index });
     }
+    if worst > 0 && reasons.len() + 1 < budget as usize {
+        return rejected(Reject::TooFewReasons);
+    }
+    Verdict::Certified {
+        triangles: leaves.len() as u32,
+        worst,
+    }
+}
+
+/// The verdict that this part is the first that fails.
+fn rejected(why: Reject) -> Verdict
+    ensures { result ≡ Verdict.Rejected why }
+{
+    Verdict::Rejected { why }
 }
 
 /// The greatest priority of a leaf.

@@ -9,6 +9,7 @@ use Rattle.view_priority.specs.Camera.{view_from}
 use Rattle.least_laws.specs.Sweep.{is_flagged}
 use Rattle.least_laws.proofs.FlagLemmas.{flagged-unset}
 use Rattle.certificate_laws.specs.Certificate.{IsSound}
+use Rattle.cert_text.specs.Certificate.{Certificate}
 use Rattle.roam_certify.proofs.CertLemmas.{sound-made}
 use Rattle.roam_certify.proofs.cert.make_cert.Goals as goal
 
@@ -26,8 +27,9 @@ returns-clause-sound c =
     let reasons = c.in_ok-reasons.reasons.items in
     let grid : c.n-n.result ≡ n = c.n-n.ensures.value ∙ ap (λ (g : HeightField). g.n) c.grid.ensures.value in
     let same : leaves ≡ leaves_of n (among members) = c.in_ok-leaves.ensures.value ∙ ap (λ k. leaves_of k (among members)) c.in_ok-frame.ensures.grid in
-    subst (λ planes. IsSound n c.args.budget (p planes) leaves reasons) c.none-planes.ensures
+    subst (λ (cert : Certificate). IsSound n c.args.budget (p []) cert.leaves cert.reasons) (sym c.new.ensures)
+    (subst (λ planes. IsSound n c.args.budget (p planes) leaves reasons) c.none-planes.ensures
     (sound-made n c.n-n.result c.args.budget c.in_ok-frame.frame.worst (p c.none-planes.result) leaves reasons (c.falling_laws.ensures _ _ _)
     (subst (λ l. IsBestMesh n c.args.budget (p c.none-planes.result) l) (sym same) c.in_ok-frame.ensures.best)
     (c.in_ok-frame.ensures.frame.greatest ∙ ap (worst_of (p c.none-planes.result)) (sym same))
-    grid c.in_ok-reasons.ensures.reasoned c.in_ok-reasons.ensures.enough)
+    grid c.in_ok-reasons.ensures.reasoned c.in_ok-reasons.ensures.enough))

@@ -1,9 +1,7 @@
 -- One reason more a turn. The two fields are two reads, so `read` is the reason that they are of.
-use Rattle.std.proofs.Common.{◌≡◌, [], refl, sym, ◌∙◌, subst, arith, get_or}
+use Rattle.std.proofs.Common.{◌≡◌, [], refl, sym, ◌∙◌, subst, arith, get_or, take}
 use Rattle.std.proofs.lemmas.Bool.{both_ways}
 use Rattle.std.proofs.lemmas.List.{get_or_default, take_all}
-use Rattle.std.proofs.lemmas.List.Elements.{All-get_or}
-use Rattle.mesh_defs.specs.Triangle.{IsSplittable}
 use Rattle.least_laws.specs.Sweep.{is_flagged}
 use Rattle.least_laws.proofs.SweepLemmas.{splittable-lt}
 use Rattle.certificate_laws.specs.declared.reason.Reason.{Reason}
@@ -20,22 +18,15 @@ is_reason-requires c = record {
   in_grid = c.requires.in_grid;
   room = c.loop-index.invariant.room ∙ c.requires.room;
   seen = c.requires.seen;
-  addresses = λ a h. named-splittable c.args.n c.args.reasons.now c.loop-index.index a c.requires.splittable (sym (c.loop-index.invariant.same a) ∙ h);
-  splittable = All-get_or (λ (r : Reason). IsSplittable c.args.n r.triangle) c.args.reasons.now c.loop-index.index
-      c.index-reasons-index-in-loop-index.result c.loop-index-test.true c.requires.splittable;
+  addresses = λ a h. named-splittable c.args.n (seen_by c.args.view.now) c.args.worst (take c.loop-index.index c.args.reasons.now) a c.loop-index.invariant.good
+      (sym (c.loop-index.invariant.same a) ∙ h);
 }
 
 pub flag-requires : goal.flag-requires
-flag-requires c = record {
-  room = omega (
-    arith,
-    splittable-lt c.args.n (get_or c.args.reasons.now c.loop-index.index c.index-reasons-index-in-loop-index.result).triangle
-        (All-get_or (λ (r : Reason). IsSplittable c.args.n r.triangle) c.args.reasons.now c.loop-index.index
-        c.index-reasons-index-in-loop-index.result c.loop-index-test.true c.requires.splittable),
-    c.loop-index.invariant.room,
-    c.requires.room,
-  );
-}
+flag-requires c =
+    let own = splittable-lt c.args.n (get_or c.args.reasons.now c.loop-index.index c.index-reasons-index-in-loop-index.result).triangle
+    ((c.is_reason.ensures.value.0 c.if-not-is_reason.false).splittable) in
+    record { room = omega (arith, own, c.loop-index.invariant.room, c.requires.room) }
 
 pub loop-index-preserved : goal.loop-index-preserved
 loop-index-preserved c =

@@ -26,8 +26,8 @@ verdict-requires-clause-seen_room c =
     let items = c.deref_mut-2.ensures.value ∙ c.in_ok-seen.ensures.items_if_clones_equal (λ y h. h) in
     let end = c.end-2.ensures.value ∙ ap (λ k. 2 ^ (2 * k + 1)) grid in
     let long : length c.deref_mut-2.result.now ≡ 2 * 2 ^ (2 * c.args.w.now.n + 1) = ap length items ∙ length-replicate _ _ ∙ ap (λ k. 2 * k) end in
-    subst (λ (l : List ℕ). All (λ t. t < length c.deref_mut-2.result.now) l) (sym c.deref.ensures.value)
-    (roomy c.args.w.now.n c.deref_mut-2.result.now c.args.cert.now.leaves.items long c.requires.leaves)
+    subst (λ (l : List ℕ). All (λ t. t < length c.deref_mut-2.result.now) l) (sym c.leaves.ensures.value)
+    (roomy c.args.w.now.n c.deref_mut-2.result.now c.args.cert.now.leaves long c.requires.leaves)
 
 pub verdict-requires-clause-splits_empty : goal.verdict-requires-clause-splits_empty
 verdict-requires-clause-splits_empty c = unset c.deref_mut.result.now _ (c.deref_mut.ensures.value ∙ c.in_ok-splits.ensures.items_if_clones_equal (λ y h. h))

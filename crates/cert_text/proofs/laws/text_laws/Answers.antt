@@ -1,0 +1,9 @@
+-- Each clause is a lemma.
+use Rattle.cert_text.proofs.BackLemmas.{lines-back, text-ended}
+use Rattle.cert_text.proofs.laws.text_laws.Goals as goal
+
+pub returns-clause-back : goal.returns-clause-back
+returns-clause-back c = lines-back
+
+pub returns-clause-ended : goal.returns-clause-ended
+returns-clause-ended c = text-ended

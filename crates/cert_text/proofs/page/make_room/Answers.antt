@@ -1,0 +1,7 @@
+-- The sink got the whole page.
+use Rattle.cert_text.proofs.PageLemmas.{put-written}
+use Rattle.cert_text.proofs.page.make_room.Goals as goal
+
+pub returns-clause-ok : goal.returns-clause-ok
+returns-clause-ok g c before text put =
+    put-written before _ _ _ _ _ text _ c.as_slice.ensures.value c.clear.ensures put c.in_ok-write.ensures.bytes

@@ -1,0 +1,36 @@
+-- One line more, or the first ones cut short.
+use Rattle.std.proofs.Common.{[], ◌++◌, ◌<◌, take, drop, length, refl, sym, ap, ◌∙◌, subst, arith}
+use Rattle.std.specs.List.{flat_map}
+use Rattle.std.proofs.lemmas.List.{append-nil, take_all}
+use Rattle.std.proofs.lemmas.Result.{err_from_is_err_and}
+use Rattle.cert_text.specs.CertText.{leaf_text}
+use Rattle.cert_text.specs.Page.{IsPut}
+use Rattle.cert_text.proofs.PageLemmas.{put-more, cut-longer, texts-cut, texts-next}
+use Rattle.cert_text.proofs.writing.put_leaves.Goals as goal
+
+pub loop-leaf-init : goal.loop-leaf-init
+loop-leaf-init g c = record { put = λ before text put. put-more before _ _ _ text [] (sym (append-nil c.args.page.now.items)) put; calm = refl }
+
+pub loop-leaf-preserved : goal.loop-leaf-preserved
+loop-leaf-preserved g c =
+    let below : c.loop-leaf.leaf-index < length c.args.leaves.now = omega arith in
+    record {
+      put = λ before text put. subst (IsPut before (g.S.Sink.contents c.put_line.new.out) c.put_line.new.page.items)
+          (sym (texts-next leaf_text text c.args.leaves.now c.loop-leaf.leaf-index c.leaf-item.result below c.leaf-item.is))
+          (c.in_ok-put_line.ensures.ok before (text ++ flat_map leaf_text (take c.loop-leaf.leaf-index c.args.leaves.now))
+          (c.loop-leaf.invariant.put before text put));
+      calm = c.in_ok-put_line.ensures.faults.ok ∙ c.loop-leaf.invariant.calm;
+    }
+
+pub returns-in_err-put_line-clause-err : goal.returns-in_err-put_line-clause-err
+returns-in_err-put_line-clause-err g c =
+    let p = err_from_is_err_and c.from_residual.result c.from_residual.ensures.1 in
+    let k = c.loop-leaf.leaf-index in
+    rw p.1 (λ before text put. cut-longer before _ (text ++ flat_map leaf_text (take k c.args.leaves.now)) (flat_map leaf_text (drop k c.args.leaves.now)) _
+    (texts-cut leaf_text text c.args.leaves.now k)
+    (c.in_err-put_line.ensures.err before (text ++ flat_map leaf_text (take k c.args.leaves.now)) (c.loop-leaf.invariant.put before text put)))
+
+pub returns-clause-ok : goal.returns-clause-ok
+returns-clause-ok g c before text put =
+    subst (λ l. IsPut before (g.S.Sink.contents c.loop-leaf.out) c.loop-leaf.page.items (text ++ flat_map leaf_text l))
+    (take_all c.loop-leaf.leaf-index c.args.leaves.now (omega arith)) (c.loop-leaf.invariant.put before text put)

@@ -1,0 +1,80 @@
+-- The line of a certificate that some bytes are. This project's own format; fields are cut as those of a script.
+--
+-- Words: Word, word_of, is_coordinate, camera_of, address_in, camera_fields, leaf_fields, reason_fields, word_line,
+-- fields_line, line_in, IsLineOf.
+use Rattle.std.specs.Prelude.{ℕ, ◌+◌, ◌*◌, ◌^◌, Bool, ◌&&◌, nat_le, nat_lt, if◌then◌else◌, List, [], ◌∷◌, length, Option, Some, None, option_map, codes, bytes_eq, ℤ, unsigned_abs}
+use Rattle.mesh_defs.specs.Triangle.{IsAddress, IsSplittable}
+use Rattle.roam_num.specs.DecText.{number_in, signed_in}
+use Rattle.roam_script.specs.LineText.{fields_of, without_last_cr}
+use Rattle.roam_script.specs.declared.limits.TheConstants.{MOST_LINE_BYTES}
+use Rattle.certificate_laws.specs.declared.reason.Kind.{Kind}
+use Rattle.certificate_laws.specs.declared.reason.Kind.TheVariants.{Want, Parent, Mate}
+use Rattle.cert_text.specs.declared.line.CertLine.{CertLine}
+use Rattle.cert_text.specs.declared.line.CertLine.TheVariants.{CameraLine, LeafLine, ReasonLine}
+use Rattle.cert_text.specs.declared.line.Word.{Word}
+use Rattle.cert_text.specs.declared.line.Word.TheVariants as word
+
+-- the word that the first field of a line is
+abbrev pub word_of : List ℕ → Option Word
+word_of field =
+    if bytes_eq field (codes "camera") then Some word.Camera
+    else (if bytes_eq field (codes "leaf") then Some word.Leaf
+    else (if bytes_eq field (codes "want") then Some (word.Because Want)
+    else (if bytes_eq field (codes "parent") then Some (word.Because Parent)
+    else (if bytes_eq field (codes "mate") then Some (word.Because Mate) else None))))
+
+-- a coordinate of a camera is at most 2 ^ 30 in size
+abbrev pub is_coordinate : ℤ → Bool
+is_coordinate v = nat_le (unsigned_abs v) (2 ^ 30)
+
+-- the camera line of what its three fields are
+abbrev pub camera_of : Option ℤ → Option ℤ → Option ℤ → Option CertLine
+camera_of (Some x) (Some y) (Some z) =
+    if is_coordinate x && (is_coordinate y && is_coordinate z) then Some (CameraLine (record { x = x; y = y; z = z })) else None
+camera_of _ _ _ = None
+
+-- the address that a field is: a number of at most 19 digits, from 2 to less than `end`
+abbrev pub address_in : ℕ → List ℕ → Option ℕ
+address_in end field = elim (number_in 19 field) as (λ _. Option ℕ) [
+  | None ↦ None
+  | Some a ↦ if nat_le 2 a && nat_lt a end then Some a else None
+]
+
+-- three numbers
+abbrev pub camera_fields : List (List ℕ) → Option CertLine
+camera_fields (x ∷ (y ∷ (z ∷ []))) = camera_of (signed_in x) (signed_in y) (signed_in z)
+camera_fields _ = None
+
+-- one address, of a triangle of the grid
+abbrev pub leaf_fields : ℕ → List (List ℕ) → Option CertLine
+leaf_fields n (field ∷ []) = option_map (λ a. LeafLine a) (address_in (2 ^ (2 * n + 2)) field)
+leaf_fields n _ = None
+
+-- one address, of a triangle of the grid that may be split
+abbrev pub reason_fields : ℕ → Kind → List (List ℕ) → Option CertLine
+reason_fields n kind (field ∷ []) =
+    option_map (λ a. ReasonLine (record { kind = kind; triangle = a })) (address_in (2 ^ (2 * n + 1)) field)
+reason_fields n kind _ = None
+
+-- the line of a word and the fields behind it
+abbrev pub word_line : ℕ → Option Word → List (List ℕ) → Option CertLine
+word_line n None fields = None
+word_line n (Some word.Camera) fields = camera_fields fields
+word_line n (Some word.Leaf) fields = leaf_fields n fields
+word_line n (Some (word.Because kind)) fields = reason_fields n kind fields
+
+-- the line of these fields; there is none without a field
+abbrev pub fields_line : ℕ → List (List ℕ) → Option CertLine
+fields_line n [] = None
+fields_line n (first ∷ fields) = word_line n (word_of first) fields
+
+-- The line that these bytes are, of a certificate of the grid with this n.
+unfoldable pub line_in : ℕ → List ℕ → Option CertLine
+line_in n bytes =
+    if nat_lt MOST_LINE_BYTES (length bytes) then None else fields_line n (fields_of (without_last_cr bytes))
+
+-- the triangle of the line is one of the grid with this n; that of a reason may be split
+abbrev pub IsLineOf : ℕ → CertLine → Type 0
+IsLineOf n (CameraLine seen_from) = Unit {0}
+IsLineOf n (LeafLine leaf) = IsAddress n leaf
+IsLineOf n (ReasonLine reason) = IsSplittable n reason.triangle

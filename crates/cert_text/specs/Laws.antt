@@ -1,0 +1,27 @@
+-- What is written of a certificate is read back.
+-- Words: IsCertificateOf, lines_read, WrittenLinesAreRead, WrittenLinesAreEnded.
+use Rattle.std.specs.Prelude.{◌≡◌, ℕ, List, [], ◌∷◌, ◌++◌, Option, Some, None}
+use Rattle.std.specs.List.{flat_map}
+use Rattle.view_priority.specs.Camera.{IsCamera}
+use Rattle.cert_text.specs.Certificate.{Certificate}
+use Rattle.cert_text.specs.CertReader.{ReadSoFar, read_so_far, nothing_read, cert_line_in, AreFew}
+use Rattle.cert_text.specs.CertText.{cert_text, cert_lines}
+
+-- a certificate of the grid with this n: a camera, and leaves and reasons of its triangles, not too many
+pub record IsCertificateOf (n : ℕ) (cert : Certificate) : Type 0 where
+  pub camera : IsCamera cert.camera
+  pub few : AreFew n cert.leaves cert.reasons
+
+-- behind these lines, where each may stand at its place
+abbrev pub lines_read : ℕ → ReadSoFar → List (List ℕ) → Option ReadSoFar
+lines_read n read [] = Some read
+lines_read n read (bytes ∷ lines) = elim (cert_line_in n read bytes) as (λ _. Option ReadSoFar) [ None ↦ None | Some next ↦ lines_read n next lines ]
+
+-- the lines of a certificate are read as the certificate
+abbrev pub WrittenLinesAreRead : Type 0
+WrittenLinesAreRead = (n : ℕ) (cert : Certificate) → IsCertificateOf n cert →
+    lines_read n nothing_read (cert_lines cert) ≡ Some (read_so_far (Some cert.camera) cert.leaves cert.reasons)
+
+-- and its text is these lines, each with an LF (10) behind it
+abbrev pub WrittenLinesAreEnded : Type 0
+WrittenLinesAreEnded = (cert : Certificate) → cert_text cert ≡ flat_map (λ line. line ++ 10 ∷ []) (cert_lines cert)
