@@ -209,6 +209,17 @@ if [ -x "$single" ]; then
       echo "| a $kind frame of the queues over made heights, n = $level, budget 20,000 | $calls evaluations, $found triangles split or merged | $(awk -v s="$seconds" 'BEGIN { printf "%.2f", 1000 * s }') ms | | |"
     done
   done
+  # Flights of an engine over made heights: its tables, its first frame, and the mean of the frames behind it.
+  for flight in 9_20000_0 9_20000_30 9_20000_602 11_20000_0 11_20000_30 11_20000_2409 11_100000_30 11_100000_2409 11_1048576_30; do
+    IFS=_ read -r level most step <<<"$flight"
+    for ((k = 0; k < runs; k++)); do "$single" "fly_$flight"; done >"$room/flown"
+    tables=$(awk '$2 == "tables" { print $3 }' "$room/flown" | sort -n | head -n 1)
+    echo "| an engine made over made heights, n = $level, budget $most | 1 call | $tables s | | |"
+    for kind in first later; do
+      read -r _ _ count _ calls _ found _ seconds <<<"$(grep " $kind " "$room/flown" | sort -t ' ' -k 9 -n | head -n 1)"
+      echo "| its $kind frames, $step units a frame | $count frames, $calls evaluations, $found triangles split or merged | $(awk -v s="$seconds" -v n="$count" 'BEGIN { printf "%.2f", 1000 * s / n }') ms a frame | | |"
+    done
+  done
   # The pool of linked triangles: made; filled level by level, then emptied or planned over; refined by force.
   plain_pool=
   if command -v rustc >"$room/said" && rustc -O --edition 2021 "$top/bench/pool.rs" -o "$room/pool" 2>"$room/said"; then

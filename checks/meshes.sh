@@ -1,9 +1,13 @@
 # shellcheck shell=bash disable=SC2154
-# Meshes of rough grids against a plain program that goes by the definitions and shares nothing with this
-# one (greedy.py): each line of the report and each byte of the meshes. Sourced by checks/run; wants python3.
+# Runs over small grids against a plain program that goes by the definitions and shares nothing with this one
+# (greedy.py): the exit status, each line of the report and each byte of the meshes. Sourced by checks/run; wants python3.
+
+# The commands whose random runs are compared.
+compared=(mesh strip measure)
 
 # Python itself, since python3 may be a script that looks for it, which is slow to start so often.
 python=$(python3 -c 'import sys; print(sys.executable)')
+export PYTHONDONTWRITEBYTECODE="" PYTHONPYCACHEPREFIX=$room/python
 
 # rough_grid SIDE SEED: heights of a few digits from a linear congruence, some of them flat stretches.
 rough_grid() {
@@ -19,17 +23,30 @@ rough_grid() {
   }' | python3 -c 'import sys; d = sys.stdin.read().rsplit("\n", 1); sys.stdout.buffer.write((d[0] + "\n").encode() + bytes.fromhex(d[1]))'
 }
 
+# differences WORDS..: in what the program's run of these words over the files of the present folder differs from the
+# plain program's: exit status, report and meshes. A line each; nothing where they are the same.
+differences() {
+  local status wanted mesh files=(*)
+  mkdir wanted && ln -- "${files[@]}" wanted
+  "$program" "$@" >report 2>said
+  status=$?
+  (cd wanted && exec "$python" "$checks/greedy.py" "$@" >report 2>said)
+  wanted=$?
+  [ "$status" -eq "$wanted" ] || echo "'$*': exit status $status, not $wanted"
+  cmp -s wanted/report report || echo "'$*': the report is '$(head -c 200 report)', not '$(head -c 200 wanted/report)'"
+  for mesh in wanted/out*.obj; do
+    [ ! -f "$mesh" ] || cmp -s "$mesh" "${mesh##*/}" || echo "'$*': ${mesh##*/} differs"
+  done
+  [ "$(find . -maxdepth 1 -name 'out*.obj' | wc -l)" -eq "$(find wanted -name 'out*.obj' | wc -l)" ] || echo "'$*': not as many meshes as wanted"
+}
+
 # SIDE SEED BUDGET SPACING
 while read -r side seed budget spacing; do
   name=mesh_of_side_${side}_seed_${seed}_budget_${budget}_spacing_$spacing
   mkdir -- "$room/$name" && cd -- "$room/$name" || exit 1
   rough_grid "$side" "$seed" >g
   echo frame >s
-  why=()
-  "$program" mesh g s out "$budget" "$spacing" >report 2>said || why+=("exit status $?")
-  "$python" "$checks/greedy.py" g "$budget" "$spacing" wanted.obj >wanted || why+=("greedy.py failed")
-  cmp -s wanted report || why+=("the report is '$(head -c 200 report)', not '$(head -c 200 wanted)'")
-  cmp -s wanted.obj out000001.obj || why+=("the mesh differs")
+  mapfile -t why < <(differences mesh g s out "$budget" "$spacing")
   decide "$name" ${why[0]+"${why[@]}"}
 done <<'TABLE'
 3 1 2 1
@@ -45,29 +62,12 @@ done <<'TABLE'
 65 10 1500 1
 TABLE
 
-# differences BUDGET SPACING: in what the program's run over the grid g and the script s of the present folder differs
-# from the plain program's: report, exit status and meshes. A line each; nothing where they are the same.
-differences() {
-  local status wanted mesh
-  mkdir wanted
-  "$program" mesh g s out "$1" "$2" >report 2>said
-  status=$?
-  "$python" "$checks/greedy.py" g s wanted/out "$1" "$2" >wanted/report
-  wanted=$?
-  [ "$status" -eq "$wanted" ] || echo "exit status $status, not $wanted"
-  cmp -s wanted/report report || echo "the report is '$(head -c 200 report)', not '$(head -c 200 wanted/report)'"
-  for mesh in wanted/*.obj; do
-    [ ! -f "$mesh" ] || cmp -s "$mesh" "${mesh##*/}" || echo "${mesh##*/} differs"
-  done
-  [ "$(find . -maxdepth 1 -name '*.obj' | wc -l)" -eq "$(find wanted -name '*.obj' | wc -l)" ] || echo "not as many meshes as wanted"
-}
-
 # Whole scripts over a rough grid: NAME SIDE SEED BUDGET SPACING SCRIPT (as printf's %b).
 while IFS='|' read -r name side seed budget spacing script; do
   mkdir -- "$room/$name" && cd -- "$room/$name" || exit 1
   rough_grid "$side" "$seed" >g
   printf '%b' "$script" >s
-  mapfile -t why < <(differences "$budget" "$spacing")
+  mapfile -t why < <(differences mesh g s out "$budget" "$spacing")
   decide "$name" ${why[0]+"${why[@]}"}
 done <<'TABLE'
 a_script_that_moves_the_camera|9|5|60|30|frame\ncamera 0 0 900\nframe\ncamera 240 240 300\nframe\ncamera -90 400 0\nframe\nframe\n
@@ -77,16 +77,12 @@ a_script_with_budgets|17|8|400|1|frame\nbudget 2\nframe\nbudget 33\nframe\n# as 
 a_script_of_all_lines_that_ends_refused|9|9|90|12|camera 10 20 700\nframe\nplane 1 1 0 -60\nset 1 8 0\nbudget 40\nframe\r\n\nraise 0 5 8 8 333\n noplanes\nframe\ncamera 1 2\nframe\n
 TABLE
 
-# Generated runs (generated.py): `try` tells the sums of the plain program's report. LEVEL SEED
+# Generated runs. LEVEL SEED
 while read -r level seed; do
   name=generated_run_${level}_$seed
   mkdir -- "$room/$name" && cd -- "$room/$name" || exit 1
-  "$python" "$checks/generated.py" "$level" "$seed" g s
-  "$python" "$checks/greedy.py" g s wanted 20000 30 |
-    awk -v words="$level $seed" '{ t += $4; if ($8 > w) w = $8; b += $14 != "none" } END { print "try " words " frames " NR " triangles " t " worst " w + 0 " blocked " b + 0 }' >wanted
-  "$program" try "$level" "$seed" >report 2>said
-  why=()
-  cmp -s wanted report || why+=("'$(head -c 200 report)', not '$(head -c 200 wanted)'")
+  : >no_file_is_read
+  mapfile -t why < <(differences try "$level" "$seed")
   decide "$name" ${why[0]+"${why[@]}"}
 done <<'TABLE'
 1 0
@@ -94,17 +90,101 @@ done <<'TABLE'
 5 7
 TABLE
 
-# Random runs (random_run.py), by their seeds: 200, or as many as RANDOM_RUNS says. A check for each side.
-mkdir -- "$room/random"
-for ((seed = 1; seed <= ${RANDOM_RUNS:-200}; seed++)); do
-  mkdir -- "$room/random/$seed" && cd -- "$room/random/$seed" || exit 1
-  read -r side budget spacing < <("$python" "$checks/random_run.py" "$seed" g s)
-  differences "$budget" "$spacing" | sed "s/^/seed $seed, budget $budget, spacing $spacing: /" >>"$room/random/side_$side"
-done
-for found in "$room"/random/side_*; do
-  [ -f "$found" ] || continue
-  mapfile -t why <"$found"
-  decide "random_runs_of_${found##*/}" ${why[0]+"${why[@]}"}
+# --- Random runs (random_run.py) by their seeds: 100 of each command, or as many as RANDOM_RUNS says. ---
+
+# random_folder KIND SEED COMMAND: goes to the folder of a random run of a command, with its words in `words`. Each line of
+# ../why is a difference; where that file is not there the run did not end.
+random_folder() {
+  mkdir -p -- "$room/random/$1/$2/run" && cd -- "$room/random/$1/$2/run" || return
+  read -r -a words < <("$python" "$checks/random_run.py" "$2" "$3") && [ "${words[0]}" = "$3" ]
+}
+
+# random_script COMMAND SEED: a run of a script.
+random_script() {
+  random_folder "$1" "$2" "$1" || return
+  differences "${words[@]}" >../why
+}
+
+# random_least KIND SEED: a run of a script, and its runs again with the worst of its first frame as tolerance, and with one less.
+random_least() {
+  random_folder "$1" "$2" least || return
+  local worst tolerance
+  {
+    differences "${words[@]}"
+    worst=$(sed -n '1s/^frame .* worst //p' report)
+    for tolerance in ${worst:+"$worst" "$((worst - 1))"}; do
+      mkdir -- "$tolerance" && ln -- g s "$tolerance" && cd -- "$tolerance" || return
+      differences "${words[@]:0:4}" "$tolerance" "${words[5]}"
+      cd ..
+    done
+  } >../found
+  mv ../found ../why
+}
+
+# random_certificate KIND SEED: what the program makes has the camera and the leaves of what the plain program makes; with
+# each of the two, the program and the plain program certify the program's mesh.
+random_certificate() {
+  random_folder "$1" "$2" certify || return
+  local maker limits=("${words[@]:6}")
+  mkdir made plain && ln g made && ln g plain || return
+  "$program" mesh g s made/out "${limits[@]}" >said && ln made/out000001.obj plain || return
+  {
+    "$program" "${words[@]}" >made/c || echo "'${words[*]}': exit status $?"
+    "$python" "$checks/greedy.py" "${words[@]}" >plain/c || echo "'${words[*]}': exit status $? of the plain program"
+    cmp -s <(grep -E '^(camera|leaf) ' made/c) <(grep -E '^(camera|leaf) ' plain/c) || echo "'${words[*]}': camera or leaves differ"
+    for maker in made plain; do
+      cd "$maker" || return
+      differences certify check g out000001.obj c "${limits[@]}"
+      grep -q '^certified ' report || echo "'${words[*]}', $maker: the report is '$(head -c 200 report)'"
+      cd ..
+    done
+  } >../found
+  mv ../found ../why
+}
+
+# random_damage KIND SEED: a certificate, or its mesh, in which something was changed; of each eight seeds one is checked for a
+# budget of one more, and one for one less.
+random_damage() {
+  random_folder "$1" "$2" certify || return
+  local limits=("${words[@]:6}")
+  case $(($2 % 8)) in
+    0) limits[0]=$((limits[0] + 1)) ;;
+    4) limits[0]=$((limits[0] - 1)) ;;
+  esac
+  "$python" "$checks/greedy.py" "${words[@]}" >c &&
+    "$python" "$checks/greedy.py" mesh g s out "${words[@]:6}" >said &&
+    "$python" "$checks/random_run.py" "$2" damage "${words[6]}" || return
+  differences certify check g out000001.obj c "${limits[@]}" >../why
+}
+
+# random_runs HOW KIND: runs with the seeds 1, 2, .. by HOW, as many at a time as there are processors.
+random_runs() {
+  local seed line found=()
+  for ((seed = 1; seed <= ${RANDOM_RUNS:-100}; seed++)); do
+    while [ "$(jobs -rp | wc -l)" -ge "$processors" ]; do wait -n; done
+    "$1" "$2" "$seed" &
+  done
+  wait
+  for ((seed = 1; seed <= ${RANDOM_RUNS:-100}; seed++)); do
+    if [ ! -f "$room/random/$2/$seed/why" ]; then
+      found+=("seed $seed did not end")
+      continue
+    fi
+    while IFS= read -r line; do found+=("seed $seed, $line"); done <"$room/random/$2/$seed/why"
+  done
+  decide "random_runs_of_$2" "${found[@]:0:5}"
+}
+
+processors=$(nproc)
+for command in "${compared[@]}"; do
+  case $command in
+    certify)
+      random_runs random_certificate certify
+      random_runs random_damage damage
+      ;;
+    least) random_runs random_least least ;;
+    *) random_runs random_script "$command" ;;
+  esac
 done
 
 cd -- "$top" || exit 1

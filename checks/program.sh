@@ -71,7 +71,7 @@ for example in "$top"/examples/*/; do
   cp -- "$example"* "$room/examples/$(basename -- "$example")" 2>/dev/null
 done
 
-# Of the meshes, as many are wanted as the report has lines of frames; expected/ has some of them, or all.
+# Of the meshes out*.obj, as many are wanted as the report has lines of frames; expected/ has some of them, or all.
 for example in "$top"/examples/*/; do
   name=example_$(basename -- "$example" | tr - _)
   cd -- "$room/examples/$(basename -- "$example")" || exit 1
@@ -85,7 +85,7 @@ for example in "$top"/examples/*/; do
     [ -f "$mesh" ] || continue
     cmp -s -- "$mesh" "${mesh##*/}" || why+=("${mesh##*/} differs")
   done
-  [ "$(find . -name '*.obj' | wc -l)" -eq "$(grep -c '^frame ' "$example/expected/report")" ] ||
+  [ "$(find . -name 'out*.obj' | wc -l)" -eq "$(grep -cE '^(frame|strip) ' "$example/expected/report")" ] ||
     why+=("not as many meshes as wanted")
   decide "$name" ${why[0]+"${why[@]}"}
 done
@@ -365,8 +365,8 @@ start try_of_the_least_level
 run try 01 1
 expect 0 0 'try 1 1 frames 50 triangles 400 worst 0 blocked 0\n'
 
-# The sums of the report that greedy.py makes of the grid and the script of generated.py, with budget 20000 and spacing 30,
-# in three minutes. All of its 50 meshes were those of the program too.
+# The sums of the 50 frames that greedy.py makes from scratch of the generated grid and script, in some minutes. All of its
+# meshes were those of the program too.
 start try_of_level_9
 run try 9 1
 expect 0 0 'try 9 1 frames 50 triangles 999963 worst 4223 blocked 50\n'
