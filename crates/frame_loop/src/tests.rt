@@ -1,6 +1,6 @@
 //! Runs of an engine over small grids, with each frame beside one made from scratch.
 //!
-//! The numbers of the worked runs were found by hand, or by a plain program that has nothing of this one.
+//! The frames from scratch are those of `plain_mesh`, which has nothing of this engine.
 
 ghost use Rattle.std.specs.Prelude.{◌<◌, ◌≤◌};
 
@@ -210,121 +210,6 @@ fn count_marks(
         }
     }
     marks
-}
-
-/// Triangles, vertices, worst, splits, merges, and what blocks with its need.
-type Told = (u32, u32, u64, u32, u32, Option<(u32, u32)>);
-
-/// Stops where a note tells something else.
-fn check(rt: &impl Abort, note: &FrameNote, wanted: Told) {
-    let blocked = note.blocked.map(|b| (b.tri.number(), b.need));
-    assert_eq!(rt;
-        (
-            note.triangles,
-            note.vertices,
-            note.worst,
-            note.splits,
-            note.merges,
-            blocked
-        ),
-        wanted
-    );
-}
-
-/// Stops where other counts are inside, cut and outside.
-fn check_marks(rt: &impl Abort, note: &FrameNote, wanted: (u32, u32, u32)) {
-    assert_eq!(rt; (note.inside, note.cut, note.outside), wanted);
-}
-
-/// The third frame asks again for the blocking triangle alone.
-#[test]
-fn a_mesh_follows_the_camera_and_stands_still_with_it(rt: HostRuntime) -> Result<(), Fail> {
-    let alloc = rt.alloc();
-    let mut run = Run::new(&rt, alloc, 2, 9, 1)?;
-    run.set_height(&rt, 1, 0, 10);
-    run.set_height(&rt, 3, 4, 10);
-    let first = run.frame(&rt, alloc)?;
-    check(&rt, &first, (9, 9, 436906, 7, 0, Some((6, 10))));
-    run.move_to(&rt, 4, 4, 0)?;
-    let second = run.frame(&rt, alloc)?;
-    check(&rt, &second, (9, 9, 436906, 5, 5, Some((4, 10))));
-    let asked = run.engine.evaluations();
-    let third = run.frame(&rt, alloc)?;
-    check(&rt, &third, (9, 9, 436906, 0, 0, Some((4, 10))));
-    assert!(rt; run.engine.evaluations().saturating_sub(asked) <= 2);
-    Ok(())
-}
-
-#[test]
-fn a_mesh_follows_a_height(rt: HostRuntime) -> Result<(), Fail> {
-    let alloc = rt.alloc();
-    let mut run = Run::new(&rt, alloc, 2, 9, 1)?;
-    run.set_height(&rt, 1, 0, 10);
-    let first = run.frame(&rt, alloc)?;
-    check(&rt, &first, (9, 9, 0, 7, 0, None));
-    run.set_height(&rt, 1, 0, 0);
-    let second = run.frame(&rt, alloc)?;
-    check(&rt, &second, (2, 4, 0, 0, 7, None));
-    Ok(())
-}
-
-#[test]
-fn a_budget_stays_in_force(rt: HostRuntime) -> Result<(), Fail> {
-    let alloc = rt.alloc();
-    let mut run = Run::new(&rt, alloc, 2, 9, 1)?;
-    run.set_height(&rt, 1, 0, 10);
-    run.frame(&rt, alloc)?;
-    run.set_budget(&rt, 7);
-    let second = run.frame(&rt, alloc)?;
-    check(&rt, &second, (5, 6, 1310720, 0, 4, Some((8, 8))));
-    let still = run.frame(&rt, alloc)?;
-    check(&rt, &still, (5, 6, 1310720, 0, 0, Some((8, 8))));
-    run.set_budget(&rt, 9);
-    let last = run.frame(&rt, alloc)?;
-    check(&rt, &last, (9, 9, 0, 4, 0, None));
-    Ok(())
-}
-
-/// The mesh of the frame before, and the planes that are in force now.
-#[test]
-fn a_view_has_the_planes_of_now(rt: HostRuntime) -> Result<(), Fail> {
-    let alloc = rt.alloc();
-    let mut run = Run::new(&rt, alloc, 1, 4, 1)?;
-    run.set_height(&rt, 1, 1, 10);
-    let first = run.frame(&rt, alloc)?;
-    check_marks(&rt, &first, (4, 0, 0));
-    run.add_plane(&rt, 1, 0, 0, -2)?;
-    assert_eq!(rt; run.engine.view().planes.len(), 1);
-    assert_eq!(rt; run.engine.view().leaves.len(), 4);
-    let second = run.frame(&rt, alloc)?;
-    check(&rt, &second, (4, 5, 0, 0, 0, None));
-    check_marks(&rt, &second, (0, 3, 1));
-    run.clear_planes();
-    run.add_plane(&rt, 1, 0, 0, -3)?;
-    let third = run.frame(&rt, alloc)?;
-    check(&rt, &third, (2, 4, 0, 0, 2, None));
-    check_marks(&rt, &third, (0, 0, 2));
-    run.clear_planes();
-    let last = run.frame(&rt, alloc)?;
-    check(&rt, &last, (4, 5, 0, 2, 0, None));
-    check_marks(&rt, &last, (4, 0, 0));
-    Ok(())
-}
-
-/// The triangles to the left have the raised column 2 as their border, and no more of the area.
-#[test]
-fn a_raise_reaches_what_only_its_border_meets(rt: HostRuntime) -> Result<(), Fail> {
-    let alloc = rt.alloc();
-    let mut run = Run::new(&rt, alloc, 2, 12, 1)?;
-    let flat = run.frame(&rt, alloc)?;
-    check(&rt, &flat, (2, 4, 0, 0, 0, None));
-    run.raise(&rt, 2, 0, 4, 4, 5);
-    let raised = run.frame(&rt, alloc)?;
-    check(&rt, &raised, (12, 11, 163840, 10, 0, Some((23, 14))));
-    run.raise(&rt, 2, 0, 4, 4, -5);
-    let lowered = run.frame(&rt, alloc)?;
-    check(&rt, &lowered, (2, 4, 0, 0, 10, None));
-    Ok(())
 }
 
 /// The next of a row of random numbers.
