@@ -6,3 +6,4 @@ pub mod PairLemmas
 pub mod MateLemmas
 pub mod CentreLemmas
 pub mod WeightLemmas
+pub mod AreaLemmas

@@ -11,6 +11,7 @@ use Rattle.bintree_laws.proofs.CentreLemmas.{border_or_mate, not_border_and_mate
 use Rattle.closure_laws.specs.Forcing.{IsPrepared}
 use Rattle.tiling_laws.proofs.DescentLemmas.{IsDown-address, IsAddress-down, IsAddress-splittable, sample_of, All-leaves_of, Tiles-leaves_of}
 use Rattle.tiling_laws.proofs.ConformityLemmas.{IsUnder, self, below, member_above}
+use Rattle.mesh_defs.proofs.TestLemmas.{same_tests}
 use Rattle.mesh_defs.proofs.ListLemmas.{IsIn, Contains-in, some-count}
 use Rattle.tiling_laws.proofs.ConverseLemmas.{IsUnder-sample, is_inside-up, IsAddress-parent}
 use Rattle.closure_laws.proofs.ForcingLemmas.{IsLeastClosed-member, IsPrepared-base, IsPrepared-parent, IsLeastClosed-single, IsLeastClosed-pair}
@@ -20,12 +21,6 @@ use Rattle.closure_laws.proofs.ForcingLemmas.{IsLeastClosed-member, IsPrepared-b
 -- closing more gives more
 pub IsSubset-closures : (n : ℕ) (some all has other : ℕ → Bool) → IsSubset some all → IsLeastClosed n some has → IsLeastClosed n all other → IsSubset has other
 IsSubset-closures n some all has other within p q = p.least other q.closed (λ a h. q.holds a (within a h))
-
--- two tests that hold of the same numbers are equal at each
-pub same_tests : (b c : Bool) → (b ≡ true → c ≡ true) → (c ≡ true → b ≡ true) → b ≡ c
-same_tests true c to from = sym (to refl)
-same_tests false true to from = from refl
-same_tests false false to from = refl
 
 -- a least closed set is unique
 pub IsLeastClosed-unique : (n : ℕ) (wanted has other : ℕ → Bool) → IsLeastClosed n wanted has → IsLeastClosed n wanted other → (a : ℕ) → has a ≡ other a
@@ -81,9 +76,13 @@ prepare n has t closed above = ⊎_elim
     (λ big. let c : HasClosure n has (t / 2) = above big in (c.0, IsPrepared-parent n has c.0 t (t / 2) refl big c.1))
     (cases_lt t 4)
 
--- the parent of a splittable triangle is splittable, a level less deep
-IsSplittable-half : (n t : ℕ) → IsSplittable n t → 4 ≤ t → IsSplittable n (t / 2)
+-- the parent of a splittable triangle is splittable
+pub IsSplittable-half : (n t : ℕ) → IsSplittable n t → 4 ≤ t → IsSplittable n (t / 2)
 IsSplittable-half n t s big = let e = level_of-parent t big in let h = s.coarse in record { low = omega arith; coarse = omega arith }
+
+-- and so is its mate
+pub IsSplittable-mate : (n t m : ℕ) → IsSplittable n t → IsMate n t m → IsSplittable n m
+IsSplittable-mate n t m s mate = let e = mate.level in let h = s.coarse in record { low = mate.address.low; coarse = omega arith }
 
 -- a closed set and a triangle have a least closed set, down to each level
 closure_at : (n level : ℕ) (has : ℕ → Bool) (t : ℕ) → IsClosed n has → IsSplittable n t → level_of t < level → HasClosure n has t

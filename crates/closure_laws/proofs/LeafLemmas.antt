@@ -11,7 +11,8 @@ use Rattle.mesh_defs.proofs.ListLemmas.{IsIn, Contains-in, some-count, count-nar
 use Rattle.tiling_laws.proofs.DescentLemmas.{IsDown-address, IsAddress-splittable, sample_of, IsAddress-leaves_of, Tiles-leaves_of}
 use Rattle.tiling_laws.proofs.ConformityLemmas.{IsUnder, self, below, member_above}
 use Rattle.tiling_laws.proofs.ConverseLemmas.{IsAddress-parent}
-use Rattle.closure_laws.proofs.ClosureLemmas.{same_tests, IsOuter, IsOuter-leaves_of, leaf-outer}
+use Rattle.mesh_defs.proofs.TestLemmas.{same_tests}
+use Rattle.closure_laws.proofs.ClosureLemmas.{IsOuter, IsOuter-leaves_of, leaf-outer}
 
 -- which they are
 

@@ -12,7 +12,7 @@ use Rattle.mesh_defs.specs.ClosedSet.{IsClosed, IsSubset, among}
 use Rattle.bintree_laws.proofs.LevelLemmas.{splittable-below}
 use Rattle.mesh_defs.proofs.ListLemmas.{IsIn, Contains-in, IsIn-among, among-in, count-cons, count-yes, count-no, count-narrower}
 use Rattle.mesh_defs.specs.GridSet.{IsAscending}
-use Rattle.closure_laws.proofs.ClosureLemmas.{same_tests}
+use Rattle.mesh_defs.proofs.TestLemmas.{same_tests}
 use Rattle.closure_laws.proofs.MemberLemmas.{ascending_unique}
 
 -- what holds of each entry
@@ -189,7 +189,7 @@ ascending-range low (suc count) = (
 -- closed sets as lists
 
 -- the members of a closed set, in ascending order
-pub list_of : ℕ → (ℕ → Bool) → List ℕ
+unfoldable pub list_of : ℕ → (ℕ → Bool) → List ℕ
 list_of n has = filter has (range_with_len 0 (4 * 2 ^ (2 * n)))
 
 -- the list of a set is ascending

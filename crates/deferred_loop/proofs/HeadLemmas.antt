@@ -1,12 +1,10 @@
 -- What the heads of the queues tell.
-use Rattle.std.proofs.Common.{◌≡◌, ℕ, ◌*◌, ◌<◌, ◌≤◌, inl, inr, true, false, None, Some, IsTrue, List, Contains, All, MatchOption, refl, sym, ◌∙◌, ap, subst, arith, ⊎_elim}
+use Rattle.std.proofs.Common.{◌≡◌, ℕ, ◌*◌, ◌<◌, ◌≤◌, inl, inr, true, false, None, Some, IsTrue, Contains, All, MatchOption, refl, sym, ◌∙◌, ap, subst, arith, ⊎_elim}
 use Rattle.std.proofs.lemmas.Bool.{cases_lt, cases_eq}
-use Rattle.std.proofs.lemmas.List.Elements.{All-contains}
 use Rattle.mesh_defs.specs.Triangle.{level_of, IsAddress, IsMate}
 use Rattle.mesh_defs.specs.ClosedSet.{leaves_of, among}
 use Rattle.mesh_defs.specs.Ranking.{RanksBefore, IsBefore}
 use Rattle.bintree_laws.proofs.LevelLemmas.{level-le}
-use Rattle.tiling_laws.proofs.DescentLemmas.{IsAddress-leaves_of, IsAddress-splittable}
 use Rattle.mesh_defs.specs.GridSet.{IsGridSet}
 use Rattle.bintree_addr.specs.declared.rank.Rank.{Rank}
 use Rattle.bintree_addr.specs.RankOrder.{ComesFirst}
@@ -16,7 +14,7 @@ use Rattle.frame_steps.specs.Deferred.{IsEntry, leaf, member, DeferredFrame, IsD
 use Rattle.frame_steps.specs.Keys.{upper_key, lower_key, IsLastKey}
 use Rattle.closure_laws.proofs.DiamondLemmas.{diamond_trans, diamond_symmetric, leaf_outside}
 use Rattle.frame_steps.proofs.NextLemmas.{some_lead}
-use Rattle.frame_steps.proofs.KeyLemmas.{first_known, zero_head, lead_no_later_key, all_before, all_positive, upper_key-known}
+use Rattle.frame_steps.proofs.KeyLemmas.{IsAddress-entry, first_known, zero_head, lead_no_later_key, all_before, all_positive, upper_key-known}
 use Rattle.deferred_loop.specs.Choice.{Priorities, IsFirstRank, IsLastRank}
 use Rattle.deferred_loop.specs.Seen.{SeenMesh, best_key, worst_key, sure, IsDecided, IsHead, IsLastHead}
 use Rattle.deferred_loop.specs.Kept.{told_of, IsSettled, IsMet, IsAllowed, IsNoneMet}
@@ -33,11 +31,6 @@ told_grid w told same = ap (λ (z : Priorities). z.n) same
 -- an address may be asked
 pub asked_level : (w : DeferredFrame) (told : Priorities) (a : ℕ) → told ≡ told_of w → IsAddress w.n a → level_of a ≤ 2 * told.n
 asked_level w told a same address = omega (arith, level-le w.n a address, told_grid w told same)
-
--- an entry is an address
-pub entry_address : (w : DeferredFrame) (members : List ℕ) (a : ℕ) → IsGridSet w.n members → IsEntry w.n (among members) a → IsAddress w.n a
-entry_address w members a set (leaf h) = All-contains (IsAddress w.n) (leaves_of w.n (among members)) a (IsAddress-leaves_of w.n (among members)) h
-entry_address w members a set (member h) = IsAddress-splittable w.n a (set.closed.splittable a h.member)
 
 -- a head with no triangle to ask is decided
 pub last_decided : (s : SeenMesh) (h : Last) → IsLastHead s h → h.unasked ≡ None → IsDecided s h.rank.tri
@@ -86,7 +79,7 @@ module _ (w : DeferredFrame) (is : IsDeferredFrame w) (s : SeenMesh) (settled : 
 
     -- and may be asked
     pub head_level : (told : Priorities) → told ≡ told_of w → level_of h.rank.tri ≤ 2 * told.n
-    head_level told same = asked_level w told h.rank.tri same (entry_address w s.set.members h.rank.tri set (leaf head_leaf))
+    head_level told same = asked_level w told h.rank.tri same (IsAddress-entry w.n s.set.members h.rank.tri set (leaf head_leaf))
 
     -- a head of key 0
     pub head_zero : h.rank.p ≡ 0 → All (λ a. w.priority a ≡ 0) (leaves_of w.n (among s.set.members))
@@ -112,7 +105,7 @@ module _ (w : DeferredFrame) (is : IsDeferredFrame w) (s : SeenMesh) (settled : 
     last_can = subst (λ z. CanMerge z (among s.set.members) h.rank.tri) settled.grid last.mergeable
 
     last_address : IsAddress w.n h.rank.tri
-    last_address = entry_address w s.set.members h.rank.tri set (member last_can)
+    last_address = IsAddress-entry w.n s.set.members h.rank.tri set (member last_can)
 
     -- the key of a triangle that can be merged
     key_of : (a : ℕ) → CanMerge w.n (among s.set.members) a → worst_key s a ≡ lower_key p (sure s) a
@@ -181,7 +174,7 @@ module _ (w : DeferredFrame) (is : IsDeferredFrame w) (s : SeenMesh) (settled : 
     -- and may be asked
     pub last_level : (told : Priorities) (t : ℕ) → told ≡ told_of w → IsInDiamond s.set.n h.rank.tri t → level_of t ≤ 2 * told.n
     last_level told t same inside = asked_level w told t same
-        (entry_address w s.set.members t set (member (last_key t (subst (λ z. IsInDiamond z h.rank.tri t) settled.grid inside)).mergeable))
+        (IsAddress-entry w.n s.set.members t set (member (last_key t (subst (λ z. IsInDiamond z h.rank.tri t) settled.grid inside)).mergeable))
 
     -- a diamond that is decided
     pub last_is : IsDecided s h.rank.tri → IsLastRank w.n w.priority s.set.members h.rank

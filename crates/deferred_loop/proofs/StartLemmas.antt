@@ -11,7 +11,7 @@ use Rattle.frame_steps.specs.Deferred.{IsEntry, leaf, member, DeferredFrame, IsD
 use Rattle.frame_steps.specs.Stamps.{Stamp, Readings, is_due, stamp_now, counted_stamp}
 use Rattle.deferred_loop.specs.Kept.{IsFrameOf, IsSound, IsCharged, IsCaughtUp, IsStamped}
 use Rattle.deferred_loop.proofs.KeyLemmas.{can_merge_with}
-use Rattle.deferred_loop.proofs.HeadLemmas.{entry_address}
+use Rattle.frame_steps.proofs.KeyLemmas.{IsAddress-entry}
 
 -- an entry that is due counts with a stamp that is taken now
 counted_due : (r : Readings) (odometer : ℕ) (stamps : ℕ → Option Stamp) (a : ℕ) → is_due odometer (stamps a) ≡ true → counted_stamp r odometer stamps a ≡ stamp_now r odometer a
@@ -52,7 +52,7 @@ module _ (w : DeferredFrame) (is : IsDeferredFrame w) (r : Readings) (odometer :
 
   -- what is due is an address
   pub begun_address : (a : ℕ) → IsTrue (among mid.fresh a) → IsAddress w.n a
-  begun_address a i = entry_address w mid.set.members a valid
+  begun_address a i = IsAddress-entry w.n mid.set.members a valid
       (subst (λ z. IsEntry z (among mid.set.members) a) grid (begun.each a i).0)
 
   module _ (after : SeenMesh) (caught : IsCaughtUp w r odometer mid after) (count more : ℕ) (most : more ≤ count + length mid.fresh) (least : more < 2 ^ 64 - 1 → count + length mid.fresh ≤ more) where

@@ -17,7 +17,7 @@ use Rattle.deferred_loop.specs.Choice.{IsNextSplit, IsNextMerge}
 use Rattle.frame_steps.specs.Stamps.{Stamp, Readings, is_due, stamp_now}
 use Rattle.deferred_loop.specs.Kept.{IsTrueKey, IsSound, IsSettled, IsOldLeaf, IsOldMember, IsCharged, IsAskedOnly, IsCaughtUp, IsStamped}
 use Rattle.deferred_loop.proofs.KeyLemmas.{can_merge_with}
-use Rattle.deferred_loop.proofs.HeadLemmas.{entry_address}
+use Rattle.frame_steps.proofs.KeyLemmas.{IsAddress-entry}
 use Rattle.deferred_loop.proofs.FreshLemmas.{NewRoles, split_roles, merge_roles, few_fresh}
 
 among_left : (a : ℕ) (xs ys : List ℕ) → IsTrue (among xs a) → IsTrue (among (xs ++ ys) a)
@@ -61,7 +61,7 @@ merge_sound w before mid d s can step = renewed_sound w before mid s step.n step
 -- what is fresh is an address
 pub fresh_address : (w : DeferredFrame) (before mid : SeenMesh) (a : ℕ) → IsSound w mid → IsRenewed before mid → IsTrue (among mid.fresh a) → IsAddress w.n a
 fresh_address w before mid a sound r i =
-    entry_address w mid.set.members a sound.valid
+    IsAddress-entry w.n mid.set.members a sound.valid
     (subst (λ z. IsEntry z (among mid.set.members) a) sound.grid (r.each a i).0)
 
 module _ (w : DeferredFrame) (before mid after : SeenMesh) (settled : IsSettled w before) (same : mid.set.n ≡ before.set.n) (renewed : IsRenewed before mid)

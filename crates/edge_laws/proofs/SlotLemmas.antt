@@ -8,12 +8,15 @@ use Rattle.std.proofs.lemmas.List.Sums.{sum_by-set, sum_by-cons, length-filter}
 use Rattle.std.proofs.lemmas.Map.Views.{any-filter_same}
 use Rattle.mesh_defs.specs.Triangle.{level_of}
 use Rattle.mesh_defs.specs.ClosedSet.{IsClosed, leaves_of, among}
+use Rattle.mesh_defs.specs.GridSet.{IsGridSet}
 use Rattle.mesh_defs.proofs.ListLemmas.{among-in}
-use Rattle.closure_laws.proofs.ClosureLemmas.{same_tests, leaves_of-same}
+use Rattle.mesh_defs.proofs.TestLemmas.{same_tests}
+use Rattle.closure_laws.proofs.ClosureLemmas.{leaves_of-same}
+use Rattle.closure_laws.proofs.SetListLemmas.{list_of, ascending-list_of, among-list_of}
 use Rattle.closure_laws.proofs.SizeLemmas.{length-leaves_once}
 use Rattle.edge_laws.specs.Edge.{mate_of, owner, with_square}
 use Rattle.edge_laws.specs.LeafAcross.{IsLeafOf, IsGrown}
-use Rattle.edge_laws.specs.Slots.{address_at, has_children, IsLive, split_set, room_of, IsPool, diamond_size, HasLeaf, IsSplit, IsMerge}
+use Rattle.edge_laws.specs.Slots.{address_at, has_children, IsLive, split_set, split_list, room_of, IsPool, diamond_size, HasLeaf, IsSplit, IsMerge}
 use Rattle.edge_laws.proofs.MateLemmas.{mate_of-low, mate_of-level}
 use Rattle.edge_laws.proofs.OwnerLemmas.{owner_cases}
 use Rattle.bintree_laws.proofs.LevelLemmas.{level_of-parent}
@@ -382,3 +385,24 @@ IsSplit-IsMerge before middle after a member mate_member merge split p = elim (c
     ]
   ]
 ]
+
+-- ---- the set as a list
+
+-- each member is listed, and nothing else
+pub among-split_list : (n : ℕ) (pairs : List ℕ) (a : ℕ) → IsPool n pairs → among (split_list n pairs) a ≡ split_set pairs a
+unfolding list_of
+among-split_list n pairs a pool = sym (among-list_of n (split_set pairs) pool.closed a)
+
+-- the list is that of a closed set
+pub split_list-closed : (n : ℕ) (pairs : List ℕ) → IsPool n pairs → IsGridSet n (split_list n pairs)
+unfolding list_of
+split_list-closed n pairs pool = record {
+  n_low = pool.n_low;
+  n_high = pool.n_high;
+  ascending = ascending-list_of n (split_set pairs);
+  closed = same_closed n (split_set pairs) (among (split_list n pairs)) (among-list_of n (split_set pairs) pool.closed) pool.closed;
+}
+
+-- and has the leaves of the set
+pub leaves-split_list : (n : ℕ) (pairs : List ℕ) → IsPool n pairs → leaves_of n (among (split_list n pairs)) ≡ leaves_of n (split_set pairs)
+leaves-split_list n pairs pool = leaves_of-same n (among (split_list n pairs)) (split_set pairs) (λ a. among-split_list n pairs a pool)

@@ -1,7 +1,8 @@
 -- Triangles in pairs of slots: slots 2k and 2k + 1 have the two children of one triangle.
--- Words: address_at, has_children, IsLive, split_set, room_of, IsPool, HasLeaf, IsMateLive, IsSplit, HasTwoLeaves,
+-- Words: address_at, has_children, IsLive, split_set, split_list, room_of, IsPool, HasLeaf, IsMateLive, IsSplit, HasTwoLeaves,
 -- IsMergeReady, diamond_size, IsUnder, IsMerge.
-use Rattle.std.specs.Prelude.{◌≡◌, ◌≢◌, ◌⊎◌, ℕ, ◌+◌, ◌*◌, ◌/◌, ◌%◌, ◌<◌, ◌≤◌, Bool, ◌&&◌, true, false, nat_lt, nat_eq, List, slice_index, count_by}
+use Rattle.std.specs.Prelude.{◌≡◌, ◌≢◌, ◌⊎◌, ℕ, ◌+◌, ◌*◌, ◌/◌, ◌%◌, ◌^◌, ◌<◌, ◌≤◌, Bool, ◌&&◌, true, false, nat_lt, nat_eq, List, slice_index, count_by}
+use Rattle.std.specs.List.{filter, range_with_len}
 use Rattle.mesh_defs.specs.ClosedSet.{among, IsClosed}
 use Rattle.edge_laws.specs.Edge.{mate_of}
 use Rattle.edge_laws.specs.LeafAcross.{IsGrown}
@@ -22,6 +23,10 @@ IsLive pairs s = 2 ≤ address_at pairs s
 -- the set of split triangles
 abbrev pub split_set : List ℕ → ℕ → Bool
 split_set pairs p = nat_lt 1 p && among pairs p
+
+-- the same as a list, in ascending order
+abbrev pub split_list : ℕ → List ℕ → List ℕ
+split_list n pairs = filter (split_set pairs) (range_with_len 0 (4 * 2 ^ (2 * n)))
 
 -- the pairs that are free
 abbrev pub room_of : List ℕ → ℕ

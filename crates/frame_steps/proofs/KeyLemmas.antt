@@ -1,16 +1,19 @@
 -- What the heads of the two queues tell, by their keys.
 use Rattle.std.proofs.Common.{◌≡◌, ℕ, ◌<◌, ◌≤◌, Bool, true, false, List, All, Contains, sym, subst, arith, ⊎_elim}
 use Rattle.std.proofs.lemmas.Bool.{cases_Bool, cond-true, cond-false}
+use Rattle.std.proofs.lemmas.List.Elements.{All-contains}
+use Rattle.mesh_defs.specs.Triangle.{IsAddress}
 use Rattle.mesh_defs.specs.ClosedSet.{leaves_of, among}
 use Rattle.mesh_defs.specs.Ranking.{RanksBefore, IsBefore}
 use Rattle.mesh_defs.specs.Greedy.{IsFirstLeaf}
 use Rattle.mesh_defs.proofs.ListLemmas.{Contains-in}
 use Rattle.mesh_defs.specs.GridSet.{IsGridSet}
+use Rattle.tiling_laws.proofs.DescentLemmas.{IsAddress-leaves_of, IsAddress-splittable}
 use Rattle.closure_laws.specs.Order.{IsNoLater}
 use Rattle.closure_laws.proofs.OrderLemmas.{no_later-le, no_later_from, no_later_trans, no_later_before, no_later_other}
 use Rattle.closure_laws.proofs.SetListLemmas.{All-in}
 use Rattle.frame_steps.specs.Lead.{IsLead}
-use Rattle.frame_steps.specs.Deferred.{DeferredFrame, IsDeferredFrame}
+use Rattle.frame_steps.specs.Deferred.{DeferredFrame, IsDeferredFrame, IsEntry, leaf as of_leaf, member as of_member}
 use Rattle.frame_steps.specs.Keys.{upper_key, lower_key, IsLastKey}
 use Rattle.frame_steps.proofs.LeadLemmas.{lead_first}
 
@@ -87,3 +90,8 @@ module _ (w : DeferredFrame) (is : IsDeferredFrame w) where
   pub all_positive : (members : List ℕ) (known : ℕ → Bool) (a c : ℕ) → IsGridSet w.n members → IsLastKey w members known a c →
       0 < lower_key w known c → (d : ℕ) → IsLead w.n w.priority (among members) d → 0 < w.priority d
   all_positive members known a c set l some d lead = let key = no_later-le (lead_no_later_key members known a c set l d lead) in omega arith
+
+-- an entry is a triangle of the grid
+pub IsAddress-entry : (n : ℕ) (members : List ℕ) (a : ℕ) → IsGridSet n members → IsEntry n (among members) a → IsAddress n a
+IsAddress-entry n members a set (of_leaf h) = All-contains (IsAddress n) (leaves_of n (among members)) a (IsAddress-leaves_of n (among members)) h
+IsAddress-entry n members a set (of_member h) = IsAddress-splittable n a (set.closed.splittable a h.member)

@@ -7,7 +7,8 @@ use Rattle.mesh_defs.specs.Triangle.{level_of, corners_of, IsAddress}
 use Rattle.mesh_defs.specs.BoundingBox.{holds_point, point}
 use Rattle.bintree_laws.specs.Corners.{IsWithin}
 use Rattle.bintree_laws.proofs.LatticeLemmas.{same_point}
-use Rattle.wedgie_tree.specs.Edits.{AgreesOn, IsInRectangle, MeetsArea}
+use Rattle.bintree_laws.specs.Areas.{IsInRectangle, MeetsArea}
+use Rattle.wedgie_tree.specs.Edits.{AgreesOn}
 
 -- what the law functions say that is used here
 pub record HeldLaws : Type 0 where

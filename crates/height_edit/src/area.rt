@@ -5,7 +5,8 @@ ghost use Rattle.mesh_defs.specs.Triangle.{IsAddress, level_of, corners_of};
 ghost use Rattle.mesh_defs.specs.Thickness.{thickness_of};
 ghost use Rattle.mesh_defs.specs.BoundingBox.{box_of};
 ghost use Rattle.mesh_defs.specs.State.{raised_heights};
-ghost use Rattle.wedgie_tree.specs.Edits.{MeetsArea, area_of};
+ghost use Rattle.bintree_laws.specs.Areas.{MeetsArea};
+ghost use Rattle.wedgie_tree.specs.Edits.{area_of};
 
 use bintree_addr::Tri;
 use bintree_laws::{corner_laws, level_laws};

@@ -14,7 +14,8 @@ use Rattle.mesh_defs.proofs.ListLemmas.{IsIn, IsIn-contains, Contains-in, Any-in
 use Rattle.tiling_laws.proofs.ConverseLemmas.{IsCovered, member_or_covered, above-under, under-above, IsClosed-ancestors_of, AreLeaves-ancestors_of}
 use Rattle.mesh_defs.specs.Falling.{IsFalling}
 use Rattle.mesh_defs.proofs.WorstLemmas.{worst-le, le-worst}
-use Rattle.closure_laws.proofs.ClosureLemmas.{same_tests, leaves_of-more, leaves_of-same, IsLeastClosed-unique, IsOuter, IsOuter-leaves_of}
+use Rattle.mesh_defs.proofs.TestLemmas.{same_tests}
+use Rattle.closure_laws.proofs.ClosureLemmas.{leaves_of-more, leaves_of-same, IsLeastClosed-unique, IsOuter, IsOuter-leaves_of}
 use Rattle.closure_laws.proofs.ExistenceLemmas.{least_closed_of}
 use Rattle.least_laws.specs.Least.{is_worse, IsLeastList, IsLyingIn, IsLeastMesh}
 use Rattle.closure_laws.proofs.RankLemmas.{priority-under, splittable-positive}

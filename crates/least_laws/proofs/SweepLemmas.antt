@@ -4,9 +4,10 @@ use Rattle.std.proofs.lemmas.Bool.{cases_eq, both_ways}
 use Rattle.mesh_defs.specs.Triangle.{level_of, IsAddress, IsSplittable, IsMate}
 use Rattle.mesh_defs.specs.ClosedSet.{IsClosed, IsLeastClosed}
 use Rattle.mesh_defs.specs.Greedy.{with_triangle}
-use Rattle.bintree_laws.proofs.LevelLemmas.{IsAtLevel-level_of, pow_after, level_of-parent, level_of-below}
+use Rattle.bintree_laws.proofs.LevelLemmas.{IsAtLevel-level_of, pow_after, level_of-below}
 use Rattle.bintree_laws.proofs.CentreLemmas.{mate_unique, mate_symmetric}
 use Rattle.tiling_laws.proofs.DescentLemmas.{IsAddress-splittable}
+use Rattle.closure_laws.proofs.ClosureLemmas.{IsSplittable-half, IsSplittable-mate}
 use Rattle.closure_laws.proofs.ForcingLemmas.{with-cases, with-old, with-new}
 use Rattle.least_laws.specs.Sweep.{IsSwept, NewMark, own_parent, own_mate, mate_parent, IsMarked, IsParentMarked}
 
@@ -22,7 +23,7 @@ lt-splittable n a low below = record { low = low; coarse = (level_of-below a (2 
 
 -- its mate has one too
 pub mate-lt : (n a b : ℕ) → IsSplittable n a → IsMate n a b → b < 2 ^ (2 * n + 1)
-mate-lt n a b s mate = splittable-lt n b (let e = mate.level in let h = s.coarse in record { low = mate.address.low; coarse = omega arith })
+mate-lt n a b s mate = splittable-lt n b (IsSplittable-mate n a b s mate)
 
 -- half of an address is less than each address of its level
 half-lt : (a b : ℕ) → 2 ≤ a → 2 ≤ b → level_of b ≡ level_of a → b / 2 < a
@@ -67,19 +68,11 @@ module _ (n : ℕ) (wanted has next : ℕ → Bool) (k : ℕ) (s : IsSwept n wan
   visited : IsSplittable n k
   visited = s.splittable k is
 
-  -- and so is its mate
-  mate-splittable : (b : ℕ) → IsMate n k b → IsSplittable n b
-  mate-splittable b mate = let e = mate.level in let h = visited.coarse in record { low = mate.address.low; coarse = omega arith }
-
-  -- and the parent of each of them
-  half-splittable : (b : ℕ) → IsSplittable n b → 4 ≤ b → IsSplittable n (b / 2)
-  half-splittable b t big = let e = level_of-parent b big in let h = t.coarse in record { low = omega arith; coarse = omega arith }
-
   -- what is marked is splittable
   new-splittable : (a : ℕ) → NewMark n k a → IsSplittable n a
-  new-splittable a (own_parent big e) = subst (λ z. IsSplittable n z) (sym e) (half-splittable k visited big)
-  new-splittable a (own_mate mate) = mate-splittable a mate
-  new-splittable a (mate_parent b mate big e) = subst (λ z. IsSplittable n z) (sym e) (half-splittable b (mate-splittable b mate) big)
+  new-splittable a (own_parent big e) = subst (λ z. IsSplittable n z) (sym e) (IsSplittable-half n k visited big)
+  new-splittable a (own_mate mate) = IsSplittable-mate n k a visited mate
+  new-splittable a (mate_parent b mate big e) = subst (λ z. IsSplittable n z) (sym e) (IsSplittable-half n b (IsSplittable-mate n k b visited mate) big)
 
   -- and a member of each closed set that holds k
   new-forced : (other : ℕ → Bool) → IsClosed n other → IsTrue (other k) → (a : ℕ) → NewMark n k a → IsTrue (other a)

@@ -1,13 +1,13 @@
 -- A test of lists of addresses that computes whether they are closed sets, and that what passes it is one.
-use Rattle.std.proofs.Common.{◌≡◌, ◌≢◌, ℕ, zero, suc, ◌+◌, ◌*◌, ◌/◌, ◌^◌, ◌<◌, ◌≤◌, inl, inr, Bool, true, false, ◌&&◌, ◌||◌, not, List, [], ◌∷◌, refl, sym, ap, subst, arith}
-use Rattle.std.specs.Prelude.{nat_eq, nat_lt, nat_le, ◌==◌}
+use Rattle.std.proofs.Common.{◌≡◌, ◌≢◌, ℕ, zero, suc, ◌+◌, ◌*◌, ◌/◌, ◌^◌, ◌<◌, ◌≤◌, inl, inr, Bool, true, false, ◌&&◌, ◌||◌, not, List, [], ◌∷◌, refl, sym, subst, arith}
+use Rattle.std.specs.Prelude.{nat_eq, nat_lt, nat_le}
 use Rattle.std.proofs.lemmas.Bool.{eqb-true, eq-eqb, leb-true, le-leb, ltb-true}
 use Rattle.std.proofs.lemmas.Bool.Decides.{eqb_tells}
-use Rattle.mesh_defs.specs.declared.point.Point.{Point}
 use Rattle.mesh_defs.specs.declared.point.Corners.{Corners}
 use Rattle.mesh_defs.specs.Triangle.{level_of, corners_of, SameEnds, IsSplittable, IsMate}
 use Rattle.mesh_defs.specs.ClosedSet.{IsClosed, among}
 use Rattle.mesh_defs.specs.MeshText.{is_same_point}
+use Rattle.mesh_defs.proofs.PointLemmas.{eq-same_point}
 
 -- Tests
 
@@ -41,11 +41,6 @@ all_below-at p (suc k) b h lt = elim (eqb_tells b k) [
 
 -- Points and mates
 
-same_point : (p q : Point) → p ≡ q → is_same_point p q ≡ true
-same_point p q e =
-    both (p.x == q.x) (p.y == q.y)
-    (eq-eqb p.x q.x (ap (λ (r : Point). r.x) e)) (eq-eqb p.y q.y (ap (λ (r : Point). r.y) e))
-
 -- the bases have the same two ends
 abbrev pub same_ends : Corners → Corners → Bool
 same_ends c d =
@@ -60,8 +55,8 @@ right_of-or false q h = h
 
 same_ends-test : (c d : Corners) → SameEnds c d → same_ends c d ≡ true
 same_ends-test c d h = elim h [
-  | inl e ↦ left_of-or _ _ (both _ _ (same_point c.v0 d.v0 (e.0)) (same_point c.v1 d.v1 (e.1)))
-  | inr e ↦ right_of-or _ _ (both _ _ (same_point c.v0 d.v1 (e.0)) (same_point c.v1 d.v0 (e.1)))
+  | inl e ↦ left_of-or _ _ (both _ _ (eq-same_point c.v0 d.v0 (e.0)) (eq-same_point c.v1 d.v1 (e.1)))
+  | inr e ↦ right_of-or _ _ (both _ _ (eq-same_point c.v0 d.v1 (e.0)) (eq-same_point c.v1 d.v0 (e.1)))
 ]
 
 -- b could be the mate of a

@@ -1,10 +1,11 @@
--- Points in lists: the greatest value over those that pass a test, and the points of the grid.
-use Rattle.std.proofs.Common.{◌≡◌, ℕ, zero, suc, ◌+◌, ◌^◌, ◌<◌, ◌≤◌, ◌⊎◌, Bool, true, false, cond, max, List, [], ◌∷◌, ◌++◌, map, refl, arith, ⊎_elim, inl, inr}
-use Rattle.std.proofs.lemmas.Bool.{cases_lt}
+-- Points in lists: the greatest value over those that pass a test, and the points of the grid; the test of two points.
+use Rattle.std.proofs.Common.{◌≡◌, ℕ, zero, suc, ◌+◌, ◌^◌, ◌<◌, ◌≤◌, ◌⊎◌, Bool, true, false, cond, max, List, [], ◌∷◌, ◌++◌, map, eqb, refl, ap, ap₂, arith, ⊎_elim, inl, inr}
+use Rattle.std.proofs.lemmas.Bool.{cases_lt, and_parts, and_from, eqb-true, eq-eqb}
 use Rattle.std.specs.List.{filter, flat_map, range_with_len}
 use Rattle.mesh_defs.specs.declared.point.Point.{Point}
 use Rattle.mesh_defs.specs.HeightField.{side_of}
 use Rattle.mesh_defs.specs.BoundingBox.{point, points_of, greatest}
+use Rattle.mesh_defs.specs.MeshText.{is_same_point}
 
 -- ---- entries of a list
 
@@ -85,3 +86,16 @@ IsPointIn-rows side a (suc k) x y fits from to =
 pub IsPointIn-points_of : (n : ℕ) (r : Point) → r.x ≤ 2 ^ n → r.y ≤ 2 ^ n → IsPointIn r (points_of n)
 unfolding points_of
 IsPointIn-points_of n r x y = IsPointIn-rows (side_of n) 0 (side_of n) r.x r.y (omega arith) (omega arith) (omega arith)
+
+-- ---- the test of two points
+
+-- points that pass it are equal
+pub same_point-eq : (p q : Point) → is_same_point p q ≡ true → p ≡ q
+same_point-eq p q is =
+    let both = and_parts (eqb p.x q.x) (eqb p.y q.y) is in
+    ap₂ (λ i j. point i j) (eqb-true p.x q.x both.0) (eqb-true p.y q.y both.1)
+
+-- and equal points pass it
+pub eq-same_point : (p q : Point) → p ≡ q → is_same_point p q ≡ true
+eq-same_point p q e =
+    and_from (eqb p.x q.x) (eqb p.y q.y) (eq-eqb p.x q.x (ap (λ (r : Point). r.x) e)) (eq-eqb p.y q.y (ap (λ (r : Point). r.y) e))

@@ -1,5 +1,5 @@
 -- What shows that a short list is a ranking, and that two least closed sets have the same leaves.
-use Rattle.std.proofs.Common.{◌≡◌, ℕ, zero, suc, ◌+◌, ◌-◌, ◌*◌, ◌/◌, ◌^◌, ◌<◌, ◌≤◌, inl, inr, Bool, true, false, ◌&&◌, ◌||◌, not, List, [], ◌∷◌, ◌++◌, refl, sym, ◌∙◌, ap, subst, arith}
+use Rattle.std.proofs.Common.{◌≡◌, ℕ, zero, suc, ◌+◌, ◌-◌, ◌*◌, ◌/◌, ◌^◌, ◌<◌, ◌≤◌, inl, inr, Bool, true, false, ◌&&◌, ◌||◌, not, List, [], ◌∷◌, ◌++◌, refl, ◌∙◌, ap, subst, arith}
 use Rattle.std.specs.Prelude.{All, AllPairs, Contains, nat_le, nat_lt}
 use Rattle.std.proofs.lemmas.Bool.{le-leb, lt-ltb}
 use Rattle.std.proofs.lemmas.List.Elements.{All-cons}
@@ -10,6 +10,7 @@ use Rattle.std.proofs.lemmas.Bool.Decides.{leb_tells}
 use Rattle.mesh_defs.specs.Triangle.{halvings, level_of, IsSplittable}
 use Rattle.mesh_defs.specs.ClosedSet.{IsLeastClosed, leaves_under, leaves_of, among}
 use Rattle.mesh_defs.specs.Ranking.{RanksBefore, IsRanking}
+use Rattle.mesh_defs.proofs.TestLemmas.{same_tests}
 use Rattle.mesh_defs.proofs.ClosedLists.{Each, each-among, all_below, all_below-at, both, implied}
 
 -- an entry of a list whose entries all have P has P
@@ -30,16 +31,11 @@ leaves_under-same (suc k) f g h a =
     ∙ (ap (λ (left : List ℕ). node (g a) left (leaves_under k f (2 * a + 1)) a) (leaves_under-same k f g h (2 * a))
     ∙ ap (λ (right : List ℕ). node (g a) (leaves_under k g (2 * a)) right a) (leaves_under-same k f g h (2 * a + 1)))
 
-agree : (p q : Bool) → (p ≡ true → q ≡ true) → (q ≡ true → p ≡ true) → p ≡ q
-agree true q f g = sym (f refl)
-agree false true f g = g refl
-agree false false f g = refl
-
 -- the leaves of a least closed set are those of any other one of the same triangles
 pub least-leaves : (n : ℕ) (wanted f g : ℕ → Bool) → IsLeastClosed n wanted f → IsLeastClosed n wanted g → leaves_of n f ≡ leaves_of n g
 unfolding leaves_of
 least-leaves n wanted f g hf hg =
-    let same : (i : ℕ) → f i ≡ g i = λ i. agree (f i) (g i) (hf.least g hg.closed hg.holds i) (hg.least f hf.closed hf.holds i) in
+    let same : (i : ℕ) → f i ≡ g i = λ i. same_tests (f i) (g i) (hf.least g hg.closed hg.holds i) (hg.least f hf.closed hf.holds i) in
     rw (leaves_under-same (2 * n) f g same 2, leaves_under-same (2 * n) f g same 3) refl
 
 -- none or one more, by a test

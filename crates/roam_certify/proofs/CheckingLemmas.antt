@@ -1,15 +1,13 @@
 -- What a checker's tests say of a reason, over sets and tables.
-use Rattle.std.proofs.Common.{◌≡◌, ℕ, zero, suc, eqb, ◌||◌, ◌+◌, ◌*◌, ◌<◌, ◌≤◌, ◌⊎◌, ◌↔◌, inl, inr, Bool, true, false, IsTrue, List, [], ◌∷◌, ◌++◌, length, take, get_or, All, drop, append_assoc, sym, ◌∙◌, ap, subst, arith, ⊎_elim}
+use Rattle.std.proofs.Common.{◌≡◌, ℕ, eqb, ◌||◌, ◌+◌, ◌*◌, ◌<◌, ◌≤◌, ◌⊎◌, ◌↔◌, Bool, true, false, IsTrue, List, [], ◌∷◌, ◌++◌, length, take, get_or, drop, append_assoc, sym, ◌∙◌, ap, subst, arith, ⊎_elim}
 use Rattle.std.proofs.lemmas.Bool.{both_ways}
-use Rattle.std.proofs.lemmas.List.{get_or_past, take_more, take-append-drop, length-take-le}
-use Rattle.std.proofs.lemmas.List.Elements.{All-get_or}
+use Rattle.std.proofs.lemmas.List.{take_more, take-append-drop, length-take-le}
 use Rattle.mesh_defs.specs.Triangle.{IsSplittable, IsMate}
 use Rattle.mesh_defs.specs.Greedy.{with_triangle}
 use Rattle.tiling_laws.proofs.DescentLemmas.{IsAddress-splittable}
-use Rattle.mesh_defs.proofs.ListLemmas.{IsIn, IsIn-among, among-in}
-use Rattle.closure_laws.proofs.ClosureLemmas.{same_tests}
+use Rattle.mesh_defs.proofs.ListLemmas.{IsIn-among, among-in}
+use Rattle.mesh_defs.proofs.TestLemmas.{same_tests}
 use Rattle.closure_laws.proofs.ForcingLemmas.{with-cases, with-old, with-new}
-use Rattle.least_laws.specs.Sweep.{is_flagged}
 use Rattle.certificate_laws.specs.declared.reason.Reason.{Reason}
 use Rattle.certificate_laws.specs.declared.reason.Kind.{Kind}
 use Rattle.certificate_laws.specs.declared.reason.Kind.TheVariants.{Want, Parent, Mate}

@@ -1,6 +1,7 @@
 -- The steps of a decider of conforming lists: the ancestors by flags, their number and mates, the entries.
 use Rattle.std.proofs.Common.{◌≡◌, ℕ, ◌+◌, ◌/◌, ◌<◌, ◌≤◌, ◌⊎◌, inl, inr, Bool, true, false, eqb, nat_eq, ◌||◌, IsTrue, List, [], ◌∷◌, ◌++◌, length, take, drop, get_or, All, append_assoc, refl, sym, ◌∙◌, ap, subst, arith, ⊎_elim, eq-eqb}
 use Rattle.std.proofs.lemmas.Bool.{cases_eq, cases_Bool, both_ways, or_cases, or_left, or_right, eqb-true}
+use Rattle.std.proofs.Math.Bool.{or-false, or_assoc}
 use Rattle.std.proofs.lemmas.List.{take_more, take-append-drop}
 use Rattle.mesh_defs.specs.Triangle.{IsAddress, IsSplittable, IsMate}
 use Rattle.mesh_defs.specs.Tiling.{IsConforming}
@@ -10,7 +11,7 @@ use Rattle.tiling_laws.specs.Ancestors.{is_above, ancestors_of}
 use Rattle.tiling_laws.proofs.ConformityLemmas.{self, member_above}
 use Rattle.mesh_defs.proofs.ListLemmas.{IsIn, IsIn-contains, Contains-in, Any-in}
 use Rattle.tiling_laws.proofs.ConverseLemmas.{under-above}
-use Rattle.closure_laws.proofs.ClosureLemmas.{same_tests}
+use Rattle.mesh_defs.proofs.TestLemmas.{same_tests}
 use Rattle.std.specs.List.{IsDistinct}
 use Rattle.certificate_laws.proofs.DistinctLemmas.{distinct-none, distinct-cons, distinct-head, distinct-tail}
 use Rattle.closure_laws.proofs.SetListLemmas.{length-distinct}
@@ -224,16 +225,8 @@ module _ (n : ℕ) (triangles : List ℕ) (has : ℕ → Bool) (same : (a : ℕ)
 
 -- the entries so far, with one more
 among-next : (xs : List ℕ) (x a : ℕ) → among (xs ++ x ∷ []) a ≡ with_triangle (among xs) x a
-among-next [] x a = or_false (eqb x a)
-  where
-    or_false : (b : Bool) → (b || false) ≡ b
-    or_false true = refl
-    or_false false = refl
-among-next (y ∷ ys) x a = ap (λ b. eqb y a || b) (among-next ys x a) ∙ or_assoc (eqb y a) (among ys a) (eqb x a)
-  where
-    or_assoc : (b c d : Bool) → (b || (c || d)) ≡ ((b || c) || d)
-    or_assoc true c d = refl
-    or_assoc false c d = refl
+among-next [] x a = or-false (eqb x a)
+among-next (y ∷ ys) x a = ap (λ b. eqb y a || b) (among-next ys x a) ∙ sym (or_assoc (eqb y a) (among ys a) (eqb x a))
 
 module _ (triangles : List ℕ) (k x : ℕ) (within : k < length triangles) (is : x ≡ get_or triangles k x) where
   -- the first ones, and this one

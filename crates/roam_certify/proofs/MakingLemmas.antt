@@ -2,8 +2,7 @@
 use Rattle.std.proofs.Common.{◌≡◌, ℕ, ◌+◌, ◌*◌, ◌/◌, ◌^◌, ◌<◌, ◌≤◌, ◌⊎◌, inl, inr, Bool, IsTrue, List, [], ◌∷◌, ◌++◌, length, take, drop, get_or, sym, ◌∙◌, ap, subst, arith, ⊎_elim, length-append, append_assoc}
 use Rattle.std.proofs.lemmas.Bool.{cases_lt}
 use Rattle.std.proofs.lemmas.List.{append-nil, take-append-le, take-append-drop, take_all}
-use Rattle.mesh_defs.specs.Triangle.{IsSplittable, IsMate}
-use Rattle.bintree_laws.proofs.LevelLemmas.{level_of-parent}
+use Rattle.mesh_defs.specs.Triangle.{IsSplittable}
 use Rattle.mesh_defs.proofs.ListLemmas.{IsIn, IsIn-among, among-in}
 use Rattle.least_laws.specs.Sweep.{is_flagged}
 use Rattle.certificate_laws.specs.declared.reason.Reason.{Reason}
@@ -110,16 +109,6 @@ module _ (n limit : ℕ) (kind : Kind) (t : ℕ) (flags : List Bool) (reasons : 
   pushed-reasoned priority worst flags_after after m splittable why are (listed new less room added grown) = subst (λ l. AreReasons n priority worst [] l) (sym grown)
       (reasons_next n priority worst [] reasons (record { kind = kind; triangle = t }) are
       record { splittable = splittable; new = sym (m.same t) ∙ new; why = why })
-
--- causes
-
--- the parent of a splittable triangle is splittable
-pub half-splittable : (n t : ℕ) → IsSplittable n t → 4 ≤ t → IsSplittable n (t / 2)
-half-splittable n t s big = let e = level_of-parent t big in let h = s.coarse in record { low = omega arith; coarse = omega arith }
-
--- and so is its mate
-pub mate-splittable : (n t m : ℕ) → IsSplittable n t → IsMate n t m → IsSplittable n m
-mate-splittable n t m s mate = let e = mate.level in let h = s.coarse in record { low = mate.address.low; coarse = omega arith }
 
 -- the turns of the two loops
 

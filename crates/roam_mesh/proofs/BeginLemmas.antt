@@ -22,7 +22,7 @@ use Rattle.roam_mesh.proofs.PlacedLemmas.{taken_placed, placed_same, entry_below
 use Rattle.roam_mesh.proofs.HeadLemmas.{settled_fresh}
 use Rattle.roam_mesh.proofs.FreshLemmas.{HasPushed, pushed_has, pushed-fresh}
 use Rattle.roam_mesh.proofs.SlotListLemmas.{distinct_room, seen_in, in_seen, seen_distinct}
-use Rattle.text_laws.proofs.TestLemmas.{by_bool}
+use Rattle.text_laws.proofs.TestLemmas.{by_bool, some-test}
 use Rattle.std.proofs.Math.Bool.{or-false}
 
 -- ---- deadlines and stamps
@@ -191,13 +191,8 @@ beginning_end start now odometer whole none quiet is = record {
     stamps : (a : ℕ) → stamp_in (entry_of now a) ≡ stamp_in (entry_of start a)
     stamps a = ap stamp_in (entry a)
 
--- a choice that gives something passed its test
-some_test : (b : Bool) (d : ℕ) → IsSome (cond b (Some d) None) → b ≡ true
-some_test true d some = refl
-some_test false d some = some
-
 -- a slot with a deadline is an entry
 pub due_entry : (parts : PartsState) (out : ℕ → Bool) (s : ℕ) → IsPlaced parts out → IsSome (slice_index_or parts.due s None) → is_entry_at parts.pool.pairs s ≡ true
 due_entry parts out s placed some =
-    (and_parts (is_entry_at parts.pool.pairs s) (not (out s)) (some_test (is_entry_at parts.pool.pairs s && not (out s)) (deadline_of (entry_at parts s))
+    (and_parts (is_entry_at parts.pool.pairs s) (not (out s)) (some-test (is_entry_at parts.pool.pairs s && not (out s)) (deadline_of (entry_at parts s))
     (subst (λ (k : Option ℕ). IsSome k) (placed.due s) some))).0

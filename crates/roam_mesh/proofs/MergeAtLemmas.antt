@@ -15,7 +15,7 @@ use Rattle.roam_mesh.proofs.RoleLemmas.{leaf_from, ready_live, ready_at_parts}
 use Rattle.roam_mesh.proofs.PlacedLemmas.{left_all-append, left_all-pool}
 use Rattle.roam_mesh.proofs.FreshLemmas.{pushed_all-pool, pushed_all-append}
 use Rattle.roam_mesh.proofs.SlotListLemmas.{in_left, in_right, in_either, in_first, in_later, in_cases, in_choice, choice_in}
-use Rattle.closure_laws.proofs.ClosureLemmas.{same_tests}
+use Rattle.mesh_defs.proofs.TestLemmas.{same_tests}
 use Rattle.mesh_defs.specs.ClosedSet.{among}
 use Rattle.roam_mesh.proofs.PoolChangeLemmas.{root_kept}
 

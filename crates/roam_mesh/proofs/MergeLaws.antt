@@ -13,7 +13,7 @@ use Rattle.frame_steps.specs.Deferred.{IsEntry}
 use Rattle.edge_laws.proofs.MateLemmas.{mate_of-other}
 use Rattle.edge_laws.specs.Slots.{address_at, diamond_size, IsLive, IsPool}
 use Rattle.edge_laws.proofs.IsMateLemmas.{IsMate-mate_of, mate_of-IsMate}
-use Rattle.edge_laws.proofs.SlotLemmas.{size_one, size_two}
+use Rattle.edge_laws.proofs.SlotLemmas.{size_one, size_two, split_list-closed}
 use Rattle.triangle_pool.specs.Slots.{PoolState}
 use Rattle.deferred_loop.specs.Seen.{IsMergeOf}
 use Rattle.roam_mesh.specs.Mesh.{slot_of, members_of}
@@ -22,7 +22,7 @@ use Rattle.roam_mesh.specs.Change.{above_slots, with_children, left_all, pushed_
 use Rattle.roam_mesh.specs.Keeping.{CanTakeBack}
 use Rattle.roam_mesh.specs.Merging.{mate_slots, IsMergeAt}
 use Rattle.roam_mesh.proofs.PlaceLemmas.{live_below, one_slot}
-use Rattle.roam_mesh.proofs.RoleLemmas.{members_closed, members_leaves, ready_of-at, ready_at-of, ready_live, ready_mate, ready_entry, entry_live, entry_level}
+use Rattle.roam_mesh.proofs.RoleLemmas.{members_leaves, ready_of-at, ready_at-of, ready_live, ready_mate, ready_entry, entry_live, entry_level}
 use Rattle.roam_mesh.proofs.PlacedLemmas.{HasLeft, left_has}
 use Rattle.roam_mesh.proofs.FreshLemmas.{HasPushed, pushed_has, pushed_all-append}
 use Rattle.roam_mesh.proofs.MergeAtLemmas.{IsPooled, fresh_slots, listed_slots, listed_fresh, kept_root}
@@ -41,8 +41,8 @@ record IsSized (before after : PoolState) (a : ℕ) : Type 0 where
 merge_sized : (before after : PoolState) (s : ℕ) → IsPooled before after s → IsPool before.n before.pairs → is_ready_at before.pairs s ≡ true → IsSized before after (address_at before.pairs s)
 merge_sized before after s pooled old ready =
     let a : ℕ = address_at before.pairs s in
-    let first = members_closed before old in
-    let then = members_closed after pooled.valid in
+    let first = split_list-closed before.n before.pairs old in
+    let then = split_list-closed after.n after.pairs pooled.valid in
     let longer = without_diamond-length before.n (members_of before) a (members_of after) first.ascending first.closed (ready_of-at before s old ready) (roles.merge_without before after s pooled old ready) in
     let low = ready_live before.pairs s ready in
     let level = entry_level before.n before.pairs s old (ready_entry before.pairs s ready) in

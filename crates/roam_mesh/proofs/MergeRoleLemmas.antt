@@ -5,18 +5,18 @@ use Rattle.mesh_defs.specs.Triangle.{level_of}
 use Rattle.mesh_defs.specs.ClosedSet.{among, IsClosed}
 use Rattle.frame_steps.specs.Deferred.{IsEntry}
 use Rattle.closure_laws.specs.Diamond.{IsInDiamond, CanMerge, IsWithoutDiamond}
-use Rattle.closure_laws.proofs.ClosureLemmas.{same_tests}
+use Rattle.mesh_defs.proofs.TestLemmas.{same_tests}
 use Rattle.closure_laws.proofs.ChangeLemmas.{merge_keeps_mergeable, merge_new_mergeable}
 use Rattle.edge_laws.specs.Edge.{mate_of}
 use Rattle.edge_laws.specs.Slots.{address_at, has_children, split_set, IsLive, IsPool, HasTwoLeaves, IsMergeReady, IsUnder}
 use Rattle.edge_laws.proofs.MateLemmas.{mate_of-low, mate_of-back}
-use Rattle.edge_laws.proofs.SlotLemmas.{set-has_children, has_children-set}
+use Rattle.edge_laws.proofs.SlotLemmas.{set-has_children, has_children-set, among-split_list, split_list-closed}
 use Rattle.triangle_pool.specs.Slots.{PoolState}
 use Rattle.roam_mesh.specs.Mesh.{slot_of, members_of}
 use Rattle.roam_mesh.specs.Parts.{is_leaf_at, is_ready, is_ready_at, is_entry_at}
 use Rattle.roam_mesh.specs.Change.{child_slots, diamond_slots, above_slots, with_above, with_children}
 use Rattle.roam_mesh.proofs.PlaceLemmas.{one_slot, address-slot_of}
-use Rattle.roam_mesh.proofs.RoleLemmas.{among-members, members_closed, leaf_parts, leaf_from, ready_from, ready_at_parts, ready_at_from, ready_live, entry_live, leaf_entry, ready_entry, entry_cases, entry_at-of, ready_of-at, ready_at-of, entry_level, ready_mate, diamond_mate, mate_diamond, ready_turned}
+use Rattle.roam_mesh.proofs.RoleLemmas.{leaf_parts, leaf_from, ready_from, ready_at_parts, ready_at_from, ready_live, entry_live, leaf_entry, ready_entry, entry_cases, entry_at-of, ready_of-at, ready_at-of, entry_level, ready_mate, diamond_mate, mate_diamond, ready_turned}
 use Rattle.roam_mesh.proofs.ChainSlotLemmas.{diamond_cases, in_diamond, IsAbove, above_at, above_only, above_cases, in_above, own_above}
 use Rattle.roam_mesh.proofs.SlotListLemmas.{in_left, in_right, in_either, in_first, in_later, in_cases, in_choice, choice_in}
 use Rattle.roam_mesh.proofs.PoolChangeLemmas.{IsRepooled}
@@ -174,20 +174,20 @@ module _ (before after : PoolState) (s : ℕ) (pooled : IsPooled before after s)
   -- the set is without the diamond
   pub merge_without : IsWithoutDiamond before.n (members_of before) top (members_of after)
   merge_without = record {
-    ascending = (members_closed after pooled.valid).ascending;
+    ascending = (split_list-closed after.n after.pairs pooled.valid).ascending;
     members = λ b. (
       (λ h.
-          let is : split_set after.pairs b ≡ true = sym (among-members after b pooled.valid) ∙ h in
+          let is : split_set after.pairs b ≡ true = sym (among-split_list after.n after.pairs b pooled.valid) ∙ h in
           let apart : IsOf top b → ⊥ = λ own. both_ways (split_set after.pairs b) (split_gone b own) is in (
-            among-members before b old ∙ sym (split_kept b apart) ∙ is,
+            among-split_list before.n before.pairs b old ∙ sym (split_kept b apart) ∙ is,
             λ i. apart (diamond_mate before.n top b low level i),
           )),
-      (λ r. among-members after b pooled.valid ∙ split_kept b (λ own. r.1 (mate_diamond before.n top b low level own)) ∙ sym (among-members before b old) ∙ r.0),
+      (λ r. among-split_list after.n after.pairs b pooled.valid ∙ split_kept b (λ own. r.1 (mate_diamond before.n top b low level own)) ∙ sym (among-split_list before.n before.pairs b old) ∙ r.0),
     );
   }
 
   closed_before : IsClosed before.n (among (members_of before))
-  closed_before = (members_closed before old).closed
+  closed_before = (split_list-closed before.n before.pairs old).closed
 
   can_before : CanMerge before.n (among (members_of before)) top
   can_before = ready_of-at before s old ready

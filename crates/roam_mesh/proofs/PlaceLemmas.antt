@@ -5,7 +5,7 @@ use Rattle.std.proofs.lemmas.Bool.{cases_eq, eqb-true, ne_eqb, false_from_ne_tru
 use Rattle.std.proofs.lemmas.List.Sums.{position_or_len_is, passes_at_first}
 use Rattle.edge_laws.specs.Slots.{address_at, has_children, IsLive, IsPool}
 use Rattle.edge_laws.proofs.SlotLemmas.{live_within, pair_one, slot_of as pair_slot, member_parent, parent_has_children}
-use Rattle.closure_laws.proofs.ClosureLemmas.{same_tests}
+use Rattle.mesh_defs.proofs.TestLemmas.{same_tests}
 use Rattle.roam_mesh.specs.Mesh.{slot_of}
 use Rattle.roam_mesh.specs.Parts.{blank}
 use Rattle.roam_mesh.specs.declared.entry.Entry.{Entry}

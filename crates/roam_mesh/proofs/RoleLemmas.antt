@@ -1,16 +1,10 @@
 -- The roles of slots, and the leaves and diamonds of the pool's set.
-use Rattle.std.proofs.Common.{◌≡◌, ℕ, zero, suc, ◌+◌, ◌*◌, ◌/◌, ◌^◌, ◌≤◌, ◌⊎◌, ◌||◌, ◌&&◌, true, false, not, nat_eq, nat_le, inl, inr, List, Contains, length, get_or, refl, sym, ◌∙◌, ap, subst, arith, ⊎_elim, Bool, eqb, nat_lt}
-use Rattle.std.specs.List.{range_with_len}
+use Rattle.std.proofs.Common.{◌≡◌, ℕ, zero, suc, ◌+◌, ◌*◌, ◌/◌, ◌≤◌, ◌⊎◌, ◌||◌, ◌&&◌, true, false, not, nat_eq, nat_le, inl, inr, List, Contains, length, get_or, refl, sym, ◌∙◌, ap, subst, arith, ⊎_elim, Bool, eqb, nat_lt}
 use Rattle.std.proofs.lemmas.Bool.{cases_lt, both_ways, and_parts, and_from, or_cases, or_left, or_right, leb-true, le-leb, not-true, not_from_false, not_from_true, and_right, eqb-true, eq-eqb, lt-ltb, false_from_ne_true, or_parts, or_from}
 use Rattle.mesh_defs.specs.Triangle.{IsMate, level_of}
 use Rattle.mesh_defs.specs.ClosedSet.{leaves_of, among}
-use Rattle.mesh_defs.specs.GridSet.{IsGridSet}
-use Rattle.mesh_defs.proofs.ListLemmas.{among-in}
-use Rattle.bintree_laws.proofs.LevelLemmas.{splittable-below}
 use Rattle.tiling_laws.proofs.DescentLemmas.{IsAddress-level}
 use Rattle.closure_laws.specs.Diamond.{IsInDiamond, CanMerge}
-use Rattle.closure_laws.proofs.ClosureLemmas.{same_tests, leaves_of-same}
-use Rattle.closure_laws.proofs.SetListLemmas.{among-filter, filter-among, ascending-filter, in-range, ascending-range}
 use Rattle.closure_laws.proofs.LeafLemmas.{leaf-where}
 use Rattle.closure_laws.proofs.RankLemmas.{at_place}
 use Rattle.edge_laws.specs.Edge.{mate_of}
@@ -18,7 +12,7 @@ use Rattle.edge_laws.specs.Slots.{address_at, has_children, split_set, room_of, 
 use Rattle.edge_laws.proofs.MateLemmas.{mate_of-low, mate_of-back}
 use Rattle.edge_laws.proofs.IsMateLemmas.{IsMate-mate_of, mate_of-IsMate}
 use Rattle.edge_laws.proofs.LeafLemmas.{leaf-level}
-use Rattle.edge_laws.proofs.SlotLemmas.{IsLeafOf-slot, has_children-set, set-has_children, set_false, same_closed, member_mate, member_parent, members_count, leaves_count}
+use Rattle.edge_laws.proofs.SlotLemmas.{IsLeafOf-slot, has_children-set, set-has_children, set_false, member_mate, member_parent, members_count, leaves_count, among-split_list, leaves-split_list}
 use Rattle.frame_steps.specs.Deferred.{IsEntry, leaf as of_leaf, member as of_diamond}
 use Rattle.frame_steps.specs.Steps.{leaf_count}
 use Rattle.edge_laws.specs.Chief.{chief_of}
@@ -29,31 +23,10 @@ use Rattle.roam_mesh.specs.Change.{chief_slot}
 use Rattle.roam_mesh.proofs.PlaceLemmas.{address-slot_of}
 use Rattle.edge_laws.proofs.ChiefLemmas.{chief_of-mate, chief_of-cases}
 
--- the listed members are the pool's set
-pub among-members : (pool : PoolState) (a : ℕ) → IsPool pool.n pool.pairs → among (members_of pool) a ≡ split_set pool.pairs a
-among-members pool a is = same_tests (among (members_of pool) a) (split_set pool.pairs a)
-    (λ listed. (among-filter (split_set pool.pairs) a (range_with_len 0 (4 * 2 ^ (2 * pool.n))) listed).1)
-    (λ has. filter-among (split_set pool.pairs) a (range_with_len 0 (4 * 2 ^ (2 * pool.n)))
-    (among-in a (range_with_len 0 (4 * 2 ^ (2 * pool.n)))
-    (in-range 0 (4 * 2 ^ (2 * pool.n)) a (omega arith) (let b = splittable-below pool.n a (is.closed.splittable a has) in omega arith))) has)
-
--- which is closed
-pub members_closed : (pool : PoolState) → IsPool pool.n pool.pairs → IsGridSet pool.n (members_of pool)
-members_closed pool is = record {
-  n_low = is.n_low;
-  n_high = is.n_high;
-  ascending = ascending-filter (split_set pool.pairs) (range_with_len 0 (4 * 2 ^ (2 * pool.n))) (ascending-range 0 (4 * 2 ^ (2 * pool.n)));
-  closed = same_closed pool.n (split_set pool.pairs) (among (members_of pool)) (λ a. sym (among-members pool a is)) is.closed;
-}
-
--- so its leaves are those of the pool's set
-pub members_leaves_of : (pool : PoolState) → IsPool pool.n pool.pairs → leaves_of pool.n (among (members_of pool)) ≡ leaves_of pool.n (split_set pool.pairs)
-members_leaves_of pool is = leaves_of-same pool.n (among (members_of pool)) (split_set pool.pairs) (λ a. among-members pool a is)
-
--- and has so many leaves
+-- how many leaves the pool's set has
 pub members_leaves : (pool : PoolState) → IsPool pool.n pool.pairs → leaf_count pool.n (members_of pool) + room_of pool.pairs ≡ length pool.pairs + 1
 members_leaves pool is =
-    let same : leaf_count pool.n (members_of pool) ≡ length (leaves_of pool.n (split_set pool.pairs)) = ap length (members_leaves_of pool is) in
+    let same : leaf_count pool.n (members_of pool) ≡ length (leaves_of pool.n (split_set pool.pairs)) = ap length (leaves-split_list pool.n pool.pairs is) in
     let count = leaves_count pool.n pool.pairs is in omega arith
 
 -- what the test of a leaf tells
@@ -164,7 +137,7 @@ leaf_of-at pool s is leaf =
     let a : ℕ = address_at pool.pairs s in
     let parts = leaf_parts pool.pairs s leaf in
     let of = IsLeafOf-slot pool.pairs s parts.live parts.leaf in
-    subst (λ l. Contains l a) (sym (members_leaves_of pool is)) ((leaf-where pool.n (split_set pool.pairs) a is.closed).1 (
+    subst (λ l. Contains l a) (sym (leaves-split_list pool.n pool.pairs is)) ((leaf-where pool.n (split_set pool.pairs) a is.closed).1 (
       IsAddress-level pool.n a of.low (leaf-level pool.n (split_set pool.pairs) a is.closed of),
       (λ has. both_ways (split_set pool.pairs a) of.whole has),
       of.above,
@@ -174,7 +147,7 @@ leaf_of-at pool s is leaf =
 pub leaf_at-of : (pool : PoolState) (a : ℕ) → IsPool pool.n pool.pairs → Contains (leaves_of pool.n (among (members_of pool))) a →
     (is_leaf_at pool.pairs (slot_of pool.pairs a) ≡ true) × (address_at pool.pairs (slot_of pool.pairs a) ≡ a)
 leaf_at-of pool a is leaf =
-    let outer = (leaf-where pool.n (split_set pool.pairs) a is.closed).0 (subst (λ l. Contains l a) (members_leaves_of pool is) leaf) in
+    let outer = (leaf-where pool.n (split_set pool.pairs) a is.closed).0 (subst (λ l. Contains l a) (leaves-split_list pool.n pool.pairs is) leaf) in
     let low : 2 ≤ a = outer.0.low in
     let at = address-slot_of pool.n pool.pairs a is low (⊎_elim
     (λ top. ap (has_children pool.pairs) (let half : a / 2 ≡ 1 = omega arith in half) ∙ is.root)
@@ -192,7 +165,7 @@ some_leaf pool is =
     let count = leaves_count pool.n pool.pairs is in
     let members = members_count pool.n pool.pairs is in
     let leaves : List ℕ = leaves_of pool.n (split_set pool.pairs) in
-    (get_or leaves 0 0, subst (λ l. Contains l (get_or leaves 0 0)) (sym (members_leaves_of pool is)) (at_place 0 leaves (omega arith)))
+    (get_or leaves 0 0, subst (λ l. Contains l (get_or leaves 0 0)) (sym (leaves-split_list pool.n pool.pairs is)) (at_place 0 leaves (omega arith)))
 
 -- a triangle of a diamond is its own or the mate, by arithmetic
 pub diamond_mate : (n a b : ℕ) → 2 ≤ a → level_of a ≤ 2 * n → IsInDiamond n a b → (b ≡ a) ⊎ ((1 ≤ mate_of a) × (b ≡ mate_of a))
@@ -213,9 +186,9 @@ ready_of-at pool s is ready =
     let parts = ready_at_parts pool.pairs s ready in
     let has = has_children-set pool.pairs a parts.0 parts.1.own.split in
     let coarse = (is.closed.splittable a has).coarse in
-    let shut : (p : ℕ) → has_children pool.pairs p ≡ false → among (members_of pool) p ≡ false = λ p none. among-members pool p is ∙ set_false pool.pairs p none in
+    let shut : (p : ℕ) → has_children pool.pairs p ≡ false → among (members_of pool) p ≡ false = λ p none. among-split_list pool.n pool.pairs p is ∙ set_false pool.pairs p none in
     record {
-      member = among-members pool a is ∙ has;
+      member = among-split_list pool.n pool.pairs a is ∙ has;
       childless = λ b of. ⊎_elim
           (λ (own : b ≡ a). (shut (2 * b) (ap (λ z. has_children pool.pairs (2 * z)) own ∙ parts.1.own.left), shut (2 * b + 1) (ap (λ z. has_children pool.pairs (2 * z + 1)) own ∙ parts.1.own.right)))
           (λ (mate : (1 ≤ mate_of a) × (b ≡ mate_of a)).
@@ -228,14 +201,14 @@ ready_of-at pool s is ready =
 pub ready_at-of : (pool : PoolState) (a : ℕ) → IsPool pool.n pool.pairs → CanMerge pool.n (among (members_of pool)) a →
     (is_ready_at pool.pairs (slot_of pool.pairs a) ≡ true) × (address_at pool.pairs (slot_of pool.pairs a) ≡ a)
 ready_at-of pool a is can =
-    let has : split_set pool.pairs a ≡ true = sym (among-members pool a is) ∙ can.member in
+    let has : split_set pool.pairs a ≡ true = sym (among-split_list pool.n pool.pairs a is) ∙ can.member in
     let fits = is.closed.splittable a has in
     let low : 2 ≤ a = fits.low in
     let coarse = fits.coarse in
     let split = set-has_children pool.pairs a has in
     let at = address-slot_of pool.n pool.pairs a is low (member_parent pool.n pool.pairs a is low split) in
     let shut : (p : ℕ) → 2 ≤ p → among (members_of pool) p ≡ false → has_children pool.pairs p ≡ false =
-    λ p high none. false_from_ne_true (has_children pool.pairs p) (λ yes. both_ways (split_set pool.pairs p) (sym (among-members pool p is) ∙ none) (has_children-set pool.pairs p high yes)) in
+    λ p high none. false_from_ne_true (has_children pool.pairs p) (λ yes. both_ways (split_set pool.pairs p) (sym (among-split_list pool.n pool.pairs p is) ∙ none) (has_children-set pool.pairs p high yes)) in
     let bare : (b : ℕ) → 2 ≤ b → IsInDiamond pool.n a b → has_children pool.pairs b ≡ true → HasTwoLeaves pool.pairs b =
     λ b high of yes. record {
       split = yes;

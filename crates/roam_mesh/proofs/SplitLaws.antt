@@ -14,7 +14,7 @@ use Rattle.closure_laws.proofs.SetListLemmas.{All-in, among-filter, filter-among
 use Rattle.closure_laws.proofs.SizeLemmas.{length-leaves_of}
 use Rattle.closure_laws.proofs.ExistenceLemmas.{forced_list}
 use Rattle.edge_laws.specs.Slots.{address_at, has_children, split_set, room_of, IsLive, IsPool}
-use Rattle.edge_laws.proofs.SlotLemmas.{leaves_count, parent_has_children}
+use Rattle.edge_laws.proofs.SlotLemmas.{leaves_count, parent_has_children, among-split_list, split_list-closed}
 use Rattle.triangle_pool.specs.Slots.{PoolState}
 use Rattle.force_split.specs.Chain.{IsBornOf, IsGainOf, chain_size}
 use Rattle.frame_steps.specs.Steps.{leaf_count}
@@ -26,7 +26,7 @@ use Rattle.roam_mesh.specs.Keeping.{CanTakeBack, IsKeptMate}
 use Rattle.roam_mesh.specs.declared.entry.Entry.{Entry}
 use Rattle.roam_mesh.specs.Splitting.{born_slots, born_leaves, IsSplitAt}
 use Rattle.roam_mesh.proofs.PlaceLemmas.{live_below, one_slot, at-slot_of}
-use Rattle.roam_mesh.proofs.RoleLemmas.{among-members, members_closed, members_leaves, entry_live, leaf_live, ready_live, ready_mate, leaf_entry, ready_entry, entry_at-of, leaf_parts, leaf_from}
+use Rattle.roam_mesh.proofs.RoleLemmas.{members_leaves, entry_live, leaf_live, ready_live, ready_mate, leaf_entry, ready_entry, entry_at-of, leaf_parts, leaf_from}
 use Rattle.roam_mesh.proofs.PlacedLemmas.{HasLeft, left_has}
 use Rattle.roam_mesh.proofs.FreshLemmas.{HasPushed, pushed_has, pushed_all-append}
 use Rattle.roam_mesh.proofs.SlotListLemmas.{in_left, in_right, in_either, in_cases, in_choice, first_listed}
@@ -42,8 +42,8 @@ use Rattle.roam_mesh.proofs.PoolChangeLemmas.{HasMoved, whole_repooled, moved_en
 split_count : (old new : PoolState) (gain : ℕ) → IsPool old.n old.pairs → IsPool new.n new.pairs → length new.pairs ≡ length old.pairs →
     room_of new.pairs + gain ≡ room_of old.pairs → length (members_of new) - length (members_of old) ≡ gain
 split_count old new gain is now as_long room =
-    let old_set = members_closed old is in
-    let new_set = members_closed new now in
+    let old_set = split_list-closed old.n old.pairs is in
+    let new_set = split_list-closed new.n new.pairs now in
     let old_leaves = members_leaves old is in
     let new_leaves = members_leaves new now in
     let old_count = length-leaves_of old.n (members_of old) old_set.ascending old_set.closed in
@@ -315,9 +315,9 @@ module _ (before after : PartsState) (s : ℕ) (parts : IsParts before) (whole :
 pub split_room : (pool : PoolState) (t gain : ℕ) → IsPool pool.n pool.pairs → IsSplittable pool.n t → length pool.pairs + 1 ≡ pool.most →
     ((after : List ℕ) → IsForced pool.n (members_of pool) t after → leaf_count pool.n after ≤ pool.most) → IsGainOf pool.n pool.pairs t gain → gain ≤ room_of pool.pairs
 split_room pool t gain is splittable size room grows =
-    let next = forced_list pool.n (members_of pool) t (members_closed pool is).closed splittable in
+    let next = forced_list pool.n (members_of pool) t (split_list-closed pool.n pool.pairs is).closed splittable in
     let least = least_same pool.n (with_triangle (among (members_of pool)) t) (with_triangle (split_set pool.pairs) t) (among next.0) (among next.0)
-    (λ a. ap (λ z. z || nat_eq t a) (among-members pool a is)) (λ a. refl) next.1.least in
+    (λ a. ap (λ z. z || nat_eq t a) (among-split_list pool.n pool.pairs a is)) (λ a. refl) next.1.least in
     let grown : length (leaves_of pool.n (among next.0)) ≡ length (leaves_of pool.n (split_set pool.pairs)) + gain = grows (among next.0) least in
     let within : length (leaves_of pool.n (among next.0)) ≤ pool.most = room next.0 next.1 in
     let count = leaves_count pool.n pool.pairs is in

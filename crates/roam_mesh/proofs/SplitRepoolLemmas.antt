@@ -7,7 +7,7 @@ use Rattle.closure_laws.proofs.ChangeLemmas.{split_mergeable, split_diamonds}
 use Rattle.edge_laws.specs.Edge.{mate_of}
 use Rattle.edge_laws.specs.Slots.{address_at, has_children, HasLeaf}
 use Rattle.edge_laws.proofs.MateLemmas.{mate_of-back}
-use Rattle.edge_laws.proofs.SlotLemmas.{set_false}
+use Rattle.edge_laws.proofs.SlotLemmas.{set_false, among-split_list, split_list-closed}
 use Rattle.triangle_pool.specs.Slots.{PoolState}
 use Rattle.triangle_pool.specs.declared.pool.Born.{Born}
 use Rattle.force_split.specs.Chain.{IsBornOf}
@@ -15,7 +15,7 @@ use Rattle.roam_mesh.specs.Mesh.{slot_of, members_of}
 use Rattle.roam_mesh.specs.Parts.{is_leaf_at, is_ready, is_ready_at}
 use Rattle.roam_mesh.specs.Change.{diamond_slots, with_chain}
 use Rattle.roam_mesh.proofs.PlaceLemmas.{one_slot}
-use Rattle.roam_mesh.proofs.RoleLemmas.{among-members, members_closed, ready_entry, not_both, entry_live, diamond_mate, ready_of-at, ready_at-of, entry_level, ready_mate, leaf_parts, leaf_from, ready_from, ready_at_parts, mate_leaf}
+use Rattle.roam_mesh.proofs.RoleLemmas.{ready_entry, not_both, entry_live, diamond_mate, ready_of-at, ready_at-of, entry_level, ready_mate, leaf_parts, leaf_from, ready_from, ready_at_parts, mate_leaf}
 use Rattle.roam_mesh.proofs.PoolChangeLemmas.{IsRepooled}
 use Rattle.roam_mesh.proofs.ChainSlotLemmas.{diamond_cases, in_diamond}
 use Rattle.roam_mesh.proofs.SplitRoleLemmas.{IsPoolSplit, pool_forced, still_split, born_free, gone_cases, leaf_gone, ready_stays}
@@ -28,13 +28,13 @@ pub record IsLater (new : PoolState) (s : ℕ) (answers : List Born) (later : �
 
 module _ (old new : PoolState) (s : ℕ) (chain : List ℕ) (answers : List Born) (is : IsPoolSplit old new s chain answers) where
   was_outside : among (members_of old) (address_at old.pairs s) ≡ false
-  was_outside = among-members old (address_at old.pairs s) is.pool ∙ set_false old.pairs (address_at old.pairs s) is.leaf.leaf
+  was_outside = among-split_list old.n old.pairs (address_at old.pairs s) is.pool ∙ set_false old.pairs (address_at old.pairs s) is.leaf.leaf
 
   -- the diamond of the split triangle can be merged
   pub own_ready : is_ready_at new.pairs s ≡ true
   own_ready =
       let f : ℕ = address_at old.pairs s in
-      let can = split_mergeable old.n (members_of old) f (members_of new) (members_closed old is.pool).closed (pool_forced old new s chain answers is) was_outside in
+      let can = split_mergeable old.n (members_of old) f (members_of new) (split_list-closed old.n old.pairs is.pool).closed (pool_forced old new s chain answers is) was_outside in
       let there = ready_at-of new f is.valid (subst (λ z. CanMerge z (among (members_of new)) f) (sym is.n) can) in
       subst (λ z. is_ready_at new.pairs z ≡ true) (one_slot new.n new.pairs s f is.valid is.leaf.live (is.kept s is.leaf.live)) there.0
 
@@ -77,7 +77,7 @@ module _ (old new : PoolState) (s : ℕ) (chain : List ℕ) (answers : List Born
       let turned : mate_of (address_at new.pairs s) ≡ a = ap mate_of (same ∙ other.1) ∙ back in
       inr (subst (λ z. 1 ≤ z) (sym turned) (omega arith), sym (one_slot new.n new.pairs r (mate_of (address_at new.pairs s)) is.valid (subst (λ z. 2 ≤ z) (sym turned) low) (sym turned))))
       (diamond_mate new.n a f low (entry_level new.n new.pairs r is.valid (ready_entry new.pairs r ready)) (subst (λ z. IsInDiamond z a f) (sym is.n) new_one.1)))))
-      (split_diamonds old.n (members_of old) f (members_of new) a (members_closed old is.pool).closed (pool_forced old new s chain answers is) can)
+      (split_diamonds old.n (members_of old) f (members_of new) a (split_list-closed old.n old.pairs is.pool).closed (pool_forced old new s chain answers is) can)
 
   -- a slot that could be merged had no leaf
   no_leaf : (r : ℕ) → is_ready_at old.pairs r ≡ true → HasLeaf old.pairs r → ⊥

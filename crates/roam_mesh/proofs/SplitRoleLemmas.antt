@@ -7,7 +7,7 @@ use Rattle.mesh_defs.specs.GridSet.{IsForced}
 use Rattle.edge_laws.specs.Edge.{mate_of}
 use Rattle.edge_laws.specs.Slots.{address_at, has_children, split_set, IsLive, IsPool, HasLeaf, HasTwoLeaves, IsMergeReady}
 use Rattle.edge_laws.proofs.MateLemmas.{mate_of-low, mate_of-back}
-use Rattle.edge_laws.proofs.SlotLemmas.{has_children_low, slot_of as some_slot, member_mate, parent_has_children}
+use Rattle.edge_laws.proofs.SlotLemmas.{has_children_low, slot_of as some_slot, member_mate, parent_has_children, among-split_list, split_list-closed}
 use Rattle.triangle_pool.specs.Slots.{PoolState}
 use Rattle.triangle_pool.specs.declared.pool.Born.{Born}
 use Rattle.force_split.specs.Chain.{IsChain, IsBornOf, AreAnswers}
@@ -15,7 +15,7 @@ use Rattle.roam_mesh.specs.Mesh.{slot_of, members_of}
 use Rattle.roam_mesh.specs.Parts.{is_ready, is_ready_at}
 use Rattle.roam_mesh.specs.Change.{with_chain}
 use Rattle.roam_mesh.proofs.PlaceLemmas.{slot_of-at, address-slot_of}
-use Rattle.roam_mesh.proofs.RoleLemmas.{among-members, members_closed, ready_parts, ready_from, ready_at_parts, ready_at_from, ready_turned, mate_leaf}
+use Rattle.roam_mesh.proofs.RoleLemmas.{ready_parts, ready_from, ready_at_parts, ready_at_from, ready_turned, mate_leaf}
 use Rattle.roam_mesh.proofs.ChainSlotLemmas.{IsAbove, above_at, above_cases, in_above, own_above, IsOfChain, chain_cases, in_chain, link_leaf, mate_at, chain_leaf}
 use Rattle.roam_mesh.proofs.BornLemmas.{born_parent, chain_child}
 
@@ -55,11 +55,11 @@ module _ (old new : PoolState) (s : ℕ) (chain : List ℕ) (answers : List Born
   -- the set as the loop sees it
   pub pool_forced : IsForced old.n (members_of old) (address_at old.pairs s) (members_of new)
   pool_forced = record {
-    ascending = (members_closed new is.valid).ascending;
+    ascending = (split_list-closed new.n new.pairs is.valid).ascending;
     least = least_same old.n (with_triangle (split_set old.pairs) (address_at old.pairs s)) (with_triangle (among (members_of old)) (address_at old.pairs s))
         (split_set new.pairs) (among (members_of new))
-        (λ a. ap (λ z. z || nat_eq (address_at old.pairs s) a) (sym (among-members old a is.pool)))
-        (λ a. sym (among-members new a is.valid)) is.set;
+        (λ a. ap (λ z. z || nat_eq (address_at old.pairs s) a) (sym (among-split_list old.n old.pairs a is.pool)))
+        (λ a. sym (among-split_list new.n new.pairs a is.valid)) is.set;
   }
 
   -- what was split still is

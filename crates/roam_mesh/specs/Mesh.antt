@@ -1,10 +1,10 @@
 -- What a contract sees of a mesh: its pool, and a finite map of stamps.
 -- Source: Duchaineau et al., "ROAMing Terrain", IEEE Visualization 1997, the part on deferred priority lists.
 -- Words: MeshState, slot_of, stamp_of, members_of, pool_set, seen_of, with_expired, OnlyEntriesStamped.
-use Rattle.std.specs.Prelude.{◌≡◌, ℕ, ◌+◌, ◌*◌, ◌/◌, ◌%◌, ◌^◌, true, false, nat_eq, List, [], Option, None, Some, slice_index_or}
-use Rattle.std.specs.List.{position_or_len, filter, range_with_len}
+use Rattle.std.specs.Prelude.{◌≡◌, ℕ, ◌+◌, ◌*◌, ◌/◌, ◌%◌, true, false, nat_eq, List, [], Option, None, Some, slice_index_or}
+use Rattle.std.specs.List.{position_or_len}
 use Rattle.mesh_defs.specs.ClosedSet.{among}
-use Rattle.edge_laws.specs.Slots.{split_set}
+use Rattle.edge_laws.specs.Slots.{split_list}
 use Rattle.triangle_pool.specs.Slots.{PoolState}
 use Rattle.frame_steps.specs.Deferred.{IsEntry}
 use Rattle.frame_steps.specs.Stamps.{Stamp}
@@ -26,7 +26,7 @@ stamp_of mesh a = slice_index_or mesh.stamps (slot_of mesh.pool.pairs a) None
 
 -- the members of the pool's set, in ascending order
 abbrev pub members_of : PoolState → List ℕ
-members_of pool = filter (split_set pool.pairs) (range_with_len 0 (4 * 2 ^ (2 * pool.n)))
+members_of pool = split_list pool.n pool.pairs
 
 -- the set of a pool, as the loop of a frame sees it
 abbrev pub pool_set : PoolState → PoolSet

@@ -2,7 +2,7 @@
 use Rattle.std.specs.Prelude.{◌≡◌, ℕ, ◌^◌, ◌<◌, List, Some, ℤ, FitsSigned, unsigned_abs, decimal}
 use Rattle.std.specs.Fmt.{signed_decimal}
 use Rattle.std.specs.Int.{w64}
-use Rattle.roam_num.specs.DecText.{number_in, signed_in, IsSignedTextOf}
+use Rattle.text_laws.specs.Numbers.{number_in, signed_in, IsSignedTextOf}
 
 -- the decimal text of a number of at most 19 digits is read as this number
 abbrev pub NumbersAreReadBack : Type 0

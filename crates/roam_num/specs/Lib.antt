@@ -1,2 +1,1 @@
-pub mod DecText
 pub mod Laws

@@ -4,7 +4,7 @@ ghost use Rattle.std.specs.Prelude.{◌≡◌, ◌^◌, ◌<◌, ◌≤◌, ◌�
 ghost use Rattle.std.specs.Option.{SomeIff, option_map};
 ghost use Rattle.std.specs.Str.{all_ascii_digits};
 ghost use Rattle.text_laws.specs.Digits.{value_of};
-ghost use Rattle.roam_num.specs.DecText.{IsDecText, number_in, IsSignedTextOf, signed_in};
+ghost use Rattle.text_laws.specs.Numbers.{IsDecText, number_in, IsSignedTextOf, signed_in};
 
 /// The most digits of an unsigned number: each such number is below 2^64.
 const UNSIGNED_DIGITS: usize = 19;

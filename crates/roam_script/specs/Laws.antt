@@ -1,9 +1,8 @@
 -- What the line of some bytes is, and where each refusal comes, in the words of the format.
--- Words: line_fields, IsShort, SaysNothing, word_of, fields_behind, HasCommand, AreWithin, FailsFirst, IsSound, IsCutInto,
--- IsWithinSize, LiesInRange, and a law a word.
+-- Words: line_fields, IsShort, SaysNothing, word_of, fields_behind, HasCommand, AreWithin, FailsFirst, IsSound,
+-- IsOfSize, LiesInRange, and a law a word.
 use Rattle.std.specs.Prelude.{◌≡◌, ◌≢◌, ◌↔◌, ⊤, ℕ, ◌+◌, ◌<◌, ◌≤◌, ◌^◌, true, false, List, [], ◌∷◌, ◌++◌, length, Some, None, Ok, Err, codes, ℤ, unsigned_abs}
-use Rattle.std.specs.List.{All}
-use Rattle.roam_num.specs.DecText.{signed_in}
+use Rattle.text_laws.specs.Numbers.{signed_in}
 use Rattle.roam_script.specs.declared.limits.Limits.{Limits}
 use Rattle.roam_script.specs.declared.limits.TheConstants.{MOST_LINES, MOST_LINE_BYTES, MOST_FRAMES, MOST_PLANES, LEAST_BUDGET}
 use Rattle.roam_script.specs.declared.command.Command.{Command}
@@ -12,7 +11,8 @@ use Rattle.roam_script.specs.declared.line.Line.{Line}
 use Rattle.roam_script.specs.declared.line.Line.TheVariants.{Blank, Camera, Set, Frame, Plane, NoPlanes, Budget, Raise}
 use Rattle.roam_script.specs.declared.script_fault.ScriptFault.{ScriptFault}
 use Rattle.roam_script.specs.declared.script_fault.ScriptFault.TheVariants.{LineTooLong, UnknownCommand, WrongFields, BadNumber, OutOfRange, TooManyLines, TooManyFrames, TooManyPlanes}
-use Rattle.roam_script.specs.LineText.{without_last_cr, is_gap, fields_of, command_of, Range, is_within, ranges_of, line_with, is_comment, line_in}
+use Rattle.text_laws.specs.Fields.{without_last_cr, fields_of}
+use Rattle.roam_script.specs.LineText.{command_of, Range, is_within, ranges_of, line_with, is_comment, line_in}
 
 -- the fields of a line
 abbrev pub line_fields : List ℕ → List (List ℕ)
@@ -158,23 +158,3 @@ AcceptedLinesLieInRange = (limits : Limits) (bytes : List ℕ) (line : Line) →
 -- a field is a command exactly where it is its word
 abbrev pub CommandsAreWords : Type 0
 CommandsAreWords = (first : List ℕ) (word : Command) → (command_of first ≡ Some word) ↔ (first ≡ word_of word)
-
--- the bytes are these fields, runs of other bytes with separating bytes before, between and behind them
-pub data IsCutInto : List ℕ → List (List ℕ) → Type 0 where
-  NoField : IsCutInto [] []
-  Gap : (byte : ℕ) (bytes : List ℕ) (fields : List (List ℕ)) (gap : is_gap byte ≡ true) (more : IsCutInto bytes fields) → IsCutInto (byte ∷ bytes) fields
-  LastField : (byte : ℕ) (run : List ℕ) (other : is_gap byte ≡ false) (others : All (λ b. is_gap b ≡ false) run) → IsCutInto (byte ∷ run) ((byte ∷ run) ∷ [])
-  Field : (byte : ℕ) (run : List ℕ) (behind : ℕ) (bytes : List ℕ) (fields : List (List ℕ)) (other : is_gap byte ≡ false) (others : All (λ b. is_gap b ≡ false) run)
-      (gap : is_gap behind ≡ true) (more : IsCutInto bytes fields) → IsCutInto (byte ∷ (run ++ behind ∷ bytes)) ((byte ∷ run) ∷ fields)
-
--- the fields are the longest runs of other bytes
-abbrev pub FieldsAreRuns : Type 0
-FieldsAreRuns = (bytes : List ℕ) (fields : List (List ℕ)) → IsCutInto bytes fields → fields_of bytes ≡ fields
-
--- and each line is cut into them
-abbrev pub LinesAreCut : Type 0
-LinesAreCut = (bytes : List ℕ) → IsCutInto bytes (fields_of bytes)
-
--- a CR is dropped where it is the last byte, and nothing else is
-abbrev pub LastCarriageReturnsAreDropped : Type 0
-LastCarriageReturnsAreDropped = (bytes : List ℕ) → (without_last_cr (bytes ++ 13 ∷ []) ≡ bytes) × ((byte : ℕ) → byte ≢ 13 → without_last_cr (bytes ++ byte ∷ []) ≡ bytes ++ byte ∷ [])

@@ -1,10 +1,10 @@
 -- The line that bytes of a script are, or the first test that refuses them. This project's own format.
 --
--- Words: without_last_cr, is_gap, begins_with_gap, fields_of, command_of, Range, from_to, around, number_at, size_at,
+-- Words: command_of, Range, from_to, around, number_at, size_at,
 -- ranges_of, field_number, fields_fault, line_with, line_of, counted_line, checked_line, is_comment, fields_line, line_in.
-use Rattle.std.specs.Prelude.{ℕ, zero, suc, ◌+◌, ◌-◌, ◌^◌, Bool, true, false, ◌==◌, ◌||◌, ◌&&◌, nat_lt, if◌then◌else◌, List, [], ◌∷◌, length, take, slice_index, Option, Some, None, unwrap_or, Result, Ok, Err, codes, bytes_eq, ℤ, pos, neg_ℤ, int_le, unsigned_abs}
-use Rattle.std.specs.List.{onto_first}
-use Rattle.roam_num.specs.DecText.{signed_in}
+use Rattle.std.specs.Prelude.{ℕ, zero, suc, ◌+◌, ◌^◌, Bool, false, ◌==◌, ◌&&◌, nat_lt, if◌then◌else◌, List, [], ◌∷◌, length, Option, Some, None, unwrap_or, Result, Ok, Err, codes, bytes_eq, ℤ, pos, neg_ℤ, int_le, unsigned_abs}
+use Rattle.text_laws.specs.Numbers.{signed_in}
+use Rattle.text_laws.specs.Fields.{fields_of, without_last_cr}
 use Rattle.roam_script.specs.declared.limits.Limits.{Limits}
 use Rattle.roam_script.specs.declared.limits.TheConstants.{MOST_LINES, MOST_LINE_BYTES, MOST_FRAMES, MOST_PLANES, CAMERA_REACH, GREATEST_SLOPE, GREATEST_OFFSET, LEAST_BUDGET, GREATEST_RAISE}
 use Rattle.roam_script.specs.declared.command.Command.{Command}
@@ -13,26 +13,6 @@ use Rattle.roam_script.specs.declared.line.Line.{Line}
 use Rattle.roam_script.specs.declared.line.Line.TheVariants.{Blank, Camera, Set, Frame, Plane, NoPlanes, Budget, Raise}
 use Rattle.roam_script.specs.declared.script_fault.ScriptFault.{ScriptFault}
 use Rattle.roam_script.specs.declared.script_fault.ScriptFault.TheVariants.{LineTooLong, UnknownCommand, WrongFields, BadNumber, OutOfRange, TooManyLines, TooManyFrames, TooManyPlanes}
-
--- a line without the CR (13) that is its last byte
-abbrev pub without_last_cr : List ℕ → List ℕ
-without_last_cr bytes = if slice_index bytes (length bytes - 1) == 13 then take (length bytes - 1) bytes else bytes
-
--- the byte separates fields: a blank (32) or a TAB (9)
-abbrev pub is_gap : ℕ → Bool
-is_gap byte = byte == 32 || byte == 9
-
--- the bytes have no first one, or it separates fields
-abbrev pub begins_with_gap : List ℕ → Bool
-begins_with_gap [] = true
-begins_with_gap (byte ∷ bytes) = is_gap byte
-
--- the fields of a line: its longest runs of bytes other than blank and TAB
-abbrev pub fields_of : List ℕ → List (List ℕ)
-fields_of [] = []
-fields_of (byte ∷ bytes) =
-    if is_gap byte then fields_of bytes
-    else (if begins_with_gap bytes then (byte ∷ []) ∷ fields_of bytes else onto_first byte (fields_of bytes))
 
 -- the command that a field is
 abbrev pub command_of : List ℕ → Option Command

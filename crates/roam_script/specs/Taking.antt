@@ -1,6 +1,6 @@
 -- What it is to take the next field of a line as a number.
 use Rattle.std.specs.Prelude.{◌≡◌, ℕ, List, ◌∷◌, Result, Ok, Err, ℤ, pos}
-use Rattle.roam_num.specs.DecText.{signed_in}
+use Rattle.text_laws.specs.Numbers.{signed_in}
 use Rattle.roam_script.specs.declared.script_fault.ScriptFault.{ScriptFault}
 use Rattle.roam_script.specs.LineText.{Range, field_number}
 

@@ -1,7 +1,8 @@
 //! The commands of a script, and the numbers that stand behind each.
 
 ghost use Rattle.std.specs.Prelude.{◌≡◌, ◌≤◌, ℕ, List, length};
-ghost use Rattle.roam_script.specs.LineText.{fields_of, command_of, ranges_of, line_of};
+ghost use Rattle.text_laws.specs.Fields.{fields_of};
+ghost use Rattle.roam_script.specs.LineText.{command_of, ranges_of, line_of};
 
 use crate::fields::Fields;
 use crate::limits::{

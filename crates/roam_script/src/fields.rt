@@ -1,7 +1,8 @@
 //! The fields of a line, one after the other.
 
 ghost use Rattle.std.specs.Prelude.{◌≡◌, ◌+◌, ◌<◌, ◌≤◌, ◌^◌, ◌≤ℤ◌, false, [], ◌∷◌, length, take, drop, pos, IfSome, IfOk, MatchOption};
-ghost use Rattle.roam_script.specs.LineText.{fields_of, is_gap, begins_with_gap, from_to};
+ghost use Rattle.text_laws.specs.Fields.{fields_of, is_gap, begins_with_gap, without_last_cr};
+ghost use Rattle.roam_script.specs.LineText.{from_to};
 ghost use Rattle.roam_script.specs.Taking.{TakesNumber, signed_answer};
 
 use crate::script_fault::ScriptFault;
@@ -65,8 +66,20 @@ impl<'a> Fields<'a> {
     }
 }
 
-/// The first field of the bytes, and what stands behind it.
-pub(crate) fn first_field(bytes: &[u8]) -> Option<(&[u8], &[u8])>
+/// The bytes without the CR that is their last one, or as they are. Takes no memory.
+pub fn without_cr(bytes: &[u8]) -> &[u8]
+    ensures { result.now ≡ without_last_cr bytes.now }
+{
+    match bytes {
+        [before @ .., b'\r'] => before,
+        _ => bytes,
+    }
+}
+
+/// The first field of the bytes, and what stands behind it; None where they have no field.
+///
+/// Cost (not proved): one step a byte up to the end of the field. Takes no memory.
+pub fn first_field(bytes: &[u8]) -> Option<(&[u8], &[u8])>
     ensures cut { MatchOption result (fields_of bytes.now ≡ [])
         (λ p. fields_of bytes.now ≡ p.0.now ∷ fields_of p.1.now) }
     ensures shorter { IfSome result (λ p. length p.1.now < length bytes.now) }

@@ -1,8 +1,9 @@
 //! What the lines of a script are, in the words of the format.
 
-ghost use Rattle.roam_script.specs.Laws.{LateLinesAreTooMany, LongLinesAreTooLong, LongLinesAreSettled, BlankLinesSayNothing, OtherWordsAreUnknown, OtherCountsAreWrong, BadNumbersAreRefused, OutsideNumbersAreRefused, SeventhPlanesAreTooMany, LateFramesAreTooMany, SoundLinesAreAccepted, AcceptedLinesLieInRange, CommandsAreWords, FieldsAreRuns, LinesAreCut, LastCarriageReturnsAreDropped};
+ghost use Rattle.roam_script.specs.Laws.{LateLinesAreTooMany, LongLinesAreTooLong, LongLinesAreSettled, BlankLinesSayNothing, OtherWordsAreUnknown, OtherCountsAreWrong, BadNumbersAreRefused, OutsideNumbersAreRefused, SeventhPlanesAreTooMany, LateFramesAreTooMany, SoundLinesAreAccepted, AcceptedLinesLieInRange, CommandsAreWords};
 
-/// States what `line_in` answers: where each refusal comes, and which lines are accepted. It does nothing.
+/// States what `line_in` answers: where each refusal comes, and which lines are accepted; and which fields are
+/// commands. It does nothing.
 pub fn line_laws()
     ensures too_many_lines { LateLinesAreTooMany }
     ensures line_too_long { LongLinesAreTooLong }
@@ -16,12 +17,5 @@ pub fn line_laws()
     ensures too_many_frames { LateFramesAreTooMany }
     ensures accepted { SoundLinesAreAccepted }
     ensures ranges { AcceptedLinesLieInRange }
-{}
-
-/// States what the fields of a line are, and which of them are commands. It does nothing.
-pub fn field_laws()
-    ensures runs { FieldsAreRuns }
-    ensures cut { LinesAreCut }
     ensures commands { CommandsAreWords }
-    ensures carriage_return { LastCarriageReturnsAreDropped }
 {}

@@ -1,10 +1,11 @@
 //! From the bytes of a line to what it says.
 
 ghost use Rattle.std.specs.Prelude.{◌≡◌, ◌≤◌};
-ghost use Rattle.roam_script.specs.LineText.{line_in, without_last_cr, fields_of, fields_line, counted_line};
+ghost use Rattle.text_laws.specs.Fields.{fields_of};
+ghost use Rattle.roam_script.specs.LineText.{line_in, fields_line, counted_line};
 
 use crate::command::Command;
-use crate::fields::{Fields, first_field};
+use crate::fields::{Fields, first_field, without_cr};
 use crate::limits::{Limits, MOST_FRAMES, MOST_LINE_BYTES, MOST_LINES, MOST_PLANES};
 use crate::line::Line;
 use crate::script_fault::ScriptFault;
@@ -24,16 +25,6 @@ pub fn read_line(bytes: &[u8], limits: &Limits) -> Result<Line, ScriptFault>
         return Err(ScriptFault::LineTooLong);
     }
     line_of_fields(without_cr(bytes), limits)
-}
-
-/// The bytes without the CR that is their last one.
-fn without_cr(bytes: &[u8]) -> &[u8]
-    ensures { result.now ≡ without_last_cr bytes.now }
-{
-    match bytes {
-        [before @ .., b'\r'] => before,
-        _ => bytes,
-    }
 }
 
 /// The line of the fields of these bytes.

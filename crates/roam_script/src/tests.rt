@@ -1,6 +1,6 @@
 //! Lines of each kind, and each refusal in its place. All answers are worked by hand from the format.
 
-use crate::{Limits, Line, ScriptFault, read_line};
+use crate::{Limits, Line, ScriptFault, first_field, read_line, without_cr};
 use std::test::Fail;
 
 /// What lines are read under: side 5, heights to 255, two planes in force, budgets to 8.
@@ -286,4 +286,31 @@ fn each_refusal_has_its_number_and_its_words(rt: HostRuntime) -> Result<(), Fail
         assert_eq!(rt; shown.as_str(), words);
     }
     Ok(())
+}
+
+#[test]
+fn fields_are_taken_one_after_the_other(rt: HostRuntime) {
+    let cases: [(&[u8], Option<(&[u8], &[u8])>); 5] = [
+        (b"leaf 2", Some((b"leaf", b" 2"))),
+        (b" \t2", Some((b"2", b""))),
+        (b"a\tb c", Some((b"a", b"\tb c"))),
+        (b" \t ", None),
+        (b"", None),
+    ];
+    for (line, fields) in cases {
+        assert_eq!(rt; first_field(line), fields);
+    }
+}
+
+#[test]
+fn one_carriage_return_is_dropped_at_the_end(rt: HostRuntime) {
+    let cases: [(&[u8], &[u8]); 4] = [
+        (b"frame\r", b"frame"),
+        (b"frame\r\r", b"frame\r"),
+        (b"\rframe", b"\rframe"),
+        (b"", b""),
+    ];
+    for (line, text) in cases {
+        assert_eq!(rt; without_cr(line), text);
+    }
 }

@@ -4,3 +4,5 @@ pub mod ListLemmas
 pub mod DigitLemmas
 pub mod BlankLemmas
 pub mod WordLemmas
+pub mod NumberLemmas
+pub mod FieldLemmas

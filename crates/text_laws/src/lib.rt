@@ -1,7 +1,7 @@
-//! The bytes of texts: digits and the number that they are, whitespace, and samples of two bytes.
+//! The bytes of texts: digits and the numbers that they are, whitespace, samples of two bytes, and the fields of a line.
 //!
 //! A law crate: definitions and lemmas, and no code that runs. The readers and writers of texts above it
-//! speak of bytes in these words. What a header, a raster or a number's text is, is theirs to say.
+//! speak of bytes in these words. What a header, a raster or a line is, is theirs to say.
 
 #![tactic(auto)]
 
@@ -9,4 +9,4 @@ mod laws;
 #[cfg(test)]
 mod tests;
 
-pub use laws::{digit_laws, word_laws};
+pub use laws::{digit_laws, field_laws, word_laws};

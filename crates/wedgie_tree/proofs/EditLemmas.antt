@@ -14,7 +14,8 @@ use Rattle.mesh_defs.specs.BoundingBox.{is_in_closed, holds_point, points_of, he
 use Rattle.bintree_laws.specs.Corners.{IsWithin}
 use Rattle.wedgie_tree.specs.declared.wedge.Wedge.{Wedge}
 use Rattle.wedgie_tree.specs.Table.{IsWedge}
-use Rattle.wedgie_tree.specs.Edits.{AgreesOn, IsInRectangle}
+use Rattle.bintree_laws.specs.Areas.{IsInRectangle}
+use Rattle.wedgie_tree.specs.Edits.{AgreesOn}
 use Rattle.wedgie_tree.proofs.AreaLemmas.{AddressLaws, HasArea, HasArea-at, IsHeld, read, slack, v0-held, v1-held}
 use Rattle.wedgie_tree.proofs.HeightLemmas.{holds_point-children, apex-passes}
 use Rattle.bintree_laws.proofs.WeightLemmas.{weighted-x, weighted-y, weight-sum}

@@ -5,7 +5,6 @@ pub mod ThicknessLemmas
 pub mod PlaceLemmas
 pub mod TableLemmas
 pub mod BoxLemmas
-pub mod AreaMeets
 pub mod EditLemmas
 pub mod MendLemmas
 pub mod PointLemmas

@@ -7,10 +7,11 @@ use Rattle.mesh_defs.specs.Triangle.{level_of, corners_of, IsSplittable}
 use Rattle.bintree_laws.specs.Corners.{IsWithin}
 use Rattle.wedgie_tree.specs.declared.wedge.Wedge.{Wedge}
 use Rattle.wedgie_tree.specs.Table.{HasEntry, AllUnder, IsTable, IsRightOff}
-use Rattle.wedgie_tree.specs.Edits.{MeetsArea, IsClearOf, IsInRectangle, area_of}
+use Rattle.bintree_laws.specs.Areas.{MeetsArea, IsInRectangle}
+use Rattle.wedgie_tree.specs.Edits.{IsClearOf, area_of}
 use Rattle.wedgie_tree.proofs.AreaLemmas.{AddressLaws}
 use Rattle.wedgie_tree.proofs.HeightLemmas.{apex-passes}
-use Rattle.wedgie_tree.proofs.AreaMeets.{made-area}
+use Rattle.bintree_laws.proofs.AreaLemmas.{made-area}
 use Rattle.wedgie_tree.proofs.EditLemmas.{IsInRectangle-held, held-x, held-y, held-left, held-right, IsWedge-same}
 
 -- a triangle whose rectangle shares no point with the area holds none of its points

@@ -9,7 +9,7 @@ use Rattle.mesh_defs.specs.HeightField.{HeightField, IsHeightField, side_of, hei
 use Rattle.mesh_defs.specs.State.{Area, is_in_area, clamped, raised_heights}
 use Rattle.roam_lanes.specs.Raising.{raised, brought_into}
 use Rattle.wedgie_tree.specs.Edits.{with_row}
-use Rattle.wedgie_tree.proofs.AreaMeets.{IsBetweenEnds, read-area, made-area}
+use Rattle.bintree_laws.proofs.AreaLemmas.{IsBetweenEnds, read-area, made-area}
 use Rattle.wedgie_tree.proofs.PointLemmas.{with_row-by_points, raised-by_points}
 
 -- a height field by its parts

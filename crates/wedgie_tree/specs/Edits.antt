@@ -1,12 +1,11 @@
 -- Changes of heights, and the triangles that they reach. This project's own words.
--- Words: area_of, placed_at, with_row, is_in_row, IsInRectangle, SharesPoint, MeetsArea, overlaps, IsClearOf, AgreesOn.
-use Rattle.std.specs.Prelude.{◌≡◌, ℕ, ◌+◌, ◌-◌, ◌^◌, ◌/◌, ◌%◌, ◌≤◌, true, Bool, ◌&&◌, nat_le, nat_lt, nat_eq, if◌then◌else◌, List, length, map, slice_index}
+-- Words: area_of, is_in_row, placed_at, with_row, IsClearOf, AgreesOn; which rectangles share a point says `Areas` of bintree_laws.
+use Rattle.std.specs.Prelude.{◌≡◌, ℕ, ◌+◌, ◌-◌, ◌^◌, ◌/◌, ◌%◌, true, Bool, ◌&&◌, nat_le, nat_lt, nat_eq, if◌then◌else◌, List, length, map, slice_index}
 use Rattle.std.specs.List.{enumerate_from}
 use Rattle.mesh_defs.specs.declared.point.Point.{Point}
-use Rattle.mesh_defs.specs.declared.point.Corners.{Corners}
 use Rattle.mesh_defs.specs.HeightField.{HeightField, side_of}
 use Rattle.mesh_defs.specs.Thickness.{height_of}
-use Rattle.mesh_defs.specs.BoundingBox.{holds_point, least_of_3, greatest_of_3}
+use Rattle.mesh_defs.specs.BoundingBox.{holds_point}
 use Rattle.mesh_defs.specs.State.{Area, is_in_area}
 
 -- the area of columns x0 to x1 and rows y0 to y1
@@ -26,28 +25,6 @@ placed_at n x y row entry =
 -- all heights in file order, with a row of heights from the point (x, y) to the right
 abbrev pub with_row : HeightField → ℕ → ℕ → List ℕ → List ℕ
 with_row field x y row = map (placed_at field.n x y row) (enumerate_from 0 field.heights)
-
--- the point lies in the bounding rectangle of these corners
-pub record IsInRectangle (c : Corners) (p : Point) : Type 0 where
-  pub left : least_of_3 c.apex.x c.v0.x c.v1.x ≤ p.x
-  pub right : p.x ≤ greatest_of_3 c.apex.x c.v0.x c.v1.x
-  pub bottom : least_of_3 c.apex.y c.v0.y c.v1.y ≤ p.y
-  pub top : p.y ≤ greatest_of_3 c.apex.y c.v0.y c.v1.y
-
--- the bounding rectangle of these corners and the area have this grid point in common
-pub record SharesPoint (c : Corners) (area : Area) (p : Point) : Type 0 where
-  pub in_rectangle : IsInRectangle c p
-  pub in_area : is_in_area area p.x p.y ≡ true
-
--- the bounding rectangle of these corners and the area share a grid point
-abbrev pub MeetsArea : Corners → Area → Type 0
-MeetsArea c area = (p : Point) × SharesPoint c area p
-
--- the columns of the two overlap, and so do the rows
-abbrev pub overlaps : Corners → Area → Bool
-overlaps c area =
-    nat_le area.x0 (greatest_of_3 c.apex.x c.v0.x c.v1.x) && (nat_le (least_of_3 c.apex.x c.v0.x c.v1.x) area.x1
-    && (nat_le area.y0 (greatest_of_3 c.apex.y c.v0.y c.v1.y) && nat_le (least_of_3 c.apex.y c.v0.y c.v1.y) area.y1))
 
 -- triangle a holds no point of the area
 abbrev pub IsClearOf : ℕ → Area → ℕ → Type 0

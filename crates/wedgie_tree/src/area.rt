@@ -1,7 +1,8 @@
 //! An area of grid points.
 
 ghost use Rattle.std.specs.Prelude.{IsTrue, ◌↔◌, ◌≡◌};
-ghost use Rattle.wedgie_tree.specs.Edits.{MeetsArea, area_of, overlaps};
+ghost use Rattle.bintree_laws.specs.Areas.{MeetsArea, overlaps};
+ghost use Rattle.wedgie_tree.specs.Edits.{area_of};
 
 use crate::shape::{greatest, least};
 use bintree_addr::Corners;

@@ -6,7 +6,8 @@ ghost use Rattle.mesh_defs.specs.Triangle.{level_of, corners_of, IsSplittable};
 ghost use Rattle.mesh_defs.specs.Thickness.{height_of, deviation, thickness_of};
 ghost use Rattle.mesh_defs.specs.BoundingBox.{low_of, high_of, least_of_3, greatest_of_3, box_of, holds_point};
 ghost use Rattle.mesh_defs.specs.declared.point.Point.{Point};
-ghost use Rattle.wedgie_tree.specs.Edits.{AgreesOn, IsInRectangle};
+ghost use Rattle.bintree_laws.specs.Areas.{IsInRectangle};
+ghost use Rattle.wedgie_tree.specs.Edits.{AgreesOn};
 
 /// What holds of a triangle by its children, and of a finest one by its corners.
 ///

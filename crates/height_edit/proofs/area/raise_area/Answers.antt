@@ -2,7 +2,8 @@ use Rattle.std.proofs.Common.{◌≡◌, ℕ, ◌^◌, ◌≤◌, true, subst}
 use Rattle.mesh_defs.specs.HeightField.{height_at}
 use Rattle.mesh_defs.specs.State as state
 use Rattle.mesh_defs.specs.Triangle.{corners_of, IsAddress}
-use Rattle.wedgie_tree.specs.Edits.{AgreesOn, MeetsArea, area_of}
+use Rattle.bintree_laws.specs.Areas.{MeetsArea}
+use Rattle.wedgie_tree.specs.Edits.{AgreesOn, area_of}
 use Rattle.height_edit.proofs.SameLemmas.{HeldLaws, AgreesOn-area, level-fits}
 use Rattle.height_edit.proofs.area.raise_area.Goals as goal
 use Rattle.height_edit.proofs.area.raise_area.Goals.{After-raise}

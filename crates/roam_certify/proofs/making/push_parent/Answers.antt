@@ -2,10 +2,11 @@
 use Rattle.std.proofs.Common.{◌≡◌, ◌/◌, ◌≤◌, IsTrue, sym, subst, arith, ⊎_elim}
 use Rattle.std.proofs.lemmas.Bool.{cases_lt, false≢true}
 use Rattle.mesh_defs.specs.Triangle.{IsSplittable}
+use Rattle.closure_laws.proofs.ClosureLemmas.{IsSplittable-half}
 use Rattle.least_laws.proofs.SweepLemmas.{splittable-lt}
 use Rattle.certificate_laws.specs.declared.reason.Kind.TheVariants.{Parent}
 use Rattle.certificate_laws.specs.Certificate.{named_in}
-use Rattle.roam_certify.proofs.MakingLemmas.{half-splittable, pushed-list, pushed-reasoned, pushed-grown, pushed-listed}
+use Rattle.roam_certify.proofs.MakingLemmas.{pushed-list, pushed-reasoned, pushed-grown, pushed-listed}
 use Rattle.roam_certify.proofs.making.push_parent.Goals as goal
 
 pub push_new-requires : goal.push_new-requires
@@ -20,7 +21,7 @@ returns-in_ok-push_new-in-Some-clause-listed c =
     let half : c.in-Some.parent ≡ c.args.t / 2 = c.in-Some.ensures.half in
     let big : 4 ≤ c.args.t = ⊎_elim (λ small. absurd (false≢true (sym (c.in-Some.ensures.base.1 small)))) (λ large. large) (cases_lt c.args.t 4) in
     let splittable : IsSplittable c.args.n c.in-Some.parent =
-    subst (λ p. IsSplittable c.args.n p) (sym half) (half-splittable c.args.n c.args.t (c.requires.listed.splittable c.args.t c.requires.named) big) in
+    subst (λ p. IsSplittable c.args.n p) (sym half) (IsSplittable-half c.args.n c.args.t (c.requires.listed.splittable c.args.t c.requires.named) big) in
     pushed-list c.args.n c.args.limit Parent c.in-Some.parent c.args.flags.now c.args.reasons.now.items
     c.push_new.new.flags c.push_new.new.reasons.items c.requires.listed splittable c.in_ok-push_new-in-Some.ensures.pushed
 
@@ -29,7 +30,7 @@ returns-in_ok-push_new-in-Some-clause-reasoned c priority worst are =
     let half : c.in-Some.parent ≡ c.args.t / 2 = c.in-Some.ensures.half in
     let big : 4 ≤ c.args.t = ⊎_elim (λ small. absurd (false≢true (sym (c.in-Some.ensures.base.1 small)))) (λ large. large) (cases_lt c.args.t 4) in
     let splittable : IsSplittable c.args.n c.in-Some.parent =
-    subst (λ p. IsSplittable c.args.n p) (sym half) (half-splittable c.args.n c.args.t (c.requires.listed.splittable c.args.t c.requires.named) big) in
+    subst (λ p. IsSplittable c.args.n p) (sym half) (IsSplittable-half c.args.n c.args.t (c.requires.listed.splittable c.args.t c.requires.named) big) in
     pushed-reasoned c.args.n c.args.limit Parent c.in-Some.parent c.args.flags.now c.args.reasons.now.items priority worst
     c.push_new.new.flags c.push_new.new.reasons.items c.requires.listed splittable (c.args.t, c.requires.named, big, half) are c.in_ok-push_new-in-Some.ensures.pushed
 

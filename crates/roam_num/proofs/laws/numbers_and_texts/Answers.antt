@@ -1,6 +1,6 @@
 use Rattle.std.proofs.Common.{arith, lit<}
 use Rattle.std.proofs.lemmas.Fmt.{signed_decimal_injective}
-use Rattle.roam_num.proofs.DigitLemmas.{decimal-back, signed-back, one-number}
+use Rattle.text_laws.proofs.NumberLemmas.{decimal-back, signed-back, one-number}
 use Rattle.roam_num.proofs.laws.numbers_and_texts.Goals as goal
 
 pub returns-clause-back : goal.returns-clause-back

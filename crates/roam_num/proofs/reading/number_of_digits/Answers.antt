@@ -1,5 +1,6 @@
 use Rattle.std.proofs.Common.{arith, length}
-use Rattle.roam_num.proofs.DigitLemmas.{number-refused, number-read, short-bound}
+use Rattle.text_laws.proofs.NumberLemmas.{number-refused, number-read}
+use Rattle.roam_num.proofs.DigitLemmas.{short-bound}
 use Rattle.roam_num.proofs.reading.number_of_digits.Goals as goal
 use Rattle.roam_num.proofs.reading.number_of_digits.Goals.{then-is_empty-via-then-is_empty, then-is_empty-via-else-is_empty+then-bytes-longest}
 

@@ -1,4 +1,4 @@
-use Rattle.roam_num.proofs.DigitLemmas.{number-valid, number-value}
+use Rattle.text_laws.proofs.NumberLemmas.{number-valid, number-value}
 use Rattle.roam_num.proofs.reading.read_dec.Goals as goal
 
 pub returns-clause-valid : goal.returns-clause-valid

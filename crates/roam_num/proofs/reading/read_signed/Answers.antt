@@ -1,7 +1,8 @@
 use Rattle.std.proofs.Common.{pos, neg_ℤ, sym, ap, ◌∙◌}
 use Rattle.std.specs.Option.{option_map}
-use Rattle.roam_num.specs.DecText.{number_in}
-use Rattle.roam_num.proofs.DigitLemmas.{signed-stripped, signed-kept, reads-as}
+use Rattle.text_laws.specs.Numbers.{number_in}
+use Rattle.text_laws.proofs.NumberLemmas.{reads-as}
+use Rattle.roam_num.proofs.DigitLemmas.{signed-stripped, signed-kept}
 use Rattle.roam_num.proofs.reading.read_signed.Goals as goal
 
 pub returns-in-Some-clause-same : goal.returns-in-Some-clause-same

@@ -1,6 +1,6 @@
 use Rattle.std.proofs.Common.{true, sym, ◌∙◌, arith}
 use Rattle.std.proofs.lemmas.List.Elements.{All-more}
-use Rattle.roam_script.proofs.FieldLemmas.{IsOther, fields-cut, fields-whole, begins-drop, positive-gap}
+use Rattle.text_laws.proofs.FieldLemmas.{IsOther, fields-cut, fields-whole, begins-drop, positive-gap}
 use Rattle.roam_script.proofs.fields.first_gap.Goals as goal
 
 pub returns-then-separates-clause-cut : goal.returns-then-separates-clause-cut

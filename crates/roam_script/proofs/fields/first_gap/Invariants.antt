@@ -1,6 +1,6 @@
 use Rattle.std.proofs.Common.{◌≡◌, false, take}
 use Rattle.std.specs.List.{All}
-use Rattle.roam_script.specs.LineText.{is_gap}
+use Rattle.text_laws.specs.Fields.{is_gap}
 use Rattle.roam_script.proofs.fields.first_gap.Given as goal
 
 abbrev pub invariant-loop-i : goal.invariant-loop-i

@@ -1,5 +1,5 @@
 use Rattle.std.proofs.Common.{◌≡◌, drop}
-use Rattle.roam_script.specs.LineText.{fields_of}
+use Rattle.text_laws.specs.Fields.{fields_of}
 use Rattle.roam_script.proofs.fields.without_gaps.Given as goal
 
 abbrev pub invariant-loop-i : goal.invariant-loop-i

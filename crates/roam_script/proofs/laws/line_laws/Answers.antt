@@ -1,7 +1,7 @@
 use Rattle.std.proofs.Common.{Ok, Err}
 use Rattle.roam_script.specs.declared.line.Line.TheVariants.{Blank}
 use Rattle.roam_script.specs.declared.script_fault.ScriptFault.TheVariants.{LineTooLong, UnknownCommand, WrongFields, BadNumber, OutOfRange, TooManyLines, TooManyFrames, TooManyPlanes}
-use Rattle.roam_script.proofs.LineLemmas.{cause, because, in-accepted, settled, accepted-cause, in-range}
+use Rattle.roam_script.proofs.LineLemmas.{cause, because, in-accepted, settled, accepted-cause, in-range, command-word}
 use Rattle.roam_script.proofs.laws.line_laws.Goals as goal
 
 pub returns-clause-too_many_lines : goal.returns-clause-too_many_lines
@@ -40,3 +40,6 @@ returns-clause-accepted c =
 
 pub returns-clause-ranges : goal.returns-clause-ranges
 returns-clause-ranges c = λ limits bytes line e. in-range limits bytes line (cause limits bytes (Ok line) e)
+
+pub returns-clause-commands : goal.returns-clause-commands
+returns-clause-commands c = command-word

@@ -3,7 +3,7 @@ use Rattle.frame_steps.specs.Stamps.{StampsHold}
 use Rattle.deferred_loop.specs.Promise.{IsAtMost, IsAtLeast, AreStampsGood}
 use Rattle.roam_mesh.specs.Mesh.{MeshState, stamp_of, seen_of}
 use Rattle.roam_mesh.specs.Parts.{mesh_of}
-use Rattle.roam_mesh.proofs.RoleLemmas.{members_closed}
+use Rattle.edge_laws.proofs.SlotLemmas.{split_list-closed}
 use Rattle.roam_mesh.proofs.MeshLemmas.{stamps_hold, at_most, at_least, stamps_good}
 use Rattle.roam_mesh.proofs.mesh.Mesh.advance.Goals as goal
 
@@ -12,7 +12,7 @@ advance-steps-requires-clause-stamps g c = stamps_hold (g.G.Gauge.told c.args.ga
     (subst (λ (z : MeshState). StampsHold (g.G.Gauge.told c.args.gauge.now).of c.args.odometer (stamp_of z)) (sym c.self.view_is) c.requires.stamps)
 
 pub advance-steps-requires-clause-valid : goal.advance-steps-requires-clause-valid
-advance-steps-requires-clause-valid g c = members_closed c.self.inside.queued.pool c.pool-before.ensures.valid
+advance-steps-requires-clause-valid g c = split_list-closed c.self.inside.queued.pool.n c.self.inside.queued.pool.pairs c.pool-before.ensures.valid
 
 pub returns-clause-most : goal.returns-clause-most
 returns-clause-most g c =

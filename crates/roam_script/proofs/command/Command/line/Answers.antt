@@ -1,5 +1,6 @@
 use Rattle.std.proofs.Common.{sym, ap, ◌∙◌}
-use Rattle.roam_script.specs.LineText.{fields_of, line_of}
+use Rattle.text_laws.specs.Fields.{fields_of}
+use Rattle.roam_script.specs.LineText.{line_of}
 use Rattle.roam_script.proofs.command.Command.line.Goals as goal
 
 pub returns-in-Camera : goal.returns-in-Camera

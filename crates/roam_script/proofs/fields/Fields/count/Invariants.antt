@@ -1,5 +1,5 @@
 use Rattle.std.proofs.Common.{◌≡◌, ◌≤◌, ◌+◌, length}
-use Rattle.roam_script.specs.LineText.{fields_of}
+use Rattle.text_laws.specs.Fields.{fields_of}
 use Rattle.roam_script.proofs.fields.Fields.count.Given as goal
 
 abbrev pub invariant-loop-behind : goal.invariant-loop-behind

@@ -6,8 +6,7 @@ use Rattle.std.proofs.lemmas.List.{take-append-drop, drop_all, append-nil}
 use Rattle.std.proofs.Math.Seq.{get_or-append_seam, take-append_seam}
 use Rattle.std.proofs.lemmas.Bool.Decides.{eqb_tells}
 use Rattle.std.proofs.lemmas.List.Elements.{All-head, All-tail, All-cons, All-nil}
-use Rattle.roam_script.specs.LineText.{without_last_cr, is_gap, begins_with_gap, fields_of}
-use Rattle.roam_script.specs.Laws.{IsCutInto, NoField, Gap, LastField, Field}
+use Rattle.text_laws.specs.Fields.{without_last_cr, is_gap, begins_with_gap, fields_of, IsCutInto, NoField, Gap, LastField, Field}
 
 -- a byte that separates fields is in none
 pub fields-gap : (byte : ℕ) (bytes : List ℕ) → is_gap byte ≡ true → fields_of (byte ∷ bytes) ≡ fields_of bytes
@@ -119,12 +118,14 @@ last-at bytes byte =
     let e : length (bytes ++ byte ∷ []) - 1 ≡ length bytes = omega (arith, length-append bytes (byte ∷ [])) in
     ap (λ k. get_or (bytes ++ byte ∷ []) k 0) e ∙ get_or-append_seam bytes byte [] 0
 
+-- a CR that is the last byte is dropped
 pub cr-dropped : (bytes : List ℕ) → without_last_cr (bytes ++ 13 ∷ []) ≡ bytes
 cr-dropped bytes =
     let e : length (bytes ++ 13 ∷ []) - 1 ≡ length bytes = omega (arith, length-append bytes (13 ∷ [])) in
     ap (λ (v : Bool). if v then take (length (bytes ++ 13 ∷ []) - 1) (bytes ++ 13 ∷ []) else bytes ++ 13 ∷ []) (ap (λ b. b == 13) (last-at bytes 13))
     ∙ ap (λ k. take k (bytes ++ 13 ∷ [])) e ∙ take-append_seam bytes (13 ∷ [])
 
+-- and no other last byte
 pub last-kept : (bytes : List ℕ) (byte : ℕ) → byte ≢ 13 → without_last_cr (bytes ++ byte ∷ []) ≡ bytes ++ byte ∷ []
 last-kept bytes byte differs =
     let other : (byte == 13) ≡ false = elim (eqb_tells byte 13) [ inl h ↦ absurd (differs h.1) | inr h ↦ h.0 ] in
