@@ -1,112 +1,121 @@
--- The lines of vertices and of faces, one more at a time.
-use Rattle.std.proofs.Common.{◌≡◌, ℕ, suc, ◌+◌, ◌-◌, ◌*◌, ◌<◌, ◌≤◌, true, false, cond, List, [], ◌∷◌, ◌++◌, length, map, filter, flat_map, get_or, take, drop, take-append-drop, Option, Some, None, refl, sym, ◌∙◌, ap, ap₂, arith, append_assoc, append-nil}
+-- What is left of the text of a mesh view: at first, behind one more line, and at the end.
+use Rattle.std.proofs.Common.{◌≡◌, ℕ, suc, ◌+◌, ◌-◌, ◌*◌, ◌<◌, ◌≤◌, Bool, cond, List, [], ◌∷◌, ◌++◌, length, map, filter, flat_map, get_or, drop, Option, Some, None, refl, sym, ◌∙◌, ap, ap₂, arith, append_assoc}
 use Rattle.std.specs.List.{range_with_len}
-use Rattle.std.proofs.lemmas.Grind.{flat_map-append}
 use Rattle.std.proofs.Math.Seq.{drop-cons}
-use Rattle.std.proofs.lemmas.List.{take_more, map-append}
+use Rattle.std.proofs.lemmas.List.{drop_all}
 use Rattle.std.proofs.lemmas.List.Folds.{list_any_at}
-use Rattle.std.proofs.lemmas.List.Elements.{filter-append}
-use Rattle.std.proofs.lemmas.List.FromFn.{filter_of_map_range_with_len_more}
-use Rattle.text_laws.proofs.ListLemmas.{range-append}
 use Rattle.mesh_defs.specs.declared.point.Point.{Point}
 use Rattle.mesh_defs.specs.declared.point.Corners.{Corners}
 use Rattle.mesh_defs.specs.declared.mark.Mark.{Mark}
 use Rattle.mesh_defs.specs.HeightField.{side_of}
 use Rattle.mesh_defs.specs.Triangle.{corners_of}
-use Rattle.mesh_defs.specs.View.{ViewPlane}
 use Rattle.mesh_defs.specs.MeshText.{mesh_text, has_corner, vertices_of, vertex_number, vertex_line, numbers_line, face_line, face_lines, group_line, triangle_mark}
+use Rattle.obj_write.specs.declared.mesh.MeshView.{MeshView}
 use Rattle.obj_write.specs.VertexMarks.{place_point, is_vertex}
-use Rattle.obj_write.specs.MeshView.{vertices_to, vertex_lines, last_mark, IsShown}
-use Rattle.obj_write.proofs.NumberLemmas.{vertices-placed}
+use Rattle.obj_write.specs.MeshView.{view_text, IsView, IsShown}
+use Rattle.obj_write.specs.LinesLeft.{vertex_text, face_text}
+use Rattle.obj_write.proofs.NumberLemmas.{vertices-placed, length-numbers, no-vertex, some-vertex}
 
-module _ (n : ℕ) (heights : List ℕ) (spacing : ℕ) (triangles : List ℕ) where
-  -- with the next place
-  lines-more : (k : ℕ) → vertex_lines n heights spacing triangles (k + 1)
-      ≡ vertex_lines n heights spacing triangles k
-      ++ flat_map (vertex_line n heights spacing) (cond (is_vertex n triangles (place_point n k)) (place_point n k ∷ []) [])
-  lines-more k =
-      ap (flat_map (vertex_line n heights spacing))
-      (filter_of_map_range_with_len_more (is_vertex n triangles) (place_point n) 0 k k (omega arith))
-      ∙ flat_map-append (vertex_line n heights spacing) (vertices_to n triangles k)
-      (cond (is_vertex n triangles (place_point n k)) (place_point n k ∷ []) [])
+-- the lines of the vertices at so many places from one on
+abbrev lines_at : MeshView → ℕ → ℕ → List ℕ
+lines_at v k m =
+    flat_map (vertex_line v.wedges.now.n v.wedges.now.heights v.spacing)
+    (filter (is_vertex v.wedges.now.n v.leaves.now) (map (place_point v.wedges.now.n) (range_with_len k m)))
 
-  -- no vertex there
-  pub lines-skip : (k : ℕ) → is_vertex n triangles (place_point n k) ≡ false →
-      vertex_lines n heights spacing triangles (k + 1) ≡ vertex_lines n heights spacing triangles k
-  lines-skip k none =
-      lines-more k
-      ∙ ap (λ b. vertex_lines n heights spacing triangles k ++ flat_map (vertex_line n heights spacing) (cond b (place_point n k ∷ []) [])) none
-      ∙ append-nil (vertex_lines n heights spacing triangles k)
+-- the lines with a place that is a vertex, or is none
+abbrev lines_if : MeshView → ℕ → ℕ → Bool → List ℕ
+lines_if v k m shows =
+    flat_map (vertex_line v.wedges.now.n v.wedges.now.heights v.spacing)
+    (cond shows (place_point v.wedges.now.n k ∷ filter (is_vertex v.wedges.now.n v.leaves.now) (map (place_point v.wedges.now.n) (range_with_len (k + 1) m)))
+    (filter (is_vertex v.wedges.now.n v.leaves.now) (map (place_point v.wedges.now.n) (range_with_len (k + 1) m))))
 
-  -- a vertex there
-  pub lines-step : (k : ℕ) → is_vertex n triangles (place_point n k) ≡ true →
-      vertex_lines n heights spacing triangles (k + 1)
-      ≡ vertex_lines n heights spacing triangles k ++ vertex_line n heights spacing (place_point n k)
-  lines-step k some =
-      lines-more k
-      ∙ ap (λ b. vertex_lines n heights spacing triangles k ++ flat_map (vertex_line n heights spacing) (cond b (place_point n k ∷ []) [])) some
-      ∙ ap (λ t. vertex_lines n heights spacing triangles k ++ t) (append-nil (vertex_line n heights spacing (place_point n k)))
+-- how many numbers a view has
+pub places : (v : MeshView) → IsView v → length v.numbers.now ≡ side_of v.wedges.now.n * side_of v.wedges.now.n
+places v view = ap length view.vertex_numbers ∙ length-numbers v.wedges.now.n v.leaves.now
 
-  -- the lines behind a place
-  abbrev pub lines_behind : ℕ → ℕ → List ℕ
-  lines_behind k size = flat_map (vertex_line n heights spacing) (filter (is_vertex n triangles) (map (place_point n) (range_with_len k (size - k))))
+-- at a place without a number
+pub vertex-text-skip : (v : MeshView) → IsView v → (k : ℕ) → k < length v.numbers.now → get_or v.numbers.now k 0 ≡ 0 →
+    vertex_text v (k + 1) ≡ vertex_text v k
+unfolding vertex_text
+vertex-text-skip v view k below none_there =
+    let long = places v view in
+    let size : ℕ = side_of v.wedges.now.n * side_of v.wedges.now.n in
+    let more : size - k ≡ suc (size - (k + 1)) = omega arith in
+    let none = no-vertex v.wedges.now.n v.leaves.now k (omega arith) (sym (ap (λ xs. get_or xs k 0) view.vertex_numbers) ∙ none_there) in
+    sym (ap (lines_at v k) more ∙ ap (lines_if v k (size - (k + 1))) none)
 
-  -- the lines before and behind a place
-  pub lines-cut : (k size : ℕ) → k ≤ size →
-      vertex_lines n heights spacing triangles size ≡ vertex_lines n heights spacing triangles k ++ lines_behind k size
-  lines-cut k size low =
-      let both : size ≡ k + (size - k) = omega arith in
-      let start : 0 + k ≡ k = omega arith in
-      ap (λ m. flat_map (vertex_line n heights spacing) (filter (is_vertex n triangles) (map (place_point n) m)))
-      (ap (range_with_len 0) both ∙ range-append 0 k (size - k) ∙ ap (λ i. range_with_len 0 k ++ range_with_len i (size - k)) start)
-      ∙ ap (λ ps. flat_map (vertex_line n heights spacing) (filter (is_vertex n triangles) ps))
-      (map-append (place_point n) (range_with_len 0 k) (range_with_len k (size - k)))
-      ∙ ap (flat_map (vertex_line n heights spacing))
-      (filter-append (is_vertex n triangles) (map (place_point n) (range_with_len 0 k)) (map (place_point n) (range_with_len k (size - k))))
-      ∙ flat_map-append (vertex_line n heights spacing) (vertices_to n triangles k)
-      (filter (is_vertex n triangles) (map (place_point n) (range_with_len k (size - k))))
+-- at a place with a number
+pub vertex-text-step : (v : MeshView) → IsView v → (k : ℕ) → k < length v.numbers.now → (get_or v.numbers.now k 0 ≡ 0 → ⊥) →
+    vertex_text v k ≡ vertex_line v.wedges.now.n v.wedges.now.heights v.spacing (place_point v.wedges.now.n k) ++ vertex_text v (k + 1)
+unfolding vertex_text
+vertex-text-step v view k below some_there =
+    let long = places v view in
+    let size : ℕ = side_of v.wedges.now.n * side_of v.wedges.now.n in
+    let more : size - k ≡ suc (size - (k + 1)) = omega arith in
+    let some = some-vertex v.wedges.now.n v.leaves.now k (omega arith)
+    (λ none. some_there (ap (λ xs. get_or xs k 0) view.vertex_numbers ∙ none)) in
+    ap (lines_at v k) more ∙ ap (lines_if v k (size - (k + 1))) some
 
--- the text is the lines of all vertices, and then those of the faces
-pub text-is : (n : ℕ) (heights : List ℕ) (spacing : ℕ) (planes : List ViewPlane) (triangles : List ℕ) →
-    vertex_lines n heights spacing triangles (side_of n * side_of n)
-    ++ face_lines n heights spacing planes (vertices_of n triangles) None triangles
-    ≡ mesh_text n heights spacing planes triangles
-unfolding mesh_text
-text-is n heights spacing planes triangles =
-    ap (λ vs. flat_map (vertex_line n heights spacing) vs ++ face_lines n heights spacing planes (vertices_of n triangles) None triangles)
-    (sym (vertices-placed n triangles))
+-- behind the last place
+pub vertex-text-end : (v : MeshView) → IsView v → (k : ℕ) → length v.numbers.now ≤ k → vertex_text v k ≡ []
+unfolding vertex_text
+vertex-text-end v view k beyond =
+    let long = places v view in
+    let none : side_of v.wedges.now.n * side_of v.wedges.now.n - k ≡ 0 = omega arith in
+    ap (lines_at v k) none
 
-module _ (n : ℕ) (heights : List ℕ) (spacing : ℕ) (planes : List ViewPlane) (vertices : List Point) where
-  -- the faces of two lists
-  pub faces-append : (before : Option Mark) (xs ys : List ℕ) →
-      face_lines n heights spacing planes vertices before (xs ++ ys)
-      ≡ face_lines n heights spacing planes vertices before xs
-      ++ face_lines n heights spacing planes vertices (last_mark n heights spacing planes before xs) ys
-  faces-append before [] ys = refl
-  faces-append before (a ∷ xs) ys =
-      let mark : Mark = triangle_mark n heights spacing planes a in
-      let here : List ℕ = group_line planes before mark ++ face_line vertices (corners_of n a) in
-      ap (λ t. here ++ t) (faces-append (Some mark) xs ys)
-      ∙ sym (append_assoc here (face_lines n heights spacing planes vertices (Some mark) xs)
-      (face_lines n heights spacing planes vertices (last_mark n heights spacing planes (Some mark) xs) ys))
+-- at a triangle
+pub face-text-step : (v : MeshView) (i d : ℕ) (before : Option Mark) (mark : Mark) → i < length v.leaves.now →
+    mark ≡ triangle_mark v.wedges.now.n v.wedges.now.heights v.spacing v.planes.now (get_or v.leaves.now i d) →
+    face_text v i before ≡ group_line v.planes.now before mark
+    ++ (face_line (vertices_of v.wedges.now.n v.leaves.now) (corners_of v.wedges.now.n (get_or v.leaves.now i d)) ++ face_text v (i + 1) (Some mark))
+unfolding face_text
+face-text-step v i d before mark below mark_is =
+    let vertices : List Point = vertices_of v.wedges.now.n v.leaves.now in
+    let a : ℕ = get_or v.leaves.now i d in
+    let more : suc i ≡ i + 1 = omega arith in
+    let tail : drop i v.leaves.now ≡ a ∷ drop (i + 1) v.leaves.now =
+    drop-cons v.leaves.now i d below ∙ ap (λ k. a ∷ drop k v.leaves.now) more in
+    ap (face_lines v.wedges.now.n v.wedges.now.heights v.spacing v.planes.now vertices before) tail
+    ∙ ap (λ m. (group_line v.planes.now before m ++ face_line vertices (corners_of v.wedges.now.n a))
+    ++ face_lines v.wedges.now.n v.wedges.now.heights v.spacing v.planes.now vertices (Some m) (drop (i + 1) v.leaves.now)) (sym mark_is)
+    ∙ append_assoc (group_line v.planes.now before mark) (face_line vertices (corners_of v.wedges.now.n a))
+    (face_lines v.wedges.now.n v.wedges.now.heights v.spacing v.planes.now vertices (Some mark) (drop (i + 1) v.leaves.now))
 
-  -- the last mark is that of the last triangle
-  pub last-mark-push : (before : Option Mark) (xs : List ℕ) (a : ℕ) →
-      last_mark n heights spacing planes before (xs ++ a ∷ []) ≡ Some (triangle_mark n heights spacing planes a)
-  last-mark-push before [] a = refl
-  last-mark-push before (b ∷ xs) a = last-mark-push (Some (triangle_mark n heights spacing planes b)) xs a
+-- behind the last triangle
+pub face-text-end : (v : MeshView) (i : ℕ) (before : Option Mark) → length v.leaves.now ≤ i → face_text v i before ≡ []
+unfolding face_text
+face-text-end v i before beyond =
+    ap (face_lines v.wedges.now.n v.wedges.now.heights v.spacing v.planes.now (vertices_of v.wedges.now.n v.leaves.now) before)
+    (drop_all i v.leaves.now beyond)
 
-  -- the faces with one more
-  pub faces-push : (before : Option Mark) (xs : List ℕ) (a : ℕ) →
-      face_lines n heights spacing planes vertices before (xs ++ a ∷ [])
-      ≡ face_lines n heights spacing planes vertices before xs
-      ++ (group_line planes (last_mark n heights spacing planes before xs) (triangle_mark n heights spacing planes a)
-      ++ face_line vertices (corners_of n a))
-  faces-push before xs a =
-      faces-append before xs (a ∷ [])
-      ∙ ap (λ t. face_lines n heights spacing planes vertices before xs ++ t)
-      (append-nil (group_line planes (last_mark n heights spacing planes before xs) (triangle_mark n heights spacing planes a)
-      ++ face_line vertices (corners_of n a)))
+-- at first the whole text is left
+pub text-start : (v : MeshView) → vertex_text v 0 ++ face_text v 0 None ≡ view_text v
+unfolding vertex_text face_text mesh_text
+text-start v =
+    let size : ℕ = side_of v.wedges.now.n * side_of v.wedges.now.n in
+    let whole : size - 0 ≡ size = omega arith in
+    ap₂ (λ (xs ys : List ℕ). xs ++ ys)
+    (ap (lines_at v 0) whole
+    ∙ ap (flat_map (vertex_line v.wedges.now.n v.wedges.now.heights v.spacing)) (sym (vertices-placed v.wedges.now.n v.leaves.now)))
+    refl
+
+-- the next line is of a vertex
+pub line-of-vertex : (page line vertices vertices' faces : List ℕ) → vertices ≡ line ++ vertices' →
+    (page ++ line) ++ (vertices' ++ faces) ≡ page ++ (vertices ++ faces)
+line-of-vertex page line vertices vertices' faces is =
+    append_assoc page line (vertices' ++ faces)
+    ∙ ap (λ t. page ++ t) (sym (append_assoc line vertices' faces) ∙ ap (λ t. t ++ faces) (sym is))
+
+-- the next lines are of a triangle
+pub lines-of-triangle : (page group line vertices faces faces' : List ℕ) → vertices ≡ [] → faces ≡ group ++ (line ++ faces') →
+    ((page ++ group) ++ line) ++ (vertices ++ faces') ≡ page ++ (vertices ++ faces)
+lines-of-triangle page group line vertices faces faces' none is =
+    ap (λ t. ((page ++ group) ++ line) ++ (t ++ faces')) none
+    ∙ append_assoc (page ++ group) line faces'
+    ∙ append_assoc page group (line ++ faces')
+    ∙ ap (λ t. page ++ t) (sym is)
+    ∙ ap (λ t. page ++ (t ++ faces)) (sym none)
 
 -- a triangle of the list is shown
 pub shown : (n : ℕ) (triangles : List ℕ) (i d : ℕ) → i < length triangles → IsShown n triangles (get_or triangles i d)
@@ -121,52 +130,3 @@ face-is vertices c d i j k first second third same =
     ∙ ap (λ m. numbers_line 102 (vertex_number vertices c.apex) m k) second
     ∙ ap (λ m. numbers_line 102 (vertex_number vertices c.apex) (vertex_number vertices c.v0) m) third
     ∙ ap (face_line vertices) same
-
-module _ (n : ℕ) (heights : List ℕ) (spacing : ℕ) (planes : List ViewPlane) (vertices : List Point)
-    (triangles : List ℕ) (i a : ℕ) (before : Option Mark) (mark : Mark)
-    (below : i < length triangles) (there : a ≡ get_or triangles i a)
-    (before_is : before ≡ last_mark n heights spacing planes None (take i triangles))
-    (mark_is : mark ≡ triangle_mark n heights spacing planes a) where
-  -- the group line of the triangle at a place
-  group-is : group_line planes (last_mark n heights spacing planes None (take i triangles)) (triangle_mark n heights spacing planes a)
-      ≡ group_line planes before mark
-  group-is = ap₂ (λ b m. group_line planes b m) (sym before_is) (sym mark_is)
-
-  -- the faces up to a place, with the one there
-  pub faces-step : face_lines n heights spacing planes vertices None (take (i + 1) triangles)
-      ≡ face_lines n heights spacing planes vertices None (take i triangles)
-      ++ (group_line planes before mark ++ face_line vertices (corners_of n a))
-  faces-step =
-      ap (face_lines n heights spacing planes vertices None)
-      (take_more triangles i a below ∙ ap (λ b. take i triangles ++ b ∷ []) (sym there))
-      ∙ faces-push n heights spacing planes vertices None (take i triangles) a
-      ∙ ap (λ t. face_lines n heights spacing planes vertices None (take i triangles) ++ (t ++ face_line vertices (corners_of n a))) group-is
-
-  -- the mark is the last one then
-  pub mark-step : Some mark ≡ last_mark n heights spacing planes None (take (i + 1) triangles)
-  mark-step =
-      ap Some mark_is
-      ∙ sym (last-mark-push n heights spacing planes vertices None (take i triangles) a)
-      ∙ ap (last_mark n heights spacing planes None)
-      (ap (λ b. take i triangles ++ b ∷ []) there ∙ sym (take_more triangles i a below))
-
-  -- the faces behind a place, and the face line there
-  abbrev pub faces_behind : List ℕ
-  faces_behind = face_line vertices (corners_of n a)
-      ++ face_lines n heights spacing planes vertices (Some (triangle_mark n heights spacing planes a)) (drop (i + 1) triangles)
-
-  -- the faces before a place, the group line there, and what follows
-  pub faces-cut : face_lines n heights spacing planes vertices None triangles
-      ≡ face_lines n heights spacing planes vertices None (take i triangles) ++ (group_line planes before mark ++ faces_behind)
-  faces-cut =
-      let more : suc i ≡ i + 1 = omega arith in
-      let tail : drop i triangles ≡ a ∷ drop (i + 1) triangles =
-      drop-cons triangles i a below ∙ ap₂ (λ (b : ℕ) bs. b ∷ bs) (sym there) (ap (λ k. drop k triangles) more) in
-      ap (face_lines n heights spacing planes vertices None)
-      (sym (take-append-drop i triangles) ∙ ap (λ bs. take i triangles ++ bs) tail)
-      ∙ faces-append n heights spacing planes vertices None (take i triangles) (a ∷ drop (i + 1) triangles)
-      ∙ ap (λ t. face_lines n heights spacing planes vertices None (take i triangles) ++ t)
-      (append_assoc (group_line planes (last_mark n heights spacing planes None (take i triangles)) (triangle_mark n heights spacing planes a))
-      (face_line vertices (corners_of n a))
-      (face_lines n heights spacing planes vertices (Some (triangle_mark n heights spacing planes a)) (drop (i + 1) triangles))
-      ∙ ap (λ t. t ++ faces_behind) group-is)

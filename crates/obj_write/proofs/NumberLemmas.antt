@@ -12,7 +12,8 @@ use Rattle.mesh_defs.specs.BoundingBox.{point, points_of}
 use Rattle.mesh_defs.specs.MeshText.{is_same_point, vertices_of, vertex_number}
 use Rattle.obj_write.specs.Numbers.{number_at, numbers_of}
 use Rattle.obj_write.specs.VertexMarks.{grid_place, place_point, is_vertex, vertex_marks, numbered, marked}
-use Rattle.obj_write.proofs.PlaceLemmas.{points-placed, place-again, place-below, point-again, same-point, same-self}
+use Rattle.obj_write.proofs.PlaceLemmas.{points-placed, place-again, place-below, point-again}
+use Rattle.mesh_defs.proofs.PointLemmas.{same_point-eq, eq-same_point}
 use Rattle.bintree_laws.specs.Corners.{IsInSquare}
 
 -- the first that passes stands behind those that do not
@@ -33,13 +34,13 @@ number-here : (vs : List Point) (q : Point) (more : List Point) → list_any (is
     number_at (vs ++ q ∷ more) q ≡ suc (length vs)
 number-here vs q more none =
     let all : List Point = vs ++ q ∷ more in
-    let is = first-found (is_same_point q) vs q more none (same-self q) in
+    let is = first-found (is_same_point q) vs q more none (eq-same_point q q refl) in
     let found : position (is_same_point q) all ≡ Some (length vs) =
     ap (λ i. cond (ltb i (length all)) (Some i) None) is
     ∙ ap (λ b. cond b (Some (length vs)) None) (lt-ltb (length vs) (length all) (length-middle vs q more)) in
     let some : list_any (is_same_point q) all ≡ true =
     list_any-append (is_same_point q) vs (q ∷ more)
-    ∙ ap₂ (λ b c. b || (c || list_any (is_same_point q) more)) none (same-self q) in
+    ∙ ap₂ (λ b c. b || (c || list_any (is_same_point q) more)) none (eq-same_point q q refl) in
     ap (λ b. cond b (vertex_number all q) 0) some
     ∙ ap (λ o. unwrap_or o (length all) + 1) found ∙ omega arith
 
@@ -62,7 +63,7 @@ module _ (n : ℕ) (passes : Point → Bool) where
   -- points at different places differ
   apart : (j : ℕ) (q : Point) → (grid_place n q ≡ j → ⊥) → is_same_point (f j) q ≡ false
   apart j q differ = by_bool (is_same_point (f j) q)
-      (λ e. absurd (differ (ap (grid_place n) (sym (same-point (f j) q e)) ∙ place-again n j)))
+      (λ e. absurd (differ (ap (grid_place n) (sym (same_point-eq (f j) q e)) ∙ place-again n j)))
       (λ e. e)
 
   -- no point before a place is the one there
@@ -98,7 +99,7 @@ module _ (n : ℕ) (passes : Point → Bool) where
             by_bool (passes (f k))
             (λ e. ap (λ j. list_any (is_same_point (f k)) (kept j (suc m))) here
             ∙ ap (λ t. list_any (is_same_point (f k)) (cond t (f k ∷ kept (k + 1) m) (kept (k + 1) m))) e
-            ∙ ap (λ s. s || list_any (is_same_point (f k)) (kept (k + 1) m)) (same-self (f k)) ∙ sym e)
+            ∙ ap (λ s. s || list_any (is_same_point (f k)) (kept (k + 1) m)) (eq-same_point (f k) (f k) refl) ∙ sym e)
             (λ e. ap (λ j. list_any (is_same_point (f k)) (kept j (suc m))) here
             ∙ ap (λ t. list_any (is_same_point (f k)) (cond t (f k ∷ kept (k + 1) m) (kept (k + 1) m))) e
             ∙ none-behind k (k + 1) m (omega arith) ∙ sym e)
@@ -231,10 +232,3 @@ number-of-vertex n triangles p within shown =
     number-at-place n triangles (grid_place n p) (place-below n p within)
     ∙ ap (λ q. cond (is_vertex n triangles q) (vertex_number vertices q) 0) again
     ∙ ap (λ b. cond b (vertex_number vertices p) 0) shown
-
--- where numbers stand, there is a place
-pub number-below : (n : ℕ) (triangles numbers : List ℕ) (k : ℕ) → numbers ≡ numbers_of n triangles → k < length numbers →
-    k < side_of n * side_of n
-number-below n triangles numbers k is below =
-    let long = ap length is ∙ length-numbers n triangles in
-    omega arith

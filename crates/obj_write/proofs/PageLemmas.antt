@@ -5,18 +5,8 @@ use Rattle.roam_edge.specs.Told.{IsPrefix}
 use Rattle.obj_write.specs.Page.{Passed, Broken}
 use Rattle.obj_write.specs.Written.{mesh_with, Grows, GrowsByPart, IsPartOfMesh}
 
--- nothing was written
-pub passed-none : (before : Option (List Mesh)) (page : List ℕ) → Passed before before page page []
-passed-none before page = record {
-  meshes = λ all mesh is. (
-    [],
-    append-nil page,
-    is ∙ ap (λ bytes. Some (all ++ record mesh { bytes = bytes } ∷ [])) (sym (append-nil mesh.bytes)),
-  );
-}
-
 -- one text and then another
-pub passed-then : (before middle now : Option (List Mesh)) (page page' page'' text more : List ℕ)
+passed-then : (before middle now : Option (List Mesh)) (page page' page'' text more : List ℕ)
     → Passed before middle page page' text → Passed middle now page' page'' more → Passed before now page page'' (text ++ more)
 passed-then before middle now page page' page'' text more one two = record {
   meshes = λ all mesh is.
@@ -29,8 +19,36 @@ passed-then before middle now page page' page'' text more one two = record {
       );
 }
 
+-- the page was handed on, and this is to come behind it
+passed-with : (before now : Option (List Mesh)) (page page' more : List ℕ) → Passed before now page page' [] → Passed before now (page ++ more) (page' ++ more) []
+passed-with before now page page' more one = record {
+  meshes = λ all mesh is.
+      let first = one.meshes all mesh is in (
+        first.0,
+        append-nil (page ++ more) ∙ ap (λ t. t ++ more) (sym (append-nil page) ∙ first.1) ∙ append_assoc first.0 page' more,
+        first.2,
+      );
+}
+
+-- all of a text is to come behind the page
+pub passed-start : (before : Option (List Mesh)) (page text : List ℕ) → Passed before before page (page ++ text) text
+passed-start before page text = record {
+  meshes = λ all mesh is. (
+    [],
+    refl,
+    is ∙ ap (λ bytes. Some (all ++ record mesh { bytes = bytes } ∷ [])) (sym (append-nil mesh.bytes)),
+  );
+}
+
+-- a text of which a part is to come behind the page, and the page was handed on
+pub passed-on : (before middle now : Option (List Mesh)) (page here here' left text : List ℕ)
+    → Passed before middle page (here ++ left) text → Passed middle now here here' [] → Passed before now page (here' ++ left) text
+passed-on before middle now page here here' left text one two =
+    rw (← append-nil text) (passed-then before middle now page (here ++ left) (here' ++ left) text [] one
+    (passed-with middle now here here' left two))
+
 -- the page was cut short, and more was to come behind it
-pub broken-longer : (before now : Option (List Mesh)) (text more : List ℕ) → Broken before now text → Broken before now (text ++ more)
+broken-longer : (before now : Option (List Mesh)) (text more : List ℕ) → Broken before now text → Broken before now (text ++ more)
 broken-longer before now text more cut = record {
   meshes = λ all mesh is.
       let front = cut.meshes all mesh is in (
@@ -40,14 +58,8 @@ broken-longer before now text more cut = record {
       );
 }
 
--- a prefix of the whole text was cut short
-pub broken-front : (before now : Option (List Mesh)) (page text rest whole : List ℕ)
-    → Broken before now (page ++ text) → text ++ rest ≡ whole → Broken before now (page ++ whole)
-broken-front before now page text rest whole cut is =
-    rw (← is) (rw (← append_assoc page text rest) (broken-longer before now (page ++ text) rest cut))
-
 -- a text was written, and then what followed was cut short
-pub broken-then : (before middle now : Option (List Mesh)) (page page' text more : List ℕ)
+broken-then : (before middle now : Option (List Mesh)) (page page' text more : List ℕ)
     → Passed before middle page page' text → Broken middle now (page' ++ more) → Broken before now (page ++ (text ++ more))
 broken-then before middle now page page' text more one cut = record {
   meshes = λ all mesh is.
@@ -64,19 +76,18 @@ broken-then before middle now page page' text more one cut = record {
       );
 }
 
+-- a text of which a part is to come behind the page, and the page was cut short
+pub broken-on : (before middle now : Option (List Mesh)) (page here left text : List ℕ)
+    → Passed before middle page (here ++ left) text → Broken middle now here → Broken before now (page ++ text)
+broken-on before middle now page here left text one cut =
+    rw (← append-nil text) (broken-then before middle now page (here ++ left) text [] one
+    (broken-longer middle now (here ++ left) [] (broken-longer middle now here left cut)))
+
 -- a part of the whole text was written, and then the page was cut short
-pub broken-page : (before middle now : Option (List Mesh)) (page page' text rest whole : List ℕ)
+broken-page : (before middle now : Option (List Mesh)) (page page' text rest whole : List ℕ)
     → Passed before middle page page' text → Broken middle now page' → whole ≡ text ++ rest → Broken before now (page ++ whole)
 broken-page before middle now page page' text rest whole one cut is =
     rw is (broken-then before middle now page page' text rest one (broken-longer middle now page' rest cut))
-
--- a part of the whole text was written, and then the next part was cut short
-pub broken-part : (before middle now : Option (List Mesh)) (page page' text more rest whole : List ℕ)
-    → Passed before middle page page' text → Broken middle now (page' ++ more) → whole ≡ text ++ (more ++ rest)
-    → Broken before now (page ++ whole)
-broken-part before middle now page page' text more rest whole one cut is =
-    rw is (broken-then before middle now page page' text (more ++ rest) one
-    (rw (← append_assoc page' more rest) (broken-longer middle now (page' ++ more) rest cut)))
 
 module _ (before started later : Option (List Mesh)) (prefix : List ℕ) (number : ℕ) (text : List ℕ)
     (begin : (all : List Mesh) → before ≡ Some all → started ≡ Some (all ++ begun prefix number ∷ [])) where

@@ -1,9 +1,9 @@
 -- The points of the grid by their places, and the marks at the places of the vertices.
-use Rattle.std.proofs.Common.{◌≡◌, ℕ, zero, suc, ◌+◌, ◌*◌, ◌/◌, ◌%◌, ◌^◌, ◌<◌, ◌≤◌, Bool, true, false, cond, ◌||◌, eqb, List, [], ◌∷◌, ◌++◌, length, map, flat_map, get_or, replicate, refl, sym, ◌∙◌, ap, ap₂, arith, eq-eqb}
+use Rattle.std.proofs.Common.{◌≡◌, ℕ, zero, suc, ◌+◌, ◌*◌, ◌/◌, ◌%◌, ◌^◌, ◌<◌, ◌≤◌, Bool, true, false, cond, ◌||◌, List, [], ◌∷◌, ◌++◌, length, map, flat_map, get_or, replicate, refl, sym, ◌∙◌, ap, ap₂, arith}
 use Rattle.std.specs.List.{range_with_len}
 use Rattle.std.proofs.Math.ListN.{set, length-set}
 use Rattle.std.proofs.Math.Bool.{or-true, or-false}
-use Rattle.std.proofs.lemmas.Bool.{false≢true, and_parts, and_from, eqb-true}
+use Rattle.std.proofs.lemmas.Bool.{false≢true}
 use Rattle.std.proofs.lemmas.Grind.{same_number_lists}
 use Rattle.std.proofs.lemmas.List.{get_or-set_same, get_or-set_other, get_or-map, length-map, length-replicate, get_or-replicate, map-append}
 use Rattle.std.proofs.lemmas.List.Folds.{list_any-append}
@@ -17,6 +17,7 @@ use Rattle.mesh_defs.specs.HeightField.{side_of}
 use Rattle.mesh_defs.specs.Triangle.{corners_of}
 use Rattle.mesh_defs.specs.BoundingBox.{point, points_of}
 use Rattle.mesh_defs.specs.MeshText.{is_same_point, has_corner}
+use Rattle.mesh_defs.proofs.PointLemmas.{same_point-eq, eq-same_point}
 use Rattle.bintree_laws.specs.Corners.{IsInSquare, IsWithin}
 use Rattle.obj_write.specs.VertexMarks.{grid_place, place_point, is_vertex, vertex_marks}
 
@@ -72,16 +73,6 @@ point-again n p x =
 pub place-below : (n : ℕ) (p : Point) → IsInSquare (2 ^ n) p → grid_place n p < side_of n * side_of n
 place-below n p within = mul-add-lt p.y (side_of n) p.x (side_of n) (omega arith) (omega arith)
 
--- points that are the same are equal
-pub same-point : (p q : Point) → is_same_point p q ≡ true → p ≡ q
-same-point p q e =
-    let both = and_parts (eqb p.x q.x) (eqb p.y q.y) e in
-    ap₂ (λ i j. point i j) (eqb-true p.x q.x both.0) (eqb-true p.y q.y both.1)
-
--- a point is the same as itself
-pub same-self : (p : Point) → is_same_point p p ≡ true
-same-self p = and_from (eqb p.x p.x) (eqb p.y p.y) (eq-eqb p.x p.x refl) (eq-eqb p.y p.y refl)
-
 -- the number at a test
 abbrev bit : Bool → ℕ
 bit b = cond b 1 0
@@ -93,7 +84,7 @@ module _ (n : ℕ) (p : Point) (within : IsInSquare (2 ^ n) p) (xs : List ℕ) (
   mark-set k b before =
       by_bool (is_same_point (place_point n k) p)
       (λ e.
-      let there : k ≡ grid_place n p = sym (place-again n k) ∙ ap (grid_place n) (same-point (place_point n k) p e) in
+      let there : k ≡ grid_place n p = sym (place-again n k) ∙ ap (grid_place n) (same_point-eq (place_point n k) p e) in
       let low : grid_place n p < length xs = let below = place-below n p within in omega arith in
       ap (λ i. get_or (set xs (grid_place n p) 1) i 0) there
       ∙ get_or-set_same xs (grid_place n p) 1 0 low
@@ -101,7 +92,7 @@ module _ (n : ℕ) (p : Point) (within : IsInSquare (2 ^ n) p) (xs : List ℕ) (
       (λ e.
       get_or-set_other xs (grid_place n p) k 1 0
       (λ same. false≢true (sym e
-      ∙ ap (λ q. is_same_point q p) (ap (place_point n) same ∙ point-again n p within.x) ∙ same-self p))
+      ∙ ap (λ q. is_same_point q p) (ap (place_point n) same ∙ point-again n p within.x) ∙ eq-same_point p p refl))
       ∙ before ∙ sym (ap bit (ap (λ c. b || c) e ∙ or-false b)))
 
 -- three corners and one list of tests

@@ -1,3 +1,4 @@
+pub mod LinesLeft
 pub mod MeshView
 pub mod Numbers
 pub mod Page

@@ -8,6 +8,7 @@
 
 #![tactic(auto)]
 
+mod lines;
 mod mesh;
 mod page;
 mod table;
@@ -15,6 +16,7 @@ mod table;
 mod tests;
 mod vertices;
 
+pub use lines::{LONGEST_PIECE, MeshLines};
 pub use mesh::{MeshView, write_mesh};
 pub use table::VertexTable;
 pub use vertices::number_vertices;

@@ -1,29 +1,21 @@
-//! The text of a mesh, line by line.
+//! A mesh as it is to be written, and writing it.
 
-ghost use Rattle.std.specs.Prelude.{◌≡◌, ℕ, ◌+◌, ◌*◌, ◌^◌, ◌<◌, ◌≤◌, ◌++◌, ◌∷◌, [], List, Some, None, true, false, All, length, OnOk, OnErr};
-ghost use Rattle.mesh_defs.specs.HeightField.{side_of};
-ghost use Rattle.mesh_defs.specs.Triangle.{level_of, corners_of};
-ghost use Rattle.mesh_defs.specs.MeshText.{vertex_line, vertex_number, face_line, face_lines, group_line, is_mark_before, triangle_mark, vertices_of};
-ghost use Rattle.bintree_laws.specs.Corners.{IsInSquare};
+ghost use Rattle.std.specs.Prelude.{◌≡◌, ◌+◌, ◌*◌, ◌<◌, ◌≤◌, ◌++◌, ◌∷◌, [], List, Some, true, false, All, length, OnOk, OnErr};
+ghost use Rattle.mesh_defs.specs.Triangle.{level_of};
 ghost use Rattle.roam_edge.specs.Fault.{HasCause};
 ghost use Rattle.roam_edge.specs.MeshSink.{Mesh};
 ghost use Rattle.roam_edge.specs.declared.mesh_sink.TheConstants.{LONGEST_PREFIX, GREATEST_NUMBER};
-ghost use Rattle.pgm_header.specs.declared.accepted.TheConstants.{GREATEST_LEVEL};
 ghost use Rattle.wedgie_tree.specs.declared.wedges.TheConstants.{GREATEST_SPACING};
 ghost use Rattle.obj_write.specs.Numbers.{numbers_of};
 ghost use Rattle.obj_write.specs.Page.{Passed, Broken};
 ghost use Rattle.obj_write.specs.Written.{mesh_with, Grows, GrowsByPart, IsPartOfMesh};
-ghost use Rattle.obj_write.specs.MeshView.{view_text, IsView, IsShown, vertex_lines, group_text};
-ghost use Rattle.obj_write.specs.VertexMarks.{place_point, is_vertex};
-ghost use Rattle.obj_write.specs.declared.page.TheConstants.{LONGEST_LINE};
+ghost use Rattle.obj_write.specs.MeshView.{view_text, IsView};
 
-use crate::page::{Page, write_numbers, write_rest, write_text};
-use crate::vertices::place;
+use crate::lines::MeshLines;
+use crate::page::{Page, make_room, write_rest};
 use arrayvec::ArrayVec;
-use bintree_addr::{Point, Tri};
+use bintree_addr::Tri;
 use cull_marks::Planes;
-use mesh_defs::Mark;
-use pgm_grid::side_for;
 use roam_edge::{Failed, MeshSink};
 use wedgie_tree::Wedges;
 
@@ -92,211 +84,10 @@ fn write_lines<M: MeshSink>(view: &MeshView<'_>, page: &mut Page, out: &mut M) -
     ensures under_way { M.under_way out.new ≡ true }
     ensures faults { HasCause (M.faults out.old) (M.faults out.new) result }
 {
-    write_vertices(view, page, out)?;
-    write_faces(view, page, out)
-}
-
-/// Writes a line for each vertex.
-fn write_vertices<M: MeshSink>(
-    view: &MeshView<'_>,
-    page: &mut Page,
-    out: &mut M,
-) -> Result<(), Failed>
-    requires view { IsView view.now }
-    requires under_way { M.under_way out.old ≡ true }
-    ensures ok { let grid = view.now.wedges.now in
-        OnOk result (Passed (M.meshes out.old) (M.meshes out.new) page.old.items page.new.items
-        (vertex_lines grid.n grid.heights view.now.spacing view.now.leaves.now (side_of grid.n * side_of grid.n))) }
-    ensures err { let grid = view.now.wedges.now in
-        OnErr result (Broken (M.meshes out.old) (M.meshes out.new) (page.old.items ++
-        vertex_lines grid.n grid.heights view.now.spacing view.now.leaves.now (side_of grid.n * side_of grid.n))) }
-    ensures under_way { M.under_way out.new ≡ true }
-    ensures faults { HasCause (M.faults out.old) (M.faults out.new) result }
-{
-    let n = view.wedges.grid().n();
-    let numbers = view.numbers;
-    for (at, number) in numbers.iter().enumerate() {
-        if *number != 0 {
-            write_vertex(view, point_at(n, at), page, out)?;
-        }
+    let mut lines = MeshLines::new(*view);
+    make_room(page, out)?;
+    'lines: while lines.push_next(page) {
+        make_room(page, out)?;
     }
     Ok(())
-}
-
-/// The point at a place.
-fn point_at(n: u32, at: usize) -> Point
-    requires in_grid { n ≤ GREATEST_LEVEL }
-    requires below { at < side_of n * side_of n }
-    ensures value { result ≡ place_point n at }
-    ensures within { IsInSquare (2 ^ n) result }
-{
-    let side = side_for(n);
-    Point {
-        x: (at % side) as u32,
-        y: (at / side) as u32,
-    }
-}
-
-/// Writes the line of a vertex.
-fn write_vertex<M: MeshSink>(
-    view: &MeshView<'_>,
-    vertex: Point,
-    page: &mut Page,
-    out: &mut M,
-) -> Result<(), Failed>
-    requires view { IsView view.now }
-    requires within { IsInSquare (2 ^ view.now.wedges.now.n) vertex }
-    requires under_way { M.under_way out.old ≡ true }
-    ensures ok { OnOk result (Passed (M.meshes out.old) (M.meshes out.new) page.old.items page.new.items
-        (vertex_line view.now.wedges.now.n view.now.wedges.now.heights view.now.spacing vertex)) }
-    ensures err { OnErr result (Broken (M.meshes out.old) (M.meshes out.new) page.old.items) }
-    ensures under_way { M.under_way out.new ≡ true }
-    ensures faults { HasCause (M.faults out.old) (M.faults out.new) result }
-{
-    let spacing = u64::from(view.spacing);
-    let x = spacing * u64::from(vertex.x);
-    let y = spacing * u64::from(vertex.y);
-    let height = u64::from(view.wedges.grid().height(vertex.x, vertex.y));
-    write_numbers(page, out, b'v', x, y, height)
-}
-
-/// Writes the lines of the faces.
-fn write_faces<M: MeshSink>(view: &MeshView<'_>, page: &mut Page, out: &mut M) -> Result<(), Failed>
-    requires view { IsView view.now }
-    requires under_way { M.under_way out.old ≡ true }
-    ensures ok { let grid = view.now.wedges.now in
-        OnOk result (Passed (M.meshes out.old) (M.meshes out.new) page.old.items page.new.items
-        (face_lines grid.n grid.heights view.now.spacing view.now.planes.now
-        (vertices_of grid.n view.now.leaves.now) None view.now.leaves.now)) }
-    ensures err { let grid = view.now.wedges.now in
-        OnErr result (Broken (M.meshes out.old) (M.meshes out.new) (page.old.items ++
-        face_lines grid.n grid.heights view.now.spacing view.now.planes.now
-        (vertices_of grid.n view.now.leaves.now) None view.now.leaves.now)) }
-    ensures under_way { M.under_way out.new ≡ true }
-    ensures faults { HasCause (M.faults out.old) (M.faults out.new) result }
-{
-    let leaves = view.leaves;
-    let mut before = None;
-    for leaf in leaves {
-        let mark = leaf_mark(view, *leaf);
-        write_triangle(view, *leaf, before, mark, page, out)?;
-        before = Some(mark);
-    }
-    Ok(())
-}
-
-/// The mark of a triangle under the planes in force.
-fn leaf_mark(view: &MeshView<'_>, leaf: Tri) -> Mark
-    requires view { IsView view.now }
-    requires level { level_of leaf ≤ 2 * view.now.wedges.now.n }
-    ensures { result ≡ triangle_mark view.now.wedges.now.n view.now.wedges.now.heights view.now.spacing
-        view.now.planes.now leaf }
-{
-    view.planes.mark(&view.wedges.cuboid(leaf, view.spacing))
-}
-
-/// Writes the group line of a triangle, where it has one, and its face line.
-fn write_triangle<M: MeshSink>(
-    view: &MeshView<'_>,
-    leaf: Tri,
-    before: Option<Mark>,
-    mark: Mark,
-    page: &mut Page,
-    out: &mut M,
-) -> Result<(), Failed>
-    requires view { IsView view.now }
-    requires level { level_of leaf ≤ 2 * view.now.wedges.now.n }
-    requires shown { IsShown view.now.wedges.now.n view.now.leaves.now leaf }
-    requires under_way { M.under_way out.old ≡ true }
-    ensures ok { let n = view.now.wedges.now.n in
-        OnOk result (Passed (M.meshes out.old) (M.meshes out.new) page.old.items page.new.items
-        (group_line view.now.planes.now before mark
-        ++ face_line (vertices_of n view.now.leaves.now) (corners_of n leaf))) }
-    ensures err { let n = view.now.wedges.now.n in
-        OnErr result (Broken (M.meshes out.old) (M.meshes out.new) (page.old.items
-        ++ group_line view.now.planes.now before mark)) }
-    ensures under_way { M.under_way out.new ≡ true }
-    ensures faults { HasCause (M.faults out.old) (M.faults out.new) result }
-{
-    write_group(view.planes, before, mark, page, out)?;
-    write_face(view, leaf, page, out)
-}
-
-/// Writes a group line where a plane is in force and the mark differs from the one before.
-fn write_group<M: MeshSink>(
-    planes: &Planes,
-    before: Option<Mark>,
-    mark: Mark,
-    page: &mut Page,
-    out: &mut M,
-) -> Result<(), Failed>
-    requires { M.under_way out.old ≡ true }
-    ensures ok { OnOk result (Passed (M.meshes out.old) (M.meshes out.new) page.old.items page.new.items
-        (group_line planes.now before mark)) }
-    ensures err { OnErr result (Broken (M.meshes out.old) (M.meshes out.new) page.old.items) }
-    ensures under_way { M.under_way out.new ≡ true }
-    ensures faults { HasCause (M.faults out.old) (M.faults out.new) result }
-{
-    if planes.len() == 0 || is_before(before, mark) {
-        return Ok(());
-    }
-    write_text(page, out, group_text(mark))
-}
-
-/// Whether the mark is the one before.
-fn is_before(before: Option<Mark>, mark: Mark) -> bool
-    ensures { result ≡ is_mark_before before mark }
-{
-    match before {
-        Some(before) => before == mark,
-        None => false,
-    }
-}
-
-/// The group line of a mark.
-fn group_text(mark: Mark) -> &'static [u8]
-    ensures value { result.now ≡ group_text mark }
-    ensures short { length result.now ≤ LONGEST_LINE }
-{
-    match mark {
-        Mark::Inside => b"g inside\n",
-        Mark::Cut => b"g cut\n",
-        Mark::Outside => b"g outside\n",
-    }
-}
-
-/// Writes the line of a face: the vertex numbers of apex, `v0` and `v1`.
-fn write_face<M: MeshSink>(
-    view: &MeshView<'_>,
-    leaf: Tri,
-    page: &mut Page,
-    out: &mut M,
-) -> Result<(), Failed>
-    requires view { IsView view.now }
-    requires level { level_of leaf ≤ 2 * view.now.wedges.now.n }
-    requires shown { IsShown view.now.wedges.now.n view.now.leaves.now leaf }
-    requires under_way { M.under_way out.old ≡ true }
-    ensures ok { let n = view.now.wedges.now.n in
-        OnOk result (Passed (M.meshes out.old) (M.meshes out.new) page.old.items page.new.items
-        (face_line (vertices_of n view.now.leaves.now) (corners_of n leaf))) }
-    ensures err { OnErr result (Broken (M.meshes out.old) (M.meshes out.new) page.old.items) }
-    ensures under_way { M.under_way out.new ≡ true }
-    ensures faults { HasCause (M.faults out.old) (M.faults out.new) result }
-{
-    let corners = leaf.corners(view.wedges.grid().n());
-    let apex = number_of(view, corners.apex);
-    let first = number_of(view, corners.v0);
-    let second = number_of(view, corners.v1);
-    write_numbers(page, out, b'f', apex, first, second)
-}
-
-/// The number of a vertex.
-fn number_of(view: &MeshView<'_>, vertex: Point) -> u64
-    requires view { IsView view.now }
-    requires within { IsInSquare (2 ^ view.now.wedges.now.n) vertex }
-    requires shown { is_vertex view.now.wedges.now.n view.now.leaves.now vertex ≡ true }
-    ensures { result ≡ vertex_number (vertices_of view.now.wedges.now.n view.now.leaves.now) vertex }
-{
-    let place = place(view.wedges.grid().n(), vertex);
-    u64::from(view.numbers[place])
 }

@@ -1,4 +1,4 @@
-use Rattle.std.proofs.Common.{◌≡◌, ℕ, List, ◌+◌, ◌<◌, ◌≤◌, length, get_or}
+use Rattle.std.proofs.Common.{◌≡◌, ℕ, List, ◌<◌, ◌≤◌, length, get_or}
 use Rattle.obj_write.specs.Table.{IsCounted}
 use Rattle.obj_write.proofs.table.number_block.Given as goal
 

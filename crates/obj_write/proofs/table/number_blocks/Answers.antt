@@ -1,5 +1,5 @@
 use Rattle.std.proofs.Common.{◌≡◌, ◌∙◌, ◌+◌, ◌*◌, min, sym, ap, subst}
-use Rattle.obj_write.specs.Table.{AreFlagged, IsCounted, block_end}
+use Rattle.obj_write.specs.Table.{IsCounted, block_end}
 use Rattle.obj_write.proofs.TableLemmas.{counted-block, flagged-other}
 use Rattle.obj_write.proofs.table.number_blocks.Goals.{then-used-block, else-used-block}
 use Rattle.obj_write.proofs.table.number_blocks.Goals as goal

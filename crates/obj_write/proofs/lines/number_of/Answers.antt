@@ -2,7 +2,7 @@ use Rattle.std.proofs.Common.{◌≡◌, ◌∙◌, ◌*◌, ap, get_or, length,
 use Rattle.mesh_defs.specs.HeightField.{side_of, HeightField}
 use Rattle.obj_write.specs.VertexMarks.{grid_place}
 use Rattle.obj_write.proofs.NumberLemmas.{length-numbers, number-of-vertex}
-use Rattle.obj_write.proofs.mesh.number_of.Goals as goal
+use Rattle.obj_write.proofs.lines.number_of.Goals as goal
 
 -- the grid is that of the view
 n-is : (c : goal.After-place-place) → c.n.result ≡ c.args.view.now.wedges.now.n

@@ -1,0 +1,3 @@
+mod DifferenceLemmas
+mod FileLemmas
+mod LawLemmas

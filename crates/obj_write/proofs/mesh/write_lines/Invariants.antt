@@ -1,0 +1,20 @@
+use Rattle.std.proofs.Common.{◌≡◌, ◌+◌, ◌≤◌, ◌++◌, true}
+use Rattle.arrayvec.specs.ArrayVec.{array_vec_len}
+use Rattle.obj_write.specs.Page.{Passed}
+use Rattle.obj_write.specs.MeshView.{view_text}
+use Rattle.obj_write.specs.declared.page.TheConstants.{PAGE_ROOM}
+use Rattle.obj_write.specs.declared.lines.TheConstants.{LONGEST_PIECE}
+use Rattle.obj_write.proofs.mesh.write_lines.Given as goal
+
+-- the text but for the lines that are to come behind the page came through it
+abbrev pub invariant-lines : goal.invariant-lines
+invariant-lines g l = record {
+  under_way : g.M.MeshSink.under_way l.out ≡ true;
+  calm : g.M.MeshSink.faults l.out ≡ g.M.MeshSink.faults l.fn.out;
+  room : array_vec_len l.page + LONGEST_PIECE ≤ PAGE_ROOM;
+  passed : Passed (g.M.MeshSink.meshes l.fn.out) (g.M.MeshSink.meshes l.out) l.fn.page.items (l.page.items ++ l.lines.text)
+      (view_text l.view);
+}
+
+abbrev pub decreases-lines : goal.decreases-lines
+decreases-lines g l = l.lines.most
