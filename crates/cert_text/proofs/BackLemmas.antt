@@ -1,33 +1,32 @@
 -- What is written of a certificate is read back.
-use Rattle.std.proofs.Common.{◌≡◌, ◌≢◌, ℕ, zero, suc, ◌+◌, ◌*◌, ◌-◌, ◌%◌, ◌^◌, ◌<◌, ◌≤◌, Bool, true, false, List, [], ◌∷◌, ◌++◌, length, map, get_or, Option, Some, None, ℤ, pos, negsuc, refl, sym, ap, ap₂, ◌∙◌, subst, arith, append_assoc, length-append, ltb, leb, lit<}
-use Rattle.std.specs.Prelude.{◌||◌, ◌&&◌, ◌==◌, option_map, if◌then◌else◌, codes, decimal, unsigned_abs, nat_lt, nat_le, All, is_some}
+use Rattle.std.proofs.Common.{◌≡◌, subst, ◌≢◌, ℕ, zero, suc, ◌+◌, ◌*◌, ◌-◌, ◌%◌, ◌^◌, ◌<◌, ◌≤◌, Bool, true, false, List, [], ◌∷◌, ◌++◌, length, map, get_or, Option, Some, None, ℤ, pos, negsuc, refl, sym, ap, ap₂, ◌∙◌, arith, append_assoc, length-append, lit<}
+use Rattle.std.specs.Prelude.{◌||◌, ◌&&◌, ◌==◌, option_map, if◌then◌else◌, codes, decimal, unsigned_abs, nat_lt, nat_le, All}
 use Rattle.std.specs.List.{flat_map}
 use Rattle.std.specs.Fmt.{signed_decimal}
 use Rattle.std.proofs.lemmas.List.{append-nil}
 use Rattle.std.proofs.lemmas.List.Elements.{All-head, All-tail, All-cons, All-nil}
 use Rattle.std.proofs.lemmas.Grind.{flat_map-append}
 use Rattle.std.proofs.lemmas.Bool.{ne_eqb, cond-true, cond-false, lt-ltb, le-leb, le-ltb}
-use Rattle.std.proofs.lemmas.Fmt.{decimal_by_steps, decimal_nonempty, length-decimal-le, length_signed_le}
+use Rattle.std.proofs.lemmas.Fmt.{decimal_by_steps, decimal_nonempty, length-decimal-le}
 use Rattle.std.proofs.Math.Pow.{pow_mono}
 use Rattle.mesh_defs.specs.BoundingBox.{CameraAt}
 use Rattle.mesh_defs.specs.Triangle.{IsAddress, IsSplittable}
 use Rattle.least_laws.proofs.SweepLemmas.{splittable-lt}
 use Rattle.view_priority.specs.Camera.{IsCamera}
-use Rattle.roam_num.specs.DecText.{number_in, signed_in}
-use Rattle.roam_num.proofs.DigitLemmas.{decimal-back, signed-back}
-use Rattle.roam_script.specs.LineText.{without_last_cr, is_gap, fields_of}
-use Rattle.roam_script.proofs.FieldLemmas.{IsOther, fields-gap, fields-run}
+use Rattle.text_laws.specs.Numbers.{signed_in}
+use Rattle.text_laws.proofs.NumberLemmas.{decimal-back, signed-back}
+use Rattle.text_laws.specs.Fields.{without_last_cr, is_gap, fields_of}
+use Rattle.text_laws.proofs.FieldLemmas.{IsOther, fields-gap, fields-run}
 use Rattle.certificate_laws.specs.declared.reason.Kind.{Kind}
 use Rattle.certificate_laws.specs.declared.reason.Kind.TheVariants.{Want, Parent, Mate}
 use Rattle.certificate_laws.specs.declared.reason.Reason.{Reason}
-use Rattle.cert_text.specs.declared.limits.TheConstants.{MOST_LEAVES, MOST_REASONS}
 use Rattle.cert_text.specs.declared.line.CertLine.{CertLine}
 use Rattle.cert_text.specs.declared.line.CertLine.TheVariants.{CameraLine, LeafLine, ReasonLine}
 use Rattle.cert_text.specs.Certificate.{Certificate}
 use Rattle.cert_text.specs.CertLine.{is_coordinate, camera_of, address_in, word_of, fields_line, line_in}
 use Rattle.cert_text.specs.CertReader.{ReadSoFar, read_so_far, nothing_read, taken, cert_line_in}
 use Rattle.cert_text.specs.CertText.{kind_text, number_text, address_text, line_text, ended, leaf_text, reason_text, cert_text, cert_lines}
-use Rattle.cert_text.specs.Laws.{IsCertificateOf, lines_read}
+use Rattle.cert_text.specs.Laws.{IsCertificateOf, lines_read, IsOneLine}
 
 -- the bytes of a text are no less than this
 abbrev AreFrom : ℕ → List ℕ → Type 0
@@ -287,3 +286,37 @@ text-ended cert =
     ∙ ap (λ l. ended (CameraLine cert.camera) ++ l) (
     ap₂ (λ a b. a ++ b) (sym (lines-ended (λ a. line_text (LeafLine a)) cert.leaves)) (sym (lines-ended (λ r. line_text (ReasonLine r)) cert.reasons))
     ∙ sym (flat_map-append (λ line. line ++ 10 ∷ []) leaves reasons))
+
+-- no line has an LF within
+
+no-end : (bytes : List ℕ) → AreFrom 32 bytes → IsOneLine bytes
+no-end [] a = All-nil (λ byte. byte ≢ 10)
+no-end (byte ∷ bytes) a = All-cons (λ b. b ≢ 10) byte bytes (λ e. (let own = a.0 in absurd (omega arith))) (no-end bytes a.1)
+
+leaves-whole : (n : ℕ) (leaves : List ℕ) (more : List (List ℕ)) → n ≤ 11 → All (IsAddress n) leaves → All IsOneLine more →
+    All IsOneLine (map (λ a. line_text (LeafLine a)) leaves ++ more)
+leaves-whole n [] more top all rest = rest
+leaves-whole n (a ∷ leaves) more top all rest =
+    let most = small n 2 top (omega arith) in
+    let high = (All-head (IsAddress n) a leaves all).high in
+    All-cons IsOneLine (line_text (LeafLine a)) (map (λ b. line_text (LeafLine b)) leaves ++ more)
+    (no-end (line_text (LeafLine a)) (address-from (codes "leaf") a leaf_big (omega arith)))
+    (leaves-whole n leaves more top (All-tail (IsAddress n) a leaves all) rest)
+
+reasons-whole : (n : ℕ) (reasons : List Reason) → n ≤ 11 → All (λ (r : Reason). IsSplittable n r.triangle) reasons → All IsOneLine (map (λ r. line_text (ReasonLine r)) reasons)
+reasons-whole n [] top all = All-nil IsOneLine
+reasons-whole n (r ∷ reasons) top all =
+    let most = small n 1 top (omega arith) in
+    let high = splittable-lt n r.triangle (All-head (λ (q : Reason). IsSplittable n q.triangle) r reasons all) in
+    All-cons IsOneLine (line_text (ReasonLine r)) (map (λ q. line_text (ReasonLine q)) reasons)
+    (no-end (line_text (ReasonLine r)) (address-from (kind_text r.kind) r.triangle (kind_big r.kind) (omega arith)))
+    (reasons-whole n reasons top (All-tail (λ (q : Reason). IsSplittable n q.triangle) r reasons all))
+
+pub lines-whole : (n : ℕ) (cert : Certificate) → IsCertificateOf n cert → All IsOneLine (cert_lines cert)
+lines-whole n cert is =
+    let reasons = map (λ r. line_text (ReasonLine r)) cert.reasons in
+    let top = is.few.in_grid.1 in
+    All-cons IsOneLine (line_text (CameraLine cert.camera)) (map (λ a. line_text (LeafLine a)) cert.leaves ++ reasons)
+    (subst (λ l. IsOneLine l) (sym (camera-shape cert.camera)) (no-end
+    (codes "camera" ++ 32 ∷ (signed_decimal cert.camera.x ++ 32 ∷ (signed_decimal cert.camera.y ++ 32 ∷ signed_decimal cert.camera.z))) (camera-from n cert.camera is.camera)))
+    (leaves-whole n cert.leaves reasons top is.few.addresses (reasons-whole n cert.reasons top is.few.splittable))

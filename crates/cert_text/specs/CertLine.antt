@@ -4,8 +4,8 @@
 -- fields_line, line_in, IsLineOf.
 use Rattle.std.specs.Prelude.{ℕ, ◌+◌, ◌*◌, ◌^◌, Bool, ◌&&◌, nat_le, nat_lt, if◌then◌else◌, List, [], ◌∷◌, length, Option, Some, None, option_map, codes, bytes_eq, ℤ, unsigned_abs}
 use Rattle.mesh_defs.specs.Triangle.{IsAddress, IsSplittable}
-use Rattle.roam_num.specs.DecText.{number_in, signed_in}
-use Rattle.roam_script.specs.LineText.{fields_of, without_last_cr}
+use Rattle.text_laws.specs.Numbers.{number_in, signed_in}
+use Rattle.text_laws.specs.Fields.{fields_of, without_last_cr}
 use Rattle.roam_script.specs.declared.limits.TheConstants.{MOST_LINE_BYTES}
 use Rattle.certificate_laws.specs.declared.reason.Kind.{Kind}
 use Rattle.certificate_laws.specs.declared.reason.Kind.TheVariants.{Want, Parent, Mate}

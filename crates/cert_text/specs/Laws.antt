@@ -1,6 +1,7 @@
--- What is written of a certificate is read back.
--- Words: IsCertificateOf, lines_read, WrittenLinesAreRead, WrittenLinesAreEnded.
-use Rattle.std.specs.Prelude.{◌≡◌, ℕ, List, [], ◌∷◌, ◌++◌, Option, Some, None}
+-- What is written of a certificate is read back; and each line says one thing.
+-- Words: IsCertificateOf, lines_read, WrittenLinesAreRead, WrittenLinesAreEnded, IsOneLine, WrittenLinesAreLines, line_count,
+-- LinesAreCounted.
+use Rattle.std.specs.Prelude.{◌≡◌, ◌≢◌, ℕ, ◌+◌, All, length, List, [], ◌∷◌, ◌++◌, Option, Some, None}
 use Rattle.std.specs.List.{flat_map}
 use Rattle.view_priority.specs.Camera.{IsCamera}
 use Rattle.cert_text.specs.Certificate.{Certificate}
@@ -25,3 +26,19 @@ WrittenLinesAreRead = (n : ℕ) (cert : Certificate) → IsCertificateOf n cert 
 -- and its text is these lines, each with an LF (10) behind it
 abbrev pub WrittenLinesAreEnded : Type 0
 WrittenLinesAreEnded = (cert : Certificate) → cert_text cert ≡ flat_map (λ line. line ++ 10 ∷ []) (cert_lines cert)
+
+-- no byte is an LF
+abbrev pub IsOneLine : List ℕ → Type 0
+IsOneLine line = All (λ byte. byte ≢ 10) line
+
+-- so the text is cut into these lines again
+abbrev pub WrittenLinesAreLines : Type 0
+WrittenLinesAreLines = (n : ℕ) (cert : Certificate) → IsCertificateOf n cert → All IsOneLine (cert_lines cert)
+
+-- how many lines say as much: one for the camera, if it was read, and one for each leaf and each reason
+abbrev pub line_count : ReadSoFar → ℕ
+line_count read = (elim read.camera as (λ _. ℕ) [ None ↦ 0 | Some seen_from ↦ 1 ]) + (length read.leaves + length read.reasons)
+
+-- each accepted line is one of them
+abbrev pub LinesAreCounted : Type 0
+LinesAreCounted = (n : ℕ) (read next : ReadSoFar) (bytes : List ℕ) → cert_line_in n read bytes ≡ Some next → line_count next ≡ line_count read + 1

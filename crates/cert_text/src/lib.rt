@@ -9,7 +9,6 @@
 
 mod cert;
 mod fault;
-mod fields;
 mod laws;
 mod limits;
 mod line;

@@ -1,15 +1,14 @@
 //! From the bytes of a line to what it says.
 
 ghost use Rattle.std.specs.Prelude.{◌≡◌, ℕ, ◌+◌, ◌*◌, ◌^◌, ◌<◌, ◌≤◌, IfSome};
-ghost use Rattle.roam_script.specs.LineText.{fields_of};
+ghost use Rattle.text_laws.specs.Fields.{fields_of};
 ghost use Rattle.cert_text.specs.CertLine.{word_of, camera_of, address_in, camera_fields, leaf_fields, reason_fields, word_line, fields_line, line_in, IsLineOf};
 
-use crate::fields::{first_field, without_cr};
 use crate::line::{CertLine, Word};
 use bintree_addr::Tri;
 use certificate_laws::{Kind, Reason};
 use roam_num::{read_dec, read_signed};
-use roam_script::MOST_LINE_BYTES;
+use roam_script::{MOST_LINE_BYTES, first_field, without_cr};
 use view_priority::Camera;
 
 /// The line that these bytes are, of a certificate of the grid of side 2^n. The LF is none of them.

@@ -1,26 +1,32 @@
--- The headline follows from what stands after each status.
+-- The headlines follow from what stands after each status.
 use Rattle.std.proofs.Common.{◌≡◌, ◌≢◌, ℕ, zero, suc, ◌≤◌, IsTrue, List, [], ◌++◌, Option, Some, Result, Ok, refl, sym, ◌∙◌, ap, subst, append_assoc, append-nil}
 use Rattle.std.proofs.lemmas.Option.{same_Some, none-some}
 use Rattle.mesh_defs.specs.HeightField.{HeightField}
 use Rattle.mesh_defs.specs.State.{State, start_state}
 use Rattle.roam_edge.specs.MeshSink.{Mesh}
 use Rattle.roam_edge.specs.Shelf.{NamedFile, bytes_of}
+use Rattle.mesh_defs.specs.Priority.{priority_of}
+use Rattle.mesh_defs.specs.View.{View}
+use Rattle.mesh_defs.specs.Falling.{IsFalling}
+use Rattle.obj_write.specs.Written.{Grows}
 use Rattle.pgm_grid.specs.declared.fault.PgmFault.{PgmFault}
 use Rattle.pgm_grid.specs.Progress.{grid_of}
 use Rattle.pgm_grid.specs.Laws.{TextsAreRead}
 use Rattle.run_laws.specs.declared.status.Status.{Status}
-use Rattle.run_laws.specs.declared.status.Status.TheVariants.{Done, NoMemory, Usage, GridRefused, ScriptRefused, ReadFault, WriteFault}
+use Rattle.run_laws.specs.declared.status.Status.TheVariants.{Done, NoMemory, Usage, GridRefused, ScriptRefused, ReadFault, WriteFault, Rejected}
 use Rattle.run_laws.specs.Walk.{Walk, start_walk, walk_of}
-use Rattle.run_laws.specs.Words.{Scripted, Frames, Command, OnGrid}
-use Rattle.run_laws.specs.Act.{Act, Told, Stands}
+use Rattle.run_laws.specs.Words.{Scripted, Checking, Frames, Check, Command, OnGrid}
+use Rattle.run_laws.specs.CertFile.{cert_in}
+use Rattle.run_laws.specs.Act.{Act, Told, Stands, report_of}
 use Rattle.run_laws.specs.Picture.{Picture, ArePictures}
-use Rattle.run_laws.specs.Outcome.{Outcome, shown_acts, script_walk, IsScriptOutcome, IsGridOutcome, IsWordsOutcome, IsOutcome}
+use Rattle.run_laws.specs.Outcome.{Outcome, shown_acts, script_walk, IsScriptOutcome, IsCheckOutcome, IsGridOutcome, IsWordsOutcome, IsOutcome}
 use Rattle.run_laws.specs.Promise.{Seen, is_complete, ends_script, EndsRight, ScriptHasRead, FileReadFault, LeavesAtReadFault, LeavesAtNoMemory}
-use Rattle.run_laws.specs.Headline.{IsRunOf, KeepsGoodMeshes}
+use Rattle.run_laws.specs.Headline.{IsRunOf, KeepsGoodMeshes, IsCheckOf, IsCertifiedMesh}
 use Rattle.run_laws.specs.Laws.{AreStates, BudgetsAreTwo}
 use Rattle.run_laws.proofs.WalkLemmas.{walk_of-append, walk_of-grows}
 use Rattle.run_laws.proofs.StepLemmas.{states-first}
 use Rattle.run_laws.proofs.OutcomeLemmas.{command-budget, script-states}
+use Rattle.run_laws.proofs.CertifyLemmas.{Certifies, check-certifies}
 use Rattle.run_laws.proofs.HeadlineLemmas.{FramesAreBest, complete-keeps, first-keeps, cut-keeps, nothing-keeps}
 
 same-command : (xs ys : Command) → Some xs ≡ Some ys → xs ≡ ys
@@ -108,7 +114,42 @@ module _ (best : FramesAreBest) (two : BudgetsAreTwo) (read_texts : TextsAreRead
   run-keeps Usage ends read memory = complete Usage refl (λ e. cc) (λ e. cc) ends
   run-keeps GridRefused ends read memory = complete GridRefused refl (λ e. cc) (λ e. cc) ends
   run-keeps ScriptRefused ends read memory = complete ScriptRefused refl (λ e. cc) (λ e. cc) ends
+  run-keeps Rejected ends read memory = complete Rejected refl (λ e. cc) (λ e. cc) ends
   run-keeps ReadFault ends read memory = from-read-fault ReadFault (λ e. cc) (read refl)
   run-keeps WriteFault ends read memory =
       let e = ends.ends (λ f. cc) (λ f. cc) in
       cut-keeps best two s grid script run.meshes low before now all there WriteFault (λ f. cc) e.0 (script-outcome e.0 e.1) (e.2.cut_short refl)
+
+-- the mesh of a check that is done
+
+module _ (falling : (n : ℕ) (heights : List ℕ) (view : View) → IsFalling n (priority_of n heights view)) (read_texts : TextsAreRead) (words : List (List ℕ)) (files : List NamedFile)
+    (c : Checking) (grid : HeightField) (is : IsCheckOf words files c grid) (before now : Told) (old new : Seen) where
+  -- the outcome of the words is that of the check
+  check-outcome : (end : Outcome) → IsOutcome words files end → IsCheckOutcome c grid (cert_in grid.n (bytes_of files c.certificate)) (bytes_of files c.mesh) end
+  unfolding IsOutcome
+  check-outcome end of =
+      let P : Option Command → Type 0 = λ o. IsWordsOutcome o files end in
+      let Q : Result HeightField PgmFault → Type 0 = λ r. IsGridOutcome (Check c) r files end in
+      subst Q (read_texts grid (bytes_of files is.grid_name) is.valid is.file_text) (subst P is.is_command of)
+
+  -- its line stands, and it certifies the mesh
+  line-stands : (end : Outcome) → Stands before now end.acts → Certifies c grid (bytes_of files c.mesh) end
+      → (line : List ℕ) × Grows before.report now.report line × IsCertifiedMesh c grid (bytes_of files c.mesh) line
+  line-stands end stands certifies = (
+    certifies.0,
+    λ all told. stands.report_grows all told ∙ ap (λ (l : List ℕ). Some (all ++ l)) (ap (λ (o : Outcome). report_of o.acts) certifies.2 ∙ append-nil certifies.0),
+    certifies.1,
+  )
+
+  done-certified : (status : Status) → IsTrue (is_complete status) → EndsRight before now old new words files status → status ≢ NoMemory → status ≢ ReadFault → status ≡ Done
+      → (line : List ℕ) × Grows before.report now.report line × IsCertifiedMesh c grid (bytes_of files c.mesh) line
+  done-certified status complete ends m r done =
+      let e = ends.ends m r in
+      let stands = e.2.complete complete in
+      line-stands e.0 stands.0 (check-certifies falling c grid (bytes_of files c.mesh) e.0 (sym stands.1 ∙ done)
+      (cert_in grid.n (bytes_of files c.certificate)) (check-outcome e.0 e.1))
+
+  pub mesh-certified : (status : Status) → EndsRight before now old new words files status → status ≡ Done
+      → (line : List ℕ) × Grows before.report now.report line × IsCertifiedMesh c grid (bytes_of files c.mesh) line
+  mesh-certified status ends done =
+      done-certified status (ap is_complete done) ends (λ e. cc) (λ e. cc) done

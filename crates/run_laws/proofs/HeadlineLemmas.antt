@@ -1,12 +1,10 @@
 -- The headline follows from what stands: each finished mesh is that of a frame line, in order, and is good.
-use Rattle.std.proofs.Common.{◌≡◌, ℕ, suc, ◌+◌, ◌≤◌, Bool, true, IsTrue, List, [], ◌∷◌, ◌++◌, length, Option, Some, None, IsSome, refl, sym, ◌∙◌, ap, subst, arith, inl, inr, append-nil}
+use Rattle.std.proofs.Common.{◌≡◌, ℕ, suc, ◌+◌, ◌≤◌, Bool, true, IsTrue, List, [], ◌∷◌, ◌++◌, length, Option, Some, None, IsSome, refl, sym, ◌∙◌, ap, subst, inl, inr, append-nil}
 use Rattle.std.specs.List.{AllByRecursion}
 use Rattle.std.proofs.lemmas.List.Elements.{All-from_recursion}
-use Rattle.mesh_defs.specs.BestMesh.{IsBestMesh}
 use Rattle.mesh_defs.specs.ClosedSet.{among, leaves_of}
 use Rattle.mesh_defs.specs.HeightField.{HeightField}
 use Rattle.mesh_defs.specs.State.{State, priority_in, text_in}
-use Rattle.closure_laws.specs.Frame.{IsFrame}
 use Rattle.strip_laws.specs.Strip.{strip_of}
 use Rattle.strip_laws.proofs.OrderLemmas.{AreLeaves-strip_of, once-strip_of}
 use Rattle.strip_laws.proofs.StripLemmas.{IsRing-strip_of}
@@ -24,14 +22,10 @@ use Rattle.run_laws.specs.Promise.{ends_script}
 use Rattle.run_laws.specs.Headline.{IsGoodFrame, AreGoodFrames, KeepsGoodMeshes}
 use Rattle.run_laws.specs.Laws.{AreStates, BudgetsAreTwo}
 use Rattle.run_laws.proofs.ActLemmas.{meshes_of-append}
+use Rattle.run_laws.proofs.PictureLemmas.{BudgetFramesAreBest}
 use Rattle.run_laws.proofs.OutcomeLemmas.{script-states}
 
 -- The frame of a budget is a best mesh of its state, and the frame of a tolerance the least mesh of it.
-abbrev pub BudgetFramesAreBest : Type 0
-BudgetFramesAreBest = (state : State) (members : List ℕ) (worst : ℕ) (blocked : Option Blocked) → 2 ≤ state.budget
-    → IsFrame state.grid.n state.budget (priority_in state) (among members) worst blocked
-    → IsBestMesh state.grid.n state.budget (priority_in state) (leaves_of state.grid.n (among members))
-
 abbrev pub LeastFramesAreLeast : Type 0
 LeastFramesAreLeast = (tolerance : ℕ) (state : State) (members : List ℕ) (worst : ℕ) (blocked : Option Blocked)
     → IsLeastFrame state.grid.n tolerance (priority_in state) (among members) worst blocked

@@ -4,7 +4,11 @@ pub mod ActLemmas
 pub mod LineLemmas
 pub mod WalkLemmas
 pub mod PictureLemmas
+pub mod DifferenceLemmas
+pub mod CertifyLemmas
+pub mod CertFileLemmas
 pub mod OutcomeLemmas
+pub mod MadeLemmas
 pub mod HeadlineLemmas
 pub mod StepLemmas
 pub mod BestLemmas

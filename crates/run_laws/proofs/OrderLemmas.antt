@@ -1,5 +1,5 @@
 -- A mesh in the order of its strip has the same vertices, with the same numbers.
-use Rattle.std.proofs.Common.{◌≡◌, ℕ, ◌*◌, ◌≤◌, Bool, cond, eqb, IsTrue, List, [], ◌∷◌, count_by, All, refl, sym, ◌∙◌, ap, subst, arith, map}
+use Rattle.std.proofs.Common.{◌≡◌, ℕ, ◌*◌, ◌≤◌, Bool, cond, eqb, List, [], ◌∷◌, All, refl, ◌∙◌, ap, subst, arith, map}
 use Rattle.std.specs.List.{filter, list_any}
 use Rattle.std.proofs.lemmas.Bool.{eqb-true}
 use Rattle.std.proofs.lemmas.List.Elements.{All-contains}
@@ -9,7 +9,7 @@ use Rattle.mesh_defs.specs.BoundingBox.{points_of}
 use Rattle.mesh_defs.specs.ClosedSet.{leaves_of}
 use Rattle.mesh_defs.specs.MeshText.{has_corner, vertices_of}
 use Rattle.mesh_defs.proofs.ListLemmas.{IsIn, Contains-in, some-count, Any-in, list_any-in}
-use Rattle.closure_laws.proofs.ClosureLemmas.{same_tests}
+use Rattle.mesh_defs.proofs.TestLemmas.{same_tests}
 use Rattle.closure_laws.proofs.SetListLemmas.{All-in}
 use Rattle.obj_write.specs.Numbers.{number_at, numbers_of}
 use Rattle.strip_laws.specs.Strip.{strip_of}

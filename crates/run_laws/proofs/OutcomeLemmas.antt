@@ -1,26 +1,33 @@
 -- Outcomes: there is one, it exists, what is accepted ends with Done, and its pictures are certified.
-use Rattle.std.proofs.Common.{◌≡◌, ℕ, ◌≤◌, ◌&&◌, Bool, true, false, nat_le, if◌then◌else◌, ◌⊎◌, IsTrue, is_some, List, [], ◌∷◌, All, Option, Some, None, IfSome, Result, Ok, Err, refl, sym, ◌∙◌, ap, subst, arith, inl, inr, codes, bytes_eq, length}
+use Rattle.std.proofs.Common.{◌≡◌, ℕ, ◌≤◌, ◌&&◌, Bool, true, false, nat_le, if◌then◌else◌, ◌⊎◌, IsTrue, is_some, List, [], ◌∷◌, All, Option, Some, None, IfSome, Result, Ok, Err, refl, sym, ◌∙◌, ap, subst, arith, inl, inr, codes, bytes_eq, length, ◌^◌, ℤ}
+use Rattle.std.specs.Prelude.{unsigned_abs}
 use Rattle.std.specs.List.{AllByRecursion}
 use Rattle.std.proofs.lemmas.List.Elements.{All-from_recursion}
+use Rattle.std.proofs.lemmas.Bool.{leb-true}
 use Rattle.std.proofs.lemmas.Bool.Decides.{leb_tells}
 use Rattle.std.proofs.lemmas.Option.{none-some}
 use Rattle.mesh_defs.specs.HeightField.{HeightField}
 use Rattle.mesh_defs.specs.State.{State, start_state}
 use Rattle.roam_edge.specs.Shelf.{NamedFile, bytes_of}
-use Rattle.roam_num.specs.DecText.{number_in}
+use Rattle.text_laws.specs.Numbers.{number_in, signed_in}
+use Rattle.cert_text.specs.CertLine.{is_coordinate}
 use Rattle.pgm_grid.specs.declared.fault.PgmFault.{PgmFault}
 use Rattle.pgm_grid.specs.Progress.{grid_of}
 use Rattle.pgm_grid.specs.Laws.{TextsAreRead}
+use Rattle.mesh_defs.specs.BoundingBox.{CameraAt}
+use Rattle.cert_text.specs.Certificate.{Certificate}
 use Rattle.roam_gen.specs.Generated.{made_grid, made_lines}
 use Rattle.run_laws.specs.declared.status.Status.TheVariants.{Done, Usage, GridRefused}
 use Rattle.run_laws.specs.Walk.{Walk, start_walk}
-use Rattle.run_laws.specs.Words.{Show, AsMeshes, AsStrips, AsLeast, AsMeasures, AsSums, is_of_engine, Scripted, Job, Frames, Facts, Command, OnGrid, Generated, greatest_level, greatest_seed, number_word, try_command, within, budget_word, spacing_word, is_prefix, frames_command, meshes_command, command_of}
+use Rattle.run_laws.specs.Words.{Show, AsMeshes, AsStrips, AsLeast, AsMeasures, AsSums, is_of_engine, Scripted, Making, Job, Frames, Facts, Make, Check, Command, OnGrid, Generated, greatest_level, greatest_seed, number_word, try_command, within, greatest_budget, budget_word, spacing_word, tolerance_word, is_prefix, in_reach, coordinate_word, camera_word, frames_command, least_command, meshes_command, make_command, check_command, command_of}
+use Rattle.run_laws.specs.CertFile.{cert_in}
 use Rattle.run_laws.specs.Picture.{Picture, ArePictures, IsCertified}
 use Rattle.run_laws.specs.ReportText.{info_line, grid_refusal}
-use Rattle.run_laws.specs.Outcome.{Outcome, plain_outcome, text_outcome, stop_status, engine_for, frames_outcome, script_walk, made_budget, made_spacing, made_walk, HasOneOutcome, IsFramesOutcome, IsScriptOutcome, IsJobOutcome, IsGridOutcome, IsCommandOutcome, IsWordsOutcome, IsOutcome}
+use Rattle.run_laws.specs.Outcome.{Outcome, plain_outcome, text_outcome, stop_status, engine_for, frames_outcome, script_walk, made_budget, made_spacing, made_walk, HasOneOutcome, IsFramesOutcome, IsScriptOutcome, IsCheckOutcome, IsJobOutcome, IsGridOutcome, IsCommandOutcome, IsWordsOutcome, IsOutcome}
 use Rattle.run_laws.specs.Promise.{IsAcceptedJob, IsAcceptedInput, IsAccepted}
 use Rattle.run_laws.specs.Laws.{FramesExist, RunsAreUnique, LevelsAreInRange, AreStates, BudgetsAreTwo}
 use Rattle.run_laws.proofs.PictureLemmas.{FramesAreUnique, SetsAreLists, ArePictures-unique, pictures_of, no-members}
+use Rattle.run_laws.proofs.CertifyLemmas.{IsOneText, make-text, check-text, check-unique, check-exists, check-done, CertificatesExist, make-exists}
 use Rattle.run_laws.proofs.WalkLemmas.{walk_of-states, made-states, along-stop}
 
 -- what is accepted ends with Done
@@ -31,6 +38,10 @@ status-of end made e = ap (λ (o : Outcome). o.status) e
 job-done : (job : Job) (grid : HeightField) (files : List NamedFile) (end : Outcome) → IsAcceptedJob job grid files → IsJobOutcome job grid files end → end.status ≡ Done
 job-done (Frames s) grid files end good is = status-of end _ is.2 ∙ ap stop_status good
 job-done Facts grid files end good is = status-of end _ is
+job-done (Make m) grid files end good is = status-of end _ is.2
+job-done (Check c) grid files end good is =
+    let P : Result Certificate ℕ → Type 0 = λ r. IsCheckOutcome c grid r (bytes_of files c.mesh) end in
+    check-done c grid good.0 (bytes_of files c.mesh) end good.2 good.3 (subst P good.1 is)
 
 command-done : TextsAreRead → (command : Command) (files : List NamedFile) (end : Outcome) → IsAcceptedInput command files → IsCommandOutcome command files end → end.status ≡ Done
 command-done read (OnGrid name job) files end good is =
@@ -52,23 +63,56 @@ pub frames_outcome-unique : FramesAreUnique → SetsAreLists → RunsAreUnique �
 frames_outcome-unique one lists runs show files walk end other f g =
     f.2 ∙ (ap (λ (ps : List Picture). frames_outcome show files walk ps) (ArePictures-unique one lists runs show [] walk.frames f.0 g.0 f.1 g.1) ∙ sym g.2)
 
+abbrev free-job : Job → Type 0
+free-job job = HasOneOutcome (Some (OnGrid [] job))
+
 job-unique : FramesAreUnique → SetsAreLists → RunsAreUnique → (job : Job) (r : Result HeightField PgmFault) (files : List NamedFile) (end other : Outcome)
-    → IsGridOutcome job r files end → IsGridOutcome job r files other → end ≡ other
-job-unique one lists runs (Frames s) (Ok grid) files end other f g = frames_outcome-unique one lists runs s.show 2 (script_walk s grid (bytes_of files s.script)) end other f g
-job-unique one lists runs Facts (Ok grid) files end other f g = f ∙ sym g
-job-unique one lists runs (Frames s) (Err fault) files end other f g = f ∙ sym g
-job-unique one lists runs Facts (Err fault) files end other f g = f ∙ sym g
+    → free-job job → IsGridOutcome job r files end → IsGridOutcome job r files other → end ≡ other
+job-unique one lists runs (Frames s) (Ok grid) files end other free f g = frames_outcome-unique one lists runs s.show 2 (script_walk s grid (bytes_of files s.script)) end other f g
+job-unique one lists runs Facts (Ok grid) files end other free f g = f ∙ sym g
+job-unique one lists runs (Make m) (Ok grid) files end other free f g = absurd free
+job-unique one lists runs (Check c) (Ok grid) files end other free f g =
+    check-unique c grid (cert_in grid.n (bytes_of files c.certificate)) (bytes_of files c.mesh) end other f g
+job-unique one lists runs (Frames s) (Err fault) files end other free f g = f ∙ sym g
+job-unique one lists runs Facts (Err fault) files end other free f g = f ∙ sym g
+job-unique one lists runs (Make m) (Err fault) files end other free f g = f ∙ sym g
+job-unique one lists runs (Check c) (Err fault) files end other free f g = f ∙ sym g
 
 words-unique : FramesAreUnique → SetsAreLists → RunsAreUnique → (command : Option Command) (files : List NamedFile) (end other : Outcome)
-    → IsWordsOutcome command files end → IsWordsOutcome command files other → end ≡ other
-words-unique one lists runs None files end other f g = f ∙ sym g
-words-unique one lists runs (Some (OnGrid name job)) files end other f g = job-unique one lists runs job (grid_of (bytes_of files name)) files end other f g
-words-unique one lists runs (Some (Generated n seed)) files end other f g = frames_outcome-unique one lists runs (AsSums n seed) 0 (made_walk n seed) end other f g
+    → HasOneOutcome command → IsWordsOutcome command files end → IsWordsOutcome command files other → end ≡ other
+words-unique one lists runs None files end other free f g = f ∙ sym g
+words-unique one lists runs (Some (OnGrid name job)) files end other free f g = job-unique one lists runs job (grid_of (bytes_of files name)) files end other free f g
+words-unique one lists runs (Some (Generated n seed)) files end other free f g = frames_outcome-unique one lists runs (AsSums n seed) 0 (made_walk n seed) end other f g
 
 pub outcome-unique : FramesAreUnique → SetsAreLists → RunsAreUnique → (words : List (List ℕ)) (files : List NamedFile) (end other : Outcome) → HasOneOutcome (command_of words)
     → IsOutcome words files end → IsOutcome words files other → end ≡ other
 unfolding IsOutcome
-outcome-unique one lists runs words files end other free f g = words-unique one lists runs (command_of words) files end other f g
+outcome-unique one lists runs words files end other free f g = words-unique one lists runs (command_of words) files end other free f g
+
+-- and one engine, where there are several outcomes too
+
+engine-of : (end other : Outcome) → end ≡ other → end.engine ≡ other.engine
+engine-of end other same = ap (λ (o : Outcome). o.engine) same
+
+job-engine : FramesAreUnique → SetsAreLists → RunsAreUnique → (job : Job) (r : Result HeightField PgmFault) (files : List NamedFile) (end other : Outcome)
+    → IsGridOutcome job r files end → IsGridOutcome job r files other → end.engine ≡ other.engine
+job-engine one lists runs (Frames s) r files end other f g = engine-of end other (job-unique one lists runs (Frames s) r files end other tt f g)
+job-engine one lists runs Facts r files end other f g = engine-of end other (job-unique one lists runs Facts r files end other tt f g)
+job-engine one lists runs (Make m) (Ok grid) files end other f g = engine-of end _ f.2 ∙ sym (engine-of other _ g.2)
+job-engine one lists runs (Make m) (Err fault) files end other f g = engine-of end other (f ∙ sym g)
+job-engine one lists runs (Check c) r files end other f g = engine-of end other (job-unique one lists runs (Check c) r files end other tt f g)
+
+words-engine : FramesAreUnique → SetsAreLists → RunsAreUnique → (command : Option Command) (files : List NamedFile) (end other : Outcome)
+    → IsWordsOutcome command files end → IsWordsOutcome command files other → end.engine ≡ other.engine
+words-engine one lists runs None files end other f g = engine-of end other (f ∙ sym g)
+words-engine one lists runs (Some (OnGrid name job)) files end other f g = job-engine one lists runs job (grid_of (bytes_of files name)) files end other f g
+words-engine one lists runs (Some (Generated n seed)) files end other f g =
+    engine-of end other (words-unique one lists runs (Some (Generated n seed)) files end other tt f g)
+
+pub outcome-engine : FramesAreUnique → SetsAreLists → RunsAreUnique → (words : List (List ℕ)) (files : List NamedFile) (end other : Outcome)
+    → IsOutcome words files end → IsOutcome words files other → end.engine ≡ other.engine
+unfolding IsOutcome
+outcome-engine one lists runs words files end other f g = words-engine one lists runs (command_of words) files end other f g
 
 -- the budget of a command is at least 2, and a generated grid has a level
 
@@ -113,10 +157,20 @@ within-range low high number (Some found) is =
       | inr p ↦ absurd (none-some number (subst Q p.0 is))
     ]
 
+-- a certificate is made for a budget within its bounds, and for a camera within its reach
+pub record IsWithinReach (m : Making) : Type 0 where
+  pub low : 2 ≤ m.budget
+  pub high : m.budget ≤ 1048576
+  pub x_near : unsigned_abs m.camera.x ≤ 2 ^ 30
+  pub y_near : unsigned_abs m.camera.y ≤ 2 ^ 30
+  pub z_near : unsigned_abs m.camera.z ≤ 2 ^ 30
+
 -- of a job, that a budget is at least 2
 abbrev pub HasBudget : Job → Type 0
 HasBudget (Frames s) = 2 ≤ s.budget
 HasBudget Facts = Unit {0}
+HasBudget (Make m) = IsWithinReach m
+HasBudget (Check c) = Unit {0}
 
 abbrev CommandHasBudget : Command → Type 0
 CommandHasBudget (OnGrid name job) = HasBudget job
@@ -134,14 +188,28 @@ frames_command-budget i j show (Some budget) (Some spacing) command low is =
 budget_word-low : (word : List ℕ) (number : ℕ) → budget_word word ≡ Some number → 2 ≤ number
 budget_word-low word number found = within-low 2 1048576 number (number_in 19 word) found
 
+least_command-budget : (i j k : List ℕ) (tolerance spacing : Option ℕ) (command : Command) → least_command i j k tolerance spacing ≡ Some command → CommandHasBudget command
+least_command-budget i j k None spacing command is = absurd (none-some command is)
+least_command-budget i j k (Some tolerance) spacing command is =
+    frames_command-budget i j (AsLeast k tolerance) (Some greatest_budget) spacing command (λ number same. budget-two number same) is
+  where
+    budget-two : (number : ℕ) → Some greatest_budget ≡ Some number → 2 ≤ number
+    budget-two number same =
+        let P : Option ℕ → Type 0 = λ o. IfSome o (λ k. 2 ≤ k) in
+        subst P same (omega arith)
+
 meshes_command-budget : (word i j k l m : List ℕ) (command : Command) → meshes_command word i j k l m ≡ Some command → CommandHasBudget command
 meshes_command-budget word i j k l m command is =
+    let least : Option Command = least_command i j k (tolerance_word l) (spacing_word m) in
+    let behind : Option Command = if bytes_eq word (codes "least") then least else None in
     let strip : Option Command = frames_command i j (AsStrips k) (budget_word l) (spacing_word m) in
     elim (either (bytes_eq word (codes "mesh")) (frames_command i j (AsMeshes k) (budget_word l) (spacing_word m))
-    (if bytes_eq word (codes "strip") then strip else None) command is) [
+    (if bytes_eq word (codes "strip") then strip else behind) command is) [
       | inl p ↦ frames_command-budget i j (AsMeshes k) (budget_word l) (spacing_word m) command (budget_word-low l) p
-      | inr p ↦ frames_command-budget i j (AsStrips k) (budget_word l) (spacing_word m) command (budget_word-low l)
-          (met (bytes_eq word (codes "strip")) strip command p)
+      | inr p ↦ elim (either (bytes_eq word (codes "strip")) strip behind command p) [
+        | inl q ↦ frames_command-budget i j (AsStrips k) (budget_word l) (spacing_word m) command (budget_word-low l) q
+        | inr q ↦ least_command-budget i j k (tolerance_word l) (spacing_word m) command (met (bytes_eq word (codes "least")) least command q)
+      ]
     ]
 
 try_command-budget : (n seed : Option ℕ) (command : Command) → ((number : ℕ) → n ≡ Some number → (1 ≤ number) × (number ≤ 11))
@@ -151,6 +219,51 @@ try_command-budget (Some n) None command range is = absurd (none-some command is
 try_command-budget (Some n) (Some seed) command range is =
     let P : Option Command → Type 0 = λ c. IfSome c CommandHasBudget in
     subst P is (range n refl)
+
+-- a number that a test lets through
+let-through : (test : Bool) (found v : ℤ) → (if test then Some found else None) ≡ Some v → (test ≡ true) × (found ≡ v)
+let-through true found v is = (refl, same found v is)
+  where
+    same : (x y : ℤ) → Some x ≡ Some y → x ≡ y
+    same x y e = cc
+let-through false found v is = absurd (none v is)
+  where
+    none : (x : ℤ) → None ≡ Some x → ⊥
+    none x e = cc
+
+-- a number within the camera's reach
+in_reach-near : (from : Option ℤ) (v : ℤ) → in_reach from ≡ Some v → unsigned_abs v ≤ 2 ^ 30
+in_reach-near None v is = absurd (none v is)
+  where
+    none : (x : ℤ) → None ≡ Some x → ⊥
+    none x e = cc
+in_reach-near (Some found) v is =
+    let through = let-through (is_coordinate found) found v is in
+    subst (λ (x : ℤ). unsigned_abs x ≤ 2 ^ 30) through.1 (leb-true (unsigned_abs found) (2 ^ 30) through.0)
+
+-- each coordinate of a camera word lies within its reach
+abbrev IsNear : Option ℤ → Type 0
+IsNear coordinate = (v : ℤ) → coordinate ≡ Some v → unsigned_abs v ≤ 2 ^ 30
+
+make_command-budget : (i : List ℕ) (x y z : Option ℤ) (budget spacing : Option ℕ) (command : Command) → IsNear x → IsNear y → IsNear z
+    → ((number : ℕ) → budget ≡ Some number → (2 ≤ number) × (number ≤ 1048576))
+    → make_command i (camera_word x y z) budget spacing ≡ Some command → CommandHasBudget command
+make_command-budget i None y z budget spacing command nx ny nz low is = absurd (none-some command is)
+make_command-budget i (Some x) None z budget spacing command nx ny nz low is = absurd (none-some command is)
+make_command-budget i (Some x) (Some y) None budget spacing command nx ny nz low is = absurd (none-some command is)
+make_command-budget i (Some x) (Some y) (Some z) None spacing command nx ny nz low is = absurd (none-some command is)
+make_command-budget i (Some x) (Some y) (Some z) (Some budget) None command nx ny nz low is = absurd (none-some command is)
+make_command-budget i (Some x) (Some y) (Some z) (Some budget) (Some spacing) command nx ny nz low is =
+    let P : Option Command → Type 0 = λ c. IfSome c CommandHasBudget in
+    let range = low budget refl in
+    subst P is (record { low = range.0; high = range.1; x_near = nx x refl; y_near = ny y refl; z_near = nz z refl })
+
+check_command-budget : (i j k : List ℕ) (budget spacing : Option ℕ) (command : Command) → check_command i j k budget spacing ≡ Some command → CommandHasBudget command
+check_command-budget i j k None spacing command is = absurd (none-some command is)
+check_command-budget i j k (Some budget) None command is = absurd (none-some command is)
+check_command-budget i j k (Some budget) (Some spacing) command is =
+    let P : Option Command → Type 0 = λ c. IfSome c CommandHasBudget in
+    subst P is tt
 
 words-budget : (words : List (List ℕ)) (command : Command) → command_of words ≡ Some command → CommandHasBudget command
 words-budget [] command is = absurd (none-some command is)
@@ -168,7 +281,15 @@ words-budget (word ∷ (i ∷ (j ∷ (k ∷ (l ∷ []))))) command is =
     (met (bytes_eq word (codes "measure")) (frames_command i j AsMeasures (budget_word k) (spacing_word l)) command is)
 words-budget (word ∷ (i ∷ (j ∷ (k ∷ (l ∷ (m ∷ [])))))) command is =
     meshes_command-budget word i j k l m command (met (is_prefix k) (meshes_command word i j k l m) command is)
-words-budget (word ∷ (i ∷ (j ∷ (k ∷ (l ∷ (m ∷ (more ∷ words))))))) command is = absurd (none-some command is)
+words-budget (word ∷ (i ∷ (j ∷ (k ∷ (l ∷ (m ∷ (o ∷ []))))))) command is =
+    check_command-budget j k l (budget_word m) (spacing_word o) command
+    (met (bytes_eq word (codes "certify") && bytes_eq i (codes "check")) (check_command j k l (budget_word m) (spacing_word o)) command is)
+words-budget (word ∷ (i ∷ (j ∷ (k ∷ (l ∷ (m ∷ (o ∷ (p ∷ [])))))))) command is =
+    let place : Option CameraAt = camera_word (coordinate_word k) (coordinate_word l) (coordinate_word m) in
+    make_command-budget j (coordinate_word k) (coordinate_word l) (coordinate_word m) (budget_word o) (spacing_word p) command
+    (in_reach-near (signed_in k)) (in_reach-near (signed_in l)) (in_reach-near (signed_in m)) (λ number found. within-range 2 1048576 number (number_in 19 o) found)
+    (met (bytes_eq word (codes "certify") && bytes_eq i (codes "make")) (make_command j place (budget_word o) (spacing_word p)) command is)
+words-budget (word ∷ (i ∷ (j ∷ (k ∷ (l ∷ (m ∷ (o ∷ (p ∷ (more ∷ words))))))))) command is = absurd (none-some command is)
 
 -- the budget of a job of words is at least 2
 pub command-budget : (words : List (List ℕ)) (name : List ℕ) (job : Job) → command_of words ≡ Some (OnGrid name job) → HasBudget job
@@ -212,23 +333,27 @@ made_outcome-exists frames n seed range =
     let ps = pictures_of frames (AsSums n seed) grid.n [] (made_walk n seed).frames (no-members grid.n (subst P (sym (made_level n seed)) range)) (made_walk-states n seed) in
     (frames_outcome (AsSums n seed) 0 (made_walk n seed) ps.0, (ps.0, ps.1, refl))
 
-job-exists : BudgetsAreTwo → FramesExist → (job : Job) (r : Result HeightField PgmFault) (files : List NamedFile) → HasBudget job
+job-exists : BudgetsAreTwo → FramesExist → CertificatesExist → (job : Job) (r : Result HeightField PgmFault) (files : List NamedFile) → HasBudget job
     → ((grid : HeightField) → r ≡ Ok grid → (1 ≤ grid.n) × (grid.n ≤ 11)) → (end : Outcome) × IsGridOutcome job r files end
-job-exists two frames (Frames s) (Ok grid) files low range = script_outcome-exists two frames s grid (bytes_of files s.script) low (range grid refl)
-job-exists two frames Facts (Ok grid) files low range = (text_outcome (info_line grid) Done 1, refl)
-job-exists two frames (Frames s) (Err fault) files low range = (text_outcome (grid_refusal fault) GridRefused 1, refl)
-job-exists two frames Facts (Err fault) files low range = (text_outcome (grid_refusal fault) GridRefused 1, refl)
+job-exists two frames made (Frames s) (Ok grid) files low range = script_outcome-exists two frames s grid (bytes_of files s.script) low (range grid refl)
+job-exists two frames made Facts (Ok grid) files low range = (text_outcome (info_line grid) Done 1, refl)
+job-exists two frames made (Make m) (Ok grid) files low range = make-exists made m grid (range grid refl) low.low
+job-exists two frames made (Check c) (Ok grid) files low range = check-exists c grid (cert_in grid.n (bytes_of files c.certificate)) (bytes_of files c.mesh)
+job-exists two frames made (Frames s) (Err fault) files low range = (text_outcome (grid_refusal fault) GridRefused 1, refl)
+job-exists two frames made Facts (Err fault) files low range = (text_outcome (grid_refusal fault) GridRefused 1, refl)
+job-exists two frames made (Make m) (Err fault) files low range = (text_outcome (grid_refusal fault) GridRefused 1, refl)
+job-exists two frames made (Check c) (Err fault) files low range = (text_outcome (grid_refusal fault) GridRefused 1, refl)
 
-words-exist : BudgetsAreTwo → FramesExist → LevelsAreInRange → (command : Option Command) (files : List NamedFile)
+words-exist : BudgetsAreTwo → FramesExist → CertificatesExist → LevelsAreInRange → (command : Option Command) (files : List NamedFile)
     → ((c : Command) → command ≡ Some c → CommandHasBudget c) → (end : Outcome) × IsWordsOutcome command files end
-words-exist two frames levels None files low = (plain_outcome [] Usage 0, refl)
-words-exist two frames levels (Some (OnGrid name job)) files low =
-    job-exists two frames job (grid_of (bytes_of files name)) files (low (OnGrid name job) refl) (λ grid is. levels grid (bytes_of files name) is)
-words-exist two frames levels (Some (Generated n seed)) files low = made_outcome-exists frames n seed (low (Generated n seed) refl)
+words-exist two frames made levels None files low = (plain_outcome [] Usage 0, refl)
+words-exist two frames made levels (Some (OnGrid name job)) files low =
+    job-exists two frames made job (grid_of (bytes_of files name)) files (low (OnGrid name job) refl) (λ grid is. levels grid (bytes_of files name) is)
+words-exist two frames made levels (Some (Generated n seed)) files low = made_outcome-exists frames n seed (low (Generated n seed) refl)
 
-pub outcome-exists : BudgetsAreTwo → FramesExist → LevelsAreInRange → (words : List (List ℕ)) (files : List NamedFile) → (end : Outcome) × IsOutcome words files end
+pub outcome-exists : BudgetsAreTwo → FramesExist → CertificatesExist → LevelsAreInRange → (words : List (List ℕ)) (files : List NamedFile) → (end : Outcome) × IsOutcome words files end
 unfolding IsOutcome
-outcome-exists two frames levels words files = words-exist two frames levels (command_of words) files (λ c is. words-budget words c is)
+outcome-exists two frames made levels words files = words-exist two frames made levels (command_of words) files (λ c is. words-budget words c is)
 
 -- what an outcome's pictures tell is certified
 
@@ -252,16 +377,25 @@ shown-certified one show n files walk end low some is =
     let Q : Outcome → Type 0 = λ o. IsTrue (is_some o.engine) in
     subst P (sym is.2) (one show [] n walk.frames is.0 (engine-made show walk is.0 (subst Q is.2 some)) low is.1)
 
+-- one text has no pictures
+text-certified : (end : Outcome) → IsOneText end → AllByRecursion IsCertified end.pictures
+text-certified end is = let P : Outcome → Type 0 = λ o. AllByRecursion IsCertified o.pictures in subst P (sym is.3) tt
+
+refused-text : (fault : PgmFault) (end : Outcome) → end ≡ text_outcome (grid_refusal fault) GridRefused 1 → IsOneText end
+refused-text fault end is = (grid_refusal fault, GridRefused, 1, is)
+
 job-certified : BudgetsAreTwo → MeshesAreCertified → (job : Job) (r : Result HeightField PgmFault) (files : List NamedFile) (end : Outcome) → HasBudget job
     → IsTrue (is_some end.engine) → IsGridOutcome job r files end → AllByRecursion IsCertified end.pictures
 job-certified two one (Frames s) (Ok grid) files end low some is =
     shown-certified one s.show grid.n 2 (script_walk s grid (bytes_of files s.script)) end (script-states two s grid (bytes_of files s.script) low) some is
-job-certified two one Facts (Ok grid) files end low some is =
-    let P : Outcome → Type 0 = λ o. AllByRecursion IsCertified o.pictures in subst P (sym is) tt
-job-certified two one (Frames s) (Err fault) files end low some is =
-    let P : Outcome → Type 0 = λ o. AllByRecursion IsCertified o.pictures in subst P (sym is) tt
-job-certified two one Facts (Err fault) files end low some is =
-    let P : Outcome → Type 0 = λ o. AllByRecursion IsCertified o.pictures in subst P (sym is) tt
+job-certified two one Facts (Ok grid) files end low some is = text-certified end (info_line grid, Done, 1, is)
+job-certified two one (Make m) (Ok grid) files end low some is = text-certified end (make-text m grid end is)
+job-certified two one (Check c) (Ok grid) files end low some is =
+    text-certified end (check-text c grid (cert_in grid.n (bytes_of files c.certificate)) (bytes_of files c.mesh) end is)
+job-certified two one (Frames s) (Err fault) files end low some is = text-certified end (refused-text fault end is)
+job-certified two one Facts (Err fault) files end low some is = text-certified end (refused-text fault end is)
+job-certified two one (Make m) (Err fault) files end low some is = text-certified end (refused-text fault end is)
+job-certified two one (Check c) (Err fault) files end low some is = text-certified end (refused-text fault end is)
 
 words-certified : BudgetsAreTwo → MeshesAreCertified → (command : Option Command) (files : List NamedFile) (end : Outcome) → ((c : Command) → command ≡ Some c → CommandHasBudget c)
     → IsTrue (is_some end.engine) → IsWordsOutcome command files end → AllByRecursion IsCertified end.pictures

@@ -1,5 +1,5 @@
 -- Pictures: there is one of a state, it is a best mesh, and what it tells of blocking is a certificate.
-use Rattle.std.proofs.Common.{◌≡◌, ℕ, ◌<◌, ◌≤◌, ◌↔◌, Bool, true, false, IsTrue, List, [], ◌∷◌, length, All, Option, None, IsNone, IfSome, Contains, refl, sym, ◌∙◌, ap, subst, arith}
+use Rattle.std.proofs.Common.{◌≡◌, ℕ, ◌<◌, ◌≤◌, ◌↔◌, Bool, true, false, IsTrue, List, [], ◌∷◌, All, Option, None, IsNone, IfSome, Contains, refl, sym, ◌∙◌, ap, subst, arith}
 use Rattle.std.specs.List.{AllByRecursion}
 use Rattle.std.proofs.lemmas.List.Elements.{recursion_from_All, All-from_recursion}
 use Rattle.std.proofs.lemmas.Option.{IfSome_then}
@@ -248,13 +248,17 @@ zero-worst priority (a ∷ triangles) none =
     let rest : worst_of priority triangles ≡ 0 = omega (arith, none) in
     (omega (arith, none), zero-worst priority triangles rest)
 
+-- the frame of a budget is a best mesh of its state
+abbrev pub BudgetFramesAreBest : Type 0
+BudgetFramesAreBest = (state : State) (members : List ℕ) (worst : ℕ) (blocked : Option Blocked) → 2 ≤ state.budget
+    → IsFrame state.grid.n state.budget (priority_in state) (among members) worst blocked
+    → IsBestMesh state.grid.n state.budget (priority_in state) (leaves_of state.grid.n (among members))
+
 module _ (falling : (n : ℕ) (heights : List ℕ) (view : View) → IsFalling n (priority_of n heights view)) where
   -- the frame's mesh is a best mesh of the state
   pub frame-best : ((n budget : ℕ) (priority : ℕ → ℕ) (has : ℕ → Bool) (worst : ℕ) (blocked : Option Blocked) →
       IsFrame n budget priority has worst blocked → IsFalling n priority → 2 ≤ budget → IsBestMesh n budget priority (leaves_of n has))
-      → (state : State) (members : List ℕ) (worst : ℕ) (blocked : Option Blocked) → 2 ≤ state.budget
-      → IsFrame state.grid.n state.budget (priority_in state) (among members) worst blocked
-      → IsBestMesh state.grid.n state.budget (priority_in state) (leaves_of state.grid.n (among members))
+      → BudgetFramesAreBest
   frame-best best state members worst blocked low f =
       best state.grid.n state.budget (priority_in state) (among members) worst blocked f (falling state.grid.n state.grid.heights state.view) low
 

@@ -1,10 +1,11 @@
 -- The turns of a strip as numbers: what the relation counts is what the tests count.
-use Rattle.std.proofs.Common.{◌≡◌, ◌≢◌, ℕ, suc, ◌+◌, ◌≤◌, ◌⊎◌, inl, inr, Bool, true, false, ◌&&◌, ◌||◌, cond, nat_eq, eqb, List, [], ◌∷◌, count_by, Contains, refl, sym, ◌∙◌, ap, subst, arith, ⊎_elim, eq-eqb}
-use Rattle.std.proofs.lemmas.Bool.{eqb-true, cases_Bool, and_parts, and_from, or_left, or_right, or_cases, false_from_ne_true}
+use Rattle.std.proofs.Common.{◌≡◌, ◌≢◌, ℕ, suc, ◌+◌, ◌≤◌, inl, inr, Bool, true, false, ◌&&◌, ◌||◌, cond, nat_eq, eqb, List, ◌∷◌, count_by, Contains, refl, ◌∙◌, ap, subst, arith, eq-eqb, [], ⊎_elim}
+use Rattle.std.proofs.lemmas.Bool.{eqb-true, and_parts, and_from, or_left, or_right, or_cases, false_from_ne_true}
 use Rattle.mesh_defs.specs.declared.point.Point.{Point}
 use Rattle.mesh_defs.specs.declared.point.Corners.{Corners}
 use Rattle.mesh_defs.specs.Triangle.{corners_of, IsEdge}
 use Rattle.mesh_defs.specs.ClosedSet.{IsClosed, leaves_of}
+use Rattle.mesh_defs.proofs.PointLemmas.{same_point-eq, eq-same_point}
 use Rattle.mesh_defs.proofs.ListLemmas.{IsIn, Contains-in, count-cons, count-yes, count-some}
 use Rattle.strip_laws.specs.declared.edge.Edge.{Edge}
 use Rattle.strip_laws.specs.declared.edge.Edge.TheVariants.{LeftLeg, Base, RightLeg}
@@ -17,23 +18,12 @@ use Rattle.run_laws.specs.Turns.{is_edge, has_edge_back, turns_left_from, turns_
 
 -- points and edges
 
-point-same : (p q : Point) → is_same_point p q ≡ true → p ≡ q
-point-same p q is =
-    let both = and_parts (nat_eq p.x q.x) (nat_eq p.y q.y) is in
-    let at : ℕ → ℕ → Point = λ i j. record { x = i; y = j } in
-    ap (λ (i : ℕ). at i p.y) (eqb-true p.x q.x both.0) ∙ ap (λ (j : ℕ). at q.x j) (eqb-true p.y q.y both.1)
-
-same-point : (p q : Point) → p ≡ q → is_same_point p q ≡ true
-same-point p q is =
-    let P : Point → Type 0 = λ r. is_same_point p r ≡ true in
-    subst P is (and_from (nat_eq p.x p.x) (nat_eq p.y p.y) (eq-eqb p.x p.x refl) (eq-eqb p.y p.y refl))
-
 -- both points are these two
 both-points : (p q r s : Point) → (is_same_point p r && is_same_point q s) ≡ true → (p ≡ r) × (q ≡ s)
-both-points p q r s is = let both = and_parts (is_same_point p r) (is_same_point q s) is in (point-same p r both.0, point-same q s both.1)
+both-points p q r s is = let both = and_parts (is_same_point p r) (is_same_point q s) is in (same_point-eq p r both.0, same_point-eq q s both.1)
 
 points-both : (p q r s : Point) → (p ≡ r) × (q ≡ s) → (is_same_point p r && is_same_point q s) ≡ true
-points-both p q r s are = and_from (is_same_point p r) (is_same_point q s) (same-point p r are.0) (same-point q s are.1)
+points-both p q r s are = and_from (is_same_point p r) (is_same_point q s) (eq-same_point p r are.0) (eq-same_point q s are.1)
 
 edge-found : (c : Corners) (p q : Point) → is_edge c p q ≡ true → IsEdge c p q
 edge-found c p q is =

@@ -1,11 +1,15 @@
 -- The headline: each frame's mesh is a best mesh within the budget in force, whatever the mesh before; or the least mesh of a
 -- tolerance.
--- Words: IsBestIn, IsBestStripIn, IsLeastIn, IsGoodText, IsGoodFrame, AreGoodFrames, IsRunOf, KeepsGoodMeshes.
-use Rattle.std.specs.Prelude.{◌≡◌, ⊤, ℕ, ◌+◌, Bool, true, IsTrue, IsSome, List, [], ◌∷◌, ◌++◌, length, count_by, nat_eq, All, Contains, Option, Some}
+-- Words: IsBestIn, IsBestStripIn, IsLeastIn, IsGoodText, IsGoodFrame, AreGoodFrames, IsRunOf, KeepsGoodMeshes,
+-- IsCheckOf, IsCertifiedMesh.
+use Rattle.std.specs.Prelude.{◌≡◌, ⊤, ℕ, ◌+◌, ◌≤◌, Bool, true, IsTrue, IsSome, List, [], ◌∷◌, ◌++◌, length, count_by, nat_eq, All, Contains, Option, Some}
 use Rattle.mesh_defs.specs.HeightField.{HeightField, IsHeightField}
 use Rattle.mesh_defs.specs.BestMesh.{IsBestMesh}
+use Rattle.mesh_defs.specs.BoundingBox.{CameraAt}
 use Rattle.mesh_defs.specs.ClosedSet.{leaves_of}
+use Rattle.mesh_defs.specs.Priority.{worst_of}
 use Rattle.mesh_defs.specs.State.{State, priority_in, text_in}
+use Rattle.mesh_defs.specs.Tiling.{IsConforming}
 use Rattle.roam_edge.specs.MeshSink.{Mesh}
 use Rattle.roam_edge.specs.Shelf.{NamedFile, bytes_of}
 use Rattle.pgm_grid.specs.PgmText.{IsFileText}
@@ -13,7 +17,9 @@ use Rattle.run_laws.specs.declared.status.Status.{Status}
 use Rattle.tiling_laws.specs.Ancestors.{AreLeaves}
 use Rattle.strip_laws.specs.Strip.{strip_of, IsRing}
 use Rattle.least_laws.specs.Least.{IsLeastMesh}
-use Rattle.run_laws.specs.Words.{Show, AsMeshes, AsStrips, AsLeast, AsMeasures, AsSums, Scripted, Frames, OnGrid, prefix_of, command_of}
+use Rattle.run_laws.specs.Words.{Show, AsMeshes, AsStrips, AsLeast, AsMeasures, AsSums, Scripted, Checking, Frames, Check, OnGrid, prefix_of, command_of}
+use Rattle.run_laws.specs.ReportText.{certified_line}
+use Rattle.run_laws.specs.Certify.{checks_at}
 use Rattle.run_laws.specs.Outcome.{script_walk}
 use Rattle.run_laws.specs.Promise.{ends_script}
 
@@ -76,3 +82,22 @@ pub record KeepsGoodMeshes (s : Scripted) (grid : HeightField) (script : List �
   pub frames : AreGoodFrames s.show 1 (script_walk s grid script).frames added
   pub all_frames : IsTrue (ends_script status) → length added ≡ length (script_walk s grid script).frames
   pub all_finished : IsTrue (ends_script status) → All (λ (mesh : Mesh). mesh.finished ≡ true) added
+
+-- The words are a check; the file of its grid is a text of this grid.
+pub record IsCheckOf (words : List (List ℕ)) (files : List NamedFile) (c : Checking) (grid : HeightField) : Type 0 where
+  pub grid_name : List ℕ
+  pub is_command : command_of words ≡ Some (OnGrid grid_name (Check c))
+  pub valid : IsHeightField grid
+  pub file_text : IsFileText grid (bytes_of files grid_name)
+
+-- A mesh was certified by this line of the report: its bytes are the text of a conforming list of at most as many triangles as the
+-- budget, at the camera that the line names no such list has a lower worst, and the line tells the number of triangles and their worst.
+pub record IsCertifiedMesh (c : Checking) (grid : HeightField) (mesh line : List ℕ) : Type 0 where
+  pub camera : CameraAt
+  pub triangles : List ℕ
+  pub text : mesh ≡ text_in (checks_at c grid camera) triangles
+  pub conforming : IsConforming grid.n triangles
+  pub within : length triangles ≤ c.budget
+  pub optimal : (others : List ℕ) → IsConforming grid.n others → length others ≤ c.budget
+      → worst_of (priority_in (checks_at c grid camera)) triangles ≤ worst_of (priority_in (checks_at c grid camera)) others
+  pub told : line ≡ certified_line camera (length triangles) (worst_of (priority_in (checks_at c grid camera)) triangles)

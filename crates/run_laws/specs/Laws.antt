@@ -1,9 +1,9 @@
 -- Laws of walks, pictures and outcomes.
 -- Words: WalksGoOn, PicturesGoOn, FramesExistFrom, FramesExist, RunsAreUnique, SetsStayClosed, LevelsAreInRange, BudgetsAreTwo, AreStates, KeepsStates, OutcomesAreUnique, OutcomesExist,
--- AcceptedIsDone, PicturesAreCertified, HeadlineFollows, TurnsAreCounted.
+-- AcceptedIsDone, EnginesAreUnique, PicturesAreCertified, HeadlineFollows, CertifiedFollows, MadeIsAccepted, TurnsAreCounted.
 use Rattle.std.specs.Prelude.{◌≡◌, ⊤, ℕ, ◌≤◌, Bool, IsTrue, is_some, List, [], ◌∷◌, ◌++◌, All, Option, Some, Ok}
 use Rattle.mesh_defs.specs.HeightField.{HeightField}
-use Rattle.mesh_defs.specs.State.{State, priority_in}
+use Rattle.mesh_defs.specs.State.{State, priority_in, text_in}
 use Rattle.mesh_defs.specs.ClosedSet.{IsClosed, among}
 use Rattle.mesh_defs.specs.GridSet.{IsGridSet}
 use Rattle.closure_laws.specs.Frame.{IsFrame}
@@ -20,13 +20,17 @@ use Rattle.roam_script.specs.LineText.{line_in}
 use Rattle.run_laws.specs.declared.status.Status.{Status}
 use Rattle.run_laws.specs.declared.status.Status.TheVariants.{Done, NoMemory, ReadFault}
 use Rattle.run_laws.specs.Walk.{Walk, walk_of, AreWhole}
-use Rattle.run_laws.specs.Words.{Show, Scripted, command_of}
+use Rattle.obj_write.specs.Written.{Grows}
+use Rattle.cert_text.specs.Certificate.{Certificate}
+use Rattle.cert_text.specs.CertText.{cert_text}
+use Rattle.run_laws.specs.Words.{Show, Scripted, Making, Checking, Make, OnGrid, command_of}
+use Rattle.run_laws.specs.Certify.{makes_at, IsMade}
 use Rattle.run_laws.specs.Act.{Told}
 use Rattle.run_laws.specs.Picture.{Picture, ArePictures, IsCertified, last_members}
 use Rattle.run_laws.specs.Turns.{left_turns, right_turns}
 use Rattle.run_laws.specs.Outcome.{Outcome, IsOutcome, HasOneOutcome}
-use Rattle.run_laws.specs.Promise.{Seen, EndsRight, LeavesAtReadFault, LeavesAtNoMemory, IsAccepted}
-use Rattle.run_laws.specs.Headline.{IsRunOf, KeepsGoodMeshes}
+use Rattle.run_laws.specs.Promise.{Seen, EndsRight, LeavesAtReadFault, LeavesAtNoMemory, IsAcceptedCheck, IsAccepted}
+use Rattle.run_laws.specs.Headline.{IsRunOf, KeepsGoodMeshes, IsCheckOf, IsCertifiedMesh}
 
 -- a walk over whole lines goes on with what follows them
 abbrev pub WalksGoOn : Type 0
@@ -91,6 +95,11 @@ OutcomesExist = (words : List (List ℕ)) (files : List NamedFile) → (end : Ou
 abbrev pub AcceptedIsDone : Type 0
 AcceptedIsDone = (words : List (List ℕ)) (files : List NamedFile) (end : Outcome) → IsAccepted words files → IsOutcome words files end → end.status ≡ Done
 
+-- the outcomes of words and files leave one engine, where there are several too
+abbrev pub EnginesAreUnique : Type 0
+EnginesAreUnique = (words : List (List ℕ)) (files : List NamedFile) (end other : Outcome) → IsOutcome words files end → IsOutcome words files other
+    → end.engine ≡ other.engine
+
 -- what an engine's frames tell of blocking is a certificate
 abbrev pub PicturesAreCertified : Type 0
 PicturesAreCertified = (words : List (List ℕ)) (files : List NamedFile) (end : Outcome) → IsTrue (is_some end.engine)
@@ -108,3 +117,15 @@ HeadlineFollows = (words : List (List ℕ)) (files : List NamedFile) (s : Script
     → IsRunOf words files s grid → old.files ≡ Some files → before.meshes ≡ Some all → EndsRight before now old new words files status
     → (status ≡ ReadFault → LeavesAtReadFault before now old new words) → (status ≡ NoMemory → LeavesAtNoMemory before now old new words)
     → KeepsGoodMeshes s grid (bytes_of files s.script) all now.meshes status
+
+-- where a check is done, the report got a line by which its mesh is certified
+abbrev pub CertifiedFollows : Type 0
+CertifiedFollows = (words : List (List ℕ)) (files : List NamedFile) (c : Checking) (grid : HeightField) (before now : Told) (old new : Seen) (status : Status)
+    → IsCheckOf words files c grid → EndsRight before now old new words files status → status ≡ Done
+    → (line : List ℕ) × Grows before.report now.report line × IsCertifiedMesh c grid (bytes_of files c.mesh) line
+
+-- What `certify make` writes for a grid `certify check` accepts over it, at the same budget and spacing and with the mesh that it is of.
+abbrev pub MadeIsAccepted : Type 0
+MadeIsAccepted = (words : List (List ℕ)) (name : List ℕ) (m : Making) (grid : HeightField) (cert : Certificate) (c : Checking) (files : List NamedFile)
+    → command_of words ≡ Some (OnGrid name (Make m)) → (1 ≤ grid.n) × (grid.n ≤ 11) → IsMade m grid cert → c.budget ≡ m.budget → c.spacing ≡ m.spacing
+    → bytes_of files c.certificate ≡ cert_text cert → bytes_of files c.mesh ≡ text_in (makes_at m grid) cert.leaves → IsAcceptedCheck c grid files

@@ -1,5 +1,7 @@
 pub mod Walk
 pub mod Words
+pub mod CertFile
+pub mod Certify
 pub mod Picture
 pub mod Turns
 pub mod ReportText
@@ -11,5 +13,6 @@ pub mod Cause
 pub mod Step
 pub mod Laws
 pub mod Examples
+pub mod CertifyExamples
 pub mod CutShort
 pub mod Status

@@ -1,21 +1,29 @@
 -- The outcome of a run: what its words and the files that they name determine. This project's own.
 -- Words: EngineEnd, Outcome, plain_outcome, text_outcome, picture_acts, shown_acts, sum_acts, stop_acts, stop_status,
--- engine_end, frames_outcome, IsFramesOutcome, script_walk, made_budget, made_spacing, made_walk, IsScriptOutcome, IsJobOutcome, IsGridOutcome,
--- IsCommandOutcome, IsWordsOutcome, IsOutcome, HasOneOutcome.
-use Rattle.std.specs.Prelude.{◌≡◌, ⊤, ℕ, ◌+◌, List, [], ◌∷◌, ◌++◌, length, sum_by, Option, Some, None, Result, Ok, Err}
+-- engine_end, frames_outcome, IsFramesOutcome, script_walk, made_budget, made_spacing, made_walk, IsScriptOutcome, IsMakeOutcome, IsCompared,
+-- IsVerdictOutcome, IsCheckOutcome, IsJobOutcome, IsGridOutcome, IsCommandOutcome, IsWordsOutcome, IsOutcome, HasOneOutcome.
+use Rattle.std.specs.Prelude.{◌≡◌, ⊤, ℕ, ◌+◌, ◌⊎◌, List, [], ◌∷◌, ◌++◌, length, sum_by, Option, Some, None, Result, Ok, Err}
 use Rattle.mesh_defs.specs.HeightField.{HeightField}
-use Rattle.mesh_defs.specs.State.{State, start_state, text_in}
+use Rattle.mesh_defs.specs.State.{State, start_state, priority_in, text_in}
 use Rattle.roam_edge.specs.Shelf.{NamedFile, bytes_of}
 use Rattle.pgm_grid.specs.declared.fault.PgmFault.{PgmFault}
 use Rattle.pgm_grid.specs.Progress.{grid_of}
+use Rattle.certificate_laws.specs.declared.reason.Reject.TheVariants.{BadLine, MeshDiffers}
+use Rattle.certificate_laws.specs.declared.reason.Verdict.{Verdict}
+use Rattle.certificate_laws.specs.declared.reason.Verdict.TheVariants as verdict
+use Rattle.certificate_laws.specs.Certificate.{IsVerdict}
+use Rattle.cert_text.specs.Certificate.{Certificate}
+use Rattle.cert_text.specs.CertText.{cert_text}
 use Rattle.roam_gen.specs.Generated.{made_grid, made_lines}
 use Rattle.run_laws.specs.declared.status.Status.{Status}
-use Rattle.run_laws.specs.declared.status.Status.TheVariants.{Done, Usage, GridRefused, ScriptRefused}
+use Rattle.run_laws.specs.declared.status.Status.TheVariants.{Done, Usage, GridRefused, ScriptRefused, Rejected}
 use Rattle.run_laws.specs.Walk.{Refusal, Walk, start_walk, walk_along, walk_of}
-use Rattle.run_laws.specs.Words.{Show, AsMeshes, AsStrips, AsLeast, AsMeasures, AsSums, Scripted, Job, Frames, Facts, Command, OnGrid, Generated, command_of}
+use Rattle.run_laws.specs.Words.{Show, AsMeshes, AsStrips, AsLeast, AsMeasures, AsSums, Scripted, Making, Checking, Job, Frames, Facts, Make, Check, Command, OnGrid, Generated, command_of}
+use Rattle.run_laws.specs.CertFile.{cert_in}
+use Rattle.run_laws.specs.Certify.{checks_at, IsMade, IsFirstDifference}
 use Rattle.run_laws.specs.Act.{Act, WholeMesh, ReportText}
 use Rattle.run_laws.specs.Picture.{Picture, triangles_of, strip_triangles, ArePictures, last_members}
-use Rattle.run_laws.specs.ReportText.{frame_line, strip_line, least_line, measure_line, try_line, info_line, grid_refusal, line_refusal}
+use Rattle.run_laws.specs.ReportText.{frame_line, strip_line, least_line, measure_line, try_line, info_line, grid_refusal, line_refusal, certified_line, rejection}
 
 -- what an engine holds at the end: the state, how far the camera went, the frames made, the set of the
 -- last one, and the sums of their splits and merges
@@ -129,10 +137,36 @@ made_spacing = 30
 abbrev pub made_walk : ℕ → ℕ → Walk
 made_walk n seed = walk_along (start_walk made_budget (start_state (made_grid n seed) made_spacing made_budget)) (made_lines n seed)
 
+-- a certificate is written: any that may be made
+abbrev pub IsMakeOutcome : Making → HeightField → Outcome → Type 0
+IsMakeOutcome m grid end = (cert : Certificate) × IsMade m grid cert × (end ≡ text_outcome (cert_text cert) Done 1)
+
+-- The file of a mesh is compared with the text of the triangles of a certificate: they are the same, or there is a first place at
+-- which they differ.
+abbrev pub IsCompared : List ℕ → List ℕ → List ℕ → Outcome → Type 0
+IsCompared mesh text line end =
+    ((mesh ≡ text) × (end ≡ text_outcome line Done 3))
+    ⊎ ((at : ℕ) × IsFirstDifference mesh text at × (end ≡ text_outcome (rejection (MeshDiffers at)) Rejected 3))
+
+-- what the verdict on a certificate leads to: only behind one without a fault the file of the mesh is opened
+abbrev pub IsVerdictOutcome : State → Certificate → List ℕ → Verdict → Outcome → Type 0
+IsVerdictOutcome state cert mesh (verdict.Certified triangles worst) end =
+    IsCompared mesh (text_in state cert.leaves) (certified_line cert.camera triangles worst) end
+IsVerdictOutcome state cert mesh (verdict.Rejected why) end = end ≡ text_outcome (rejection why) Rejected 2
+
+-- what a check does with a certificate and the bytes of a mesh, or with the number of the line that is refused
+abbrev pub IsCheckOutcome : Checking → HeightField → Result Certificate ℕ → List ℕ → Outcome → Type 0
+IsCheckOutcome c grid (Ok cert) mesh end =
+    let state : State = checks_at c grid cert.camera in
+    (is : Verdict) × IsVerdict grid.n c.budget (priority_in state) cert.leaves cert.reasons is × IsVerdictOutcome state cert mesh is end
+IsCheckOutcome c grid (Err line) mesh end = end ≡ text_outcome (rejection (BadLine line)) Rejected 2
+
 -- what a job does with an accepted grid
 abbrev pub IsJobOutcome : Job → HeightField → List NamedFile → Outcome → Type 0
 IsJobOutcome (Frames s) grid files end = IsScriptOutcome s grid (bytes_of files s.script) end
 IsJobOutcome Facts grid files end = end ≡ text_outcome (info_line grid) Done 1
+IsJobOutcome (Make m) grid files end = IsMakeOutcome m grid end
+IsJobOutcome (Check c) grid files end = IsCheckOutcome c grid (cert_in grid.n (bytes_of files c.certificate)) (bytes_of files c.mesh) end
 
 -- what a job does with the bytes of a grid, once they were read or refused
 abbrev pub IsGridOutcome : Job → Result HeightField PgmFault → List NamedFile → Outcome → Type 0
@@ -153,7 +187,12 @@ IsWordsOutcome (Some command) files end = IsCommandOutcome command files end
 unfoldable pub IsOutcome : List (List ℕ) → List NamedFile → Outcome → Type 0
 IsOutcome words files end = IsWordsOutcome (command_of words) files end
 
--- The words and their files leave one outcome. It is a premise, so that a command of which more than one outcome may be
--- right (one that writes any of several right answers) can be left out here; today there is none, and it holds of all words.
+-- The words and their files leave one outcome. It is a premise: of the certificates that may be made any is right, and every other
+-- command has one outcome alone.
 abbrev pub HasOneOutcome : Option Command → Type 0
-HasOneOutcome command = ⊤
+HasOneOutcome None = ⊤
+HasOneOutcome (Some (OnGrid grid (Frames s))) = ⊤
+HasOneOutcome (Some (OnGrid grid Facts)) = ⊤
+HasOneOutcome (Some (OnGrid grid (Make m))) = ⊥
+HasOneOutcome (Some (OnGrid grid (Check c))) = ⊤
+HasOneOutcome (Some (Generated n seed)) = ⊤

@@ -1,18 +1,23 @@
 -- What a run of `roam` promises, by its status.
 -- Words: Seen, seen, AreFiles, is_complete, ends_script, EndsAs, EndsRight, HasEnded, may_end, OpensForStatus,
--- IsUndecided, ScriptHasRead, JobHasRead, HasRead, FileReadFault, LeavesAtReadFault, grids_named, HasReadHeader,
--- LeavesAtNoMemory, IsAcceptedJob, IsAcceptedInput, IsAccepted, leaves_engine.
-use Rattle.std.specs.Prelude.{◌≡◌, ◌≢◌, ⊤, ℕ, zero, suc, ◌+◌, ◌<◌, ◌≤◌, ◌⊎◌, Bool, true, false, ◌&&◌, nat_lt, IsTrue, List, [], ◌++◌, length, take, Option, Some, None, Ok, Err, slice_get}
+-- IsUndecided, ScriptHasRead, CheckHasRead, JobHasRead, HasRead, FileReadFault, LeavesAtReadFault, least_open, most_open_job, most_open,
+-- HasReadHeader, CheckHasCome, LeavesAtNoMemory, IsAcceptedCheck, IsAcceptedJob, IsAcceptedInput, IsAccepted, leaves_engine.
+use Rattle.std.specs.Prelude.{◌≡◌, ◌≢◌, ⊤, ℕ, zero, suc, ◌+◌, ◌<◌, ◌≤◌, Bool, true, false, ◌&&◌, nat_lt, IsTrue, List, [], ◌++◌, length, Option, Some, None, Ok, Err, slice_get}
 use Rattle.mesh_defs.specs.HeightField.{HeightField, IsHeightField}
 use Rattle.roam_edge.specs.Shelf.{NamedFile, bytes_of}
+use Rattle.roam_edge.specs.Told.{IsPrefix}
 use Rattle.pgm_header.specs.declared.accepted.Header.{Header}
 use Rattle.pgm_grid.specs.declared.fault.PgmFault.{PgmFault}
 use Rattle.pgm_grid.specs.PgmText.{IsFileText, HasHeader}
 use Rattle.pgm_grid.specs.Progress.{grid_of}
+use Rattle.mesh_defs.specs.State.{text_in}
+use Rattle.cert_text.specs.Certificate.{Certificate}
 use Rattle.run_laws.specs.declared.status.Status.{Status}
-use Rattle.run_laws.specs.declared.status.Status.TheVariants.{Done, NoMemory, Usage, GridRefused, ScriptRefused, ReadFault, WriteFault}
+use Rattle.run_laws.specs.declared.status.Status.TheVariants.{Done, NoMemory, Usage, GridRefused, ScriptRefused, ReadFault, WriteFault, Rejected}
 use Rattle.run_laws.specs.Walk.{AreWhole, HasBegun}
-use Rattle.run_laws.specs.Words.{Scripted, Job, Frames, Facts, Command, OnGrid, Generated, names_of, file_count, has_script, is_of_engine, command_of}
+use Rattle.run_laws.specs.Words.{Scripted, Checking, Job, Frames, Facts, Make, Check, Command, OnGrid, Generated, names_of, file_count, has_script, is_check, is_of_engine, command_of}
+use Rattle.run_laws.specs.CertFile.{cert_in, CertHasRead}
+use Rattle.run_laws.specs.Certify.{checks_at, IsFaultless}
 use Rattle.run_laws.specs.Picture.{Picture, ArePictures}
 use Rattle.run_laws.specs.Act.{Act, Told, Stands, IsCutShort}
 use Rattle.run_laws.specs.Outcome.{Outcome, shown_acts, script_walk, IsOutcome}
@@ -40,6 +45,7 @@ is_complete GridRefused = true
 is_complete ScriptRefused = true
 is_complete ReadFault = false
 is_complete WriteFault = false
+is_complete Rejected = true
 
 -- all lines of a script were carried out, up to its end or its refusal
 abbrev pub ends_script : Status → Bool
@@ -64,7 +70,7 @@ pub record HasEnded (now : Seen) : Type 0 where
   pub nothing_left : (all : List NamedFile) → now.files ≡ Some all → now.rest ≡ Some []
 
 -- the words allow this status: Usage is for words that are no command, a refusal for a command that reads what
--- is refused, a failed read for one that reads a file
+-- is refused, a failed read for one that reads a file, a rejection for a check
 abbrev pub may_end : Option Command → Status → Bool
 may_end None Usage = true
 may_end None _ = false
@@ -72,17 +78,19 @@ may_end (Some command) Usage = false
 may_end (Some command) GridRefused = nat_lt 0 (length (names_of command))
 may_end (Some command) ReadFault = nat_lt 0 (length (names_of command))
 may_end (Some command) ScriptRefused = has_script command
+may_end (Some command) Rejected = is_check command
 may_end (Some command) _ = true
 
 -- How often files were opened, of the files that the words name: each once where the run was done or its
 -- script refused, the grid alone where it is refused, none for words that are no command, and else at most
--- each once, and one at least where a read failed.
+-- each once: one at least where a read failed, and two where a check rejects.
 pub record OpensForStatus (before now files : ℕ) (status : Status) : Type 0 where
   pub done : status ≡ Done → now ≡ before + files
   pub script_refused : status ≡ ScriptRefused → now ≡ before + files
   pub grid_refused : status ≡ GridRefused → now ≡ before + 1
   pub usage : status ≡ Usage → now ≡ before
   pub read_fault : status ≡ ReadFault → before + 1 ≤ now
+  pub rejected : status ≡ Rejected → before + 2 ≤ now
   pub least : before ≤ now
   pub most : now ≤ before + files
 
@@ -103,10 +111,20 @@ pub record ScriptHasRead (s : Scripted) (grid : HeightField) (read : List ℕ) (
   pub shown : ArePictures s.show [] (script_walk s grid lines).frames pictures
   pub done : acts ≡ shown_acts s.show 1 pictures
 
+-- So much of a file of a check at this place, counted from 0, was read: of the certificate, and none of its lines is refused; or of
+-- the mesh, and it is what the text of the triangles of a certificate without a fault begins with.
+abbrev pub CheckHasRead : Checking → HeightField → List NamedFile → ℕ → List ℕ → Type 0
+CheckHasRead c grid files zero read = CertHasRead grid.n read
+CheckHasRead c grid files (suc k) read =
+    (cert : Certificate) × (cert_in grid.n (bytes_of files c.certificate) ≡ Ok cert) × IsFaultless c grid cert
+    × IsPrefix read (text_in (checks_at c grid cert.camera) cert.leaves)
+
 -- so much of the job's file at this place, counted from 0, was read, and these acts were done
 abbrev pub JobHasRead : Job → HeightField → List NamedFile → ℕ → List ℕ → List Act → Type 0
 JobHasRead (Frames s) grid files k read acts = ScriptHasRead s grid read acts
-JobHasRead _ grid files k read acts = ⊥
+JobHasRead Facts grid files k read acts = ⊥
+JobHasRead (Make m) grid files k read acts = ⊥
+JobHasRead (Check c) grid files k read acts = CheckHasRead c grid files k read × (acts ≡ [])
 
 -- Of the command's file at this place, counted from 0, these bytes were read, and no refusal was met; these
 -- acts are what the run has done by then.
@@ -140,10 +158,21 @@ pub record LeavesAtReadFault (before now : Told) (old new : Seen) (words : List 
   pub before_script : (IsTrue (has_script command) → file ≡ 0) → Stands before now []
   pub at_file : (files : List NamedFile) → old.files ≡ Some files → FileReadFault before now new command files file
 
--- the grid of a command, if it names one, is all that was opened by the time that all memory is taken
-abbrev pub grids_named : Command → ℕ
-grids_named (OnGrid name job) = 1
-grids_named (Generated n seed) = 0
+-- how many files are open at least when memory runs out: the grid, if the command names one
+abbrev pub least_open : Command → ℕ
+least_open (OnGrid name job) = 1
+least_open (Generated n seed) = 0
+
+-- and at most: the grid alone, but for a check, which takes memory for its certificate and its mesh too
+abbrev pub most_open_job : Job → ℕ
+most_open_job (Frames s) = 1
+most_open_job Facts = 1
+most_open_job (Make m) = 1
+most_open_job (Check c) = 3
+
+abbrev pub most_open : Command → ℕ
+most_open (OnGrid name job) = most_open_job job
+most_open (Generated n seed) = 0
 
 -- the bytes have a whole accepted header, which was read
 abbrev pub HasReadHeader : List ℕ → Option (List ℕ) → Type 0
@@ -151,20 +180,38 @@ HasReadHeader bytes rest =
     (header : Header) × (at : ℕ) × (behind : List ℕ) × HasHeader bytes header at behind
     × ((unread : List ℕ) → rest ≡ Some unread → (read : List ℕ) × (behind ≡ read ++ unread))
 
+-- A check opens its certificate only once the grid is accepted, and its mesh only once the certificate has no fault.
+abbrev pub CheckHasCome : List ℕ → Checking → List NamedFile → ℕ → Type 0
+CheckHasCome name c files opened = 2 ≤ opened → (grid : HeightField) × (grid_of (bytes_of files name) ≡ Ok grid)
+    × (3 ≤ opened → (cert : Certificate) × (cert_in grid.n (bytes_of files c.certificate) ≡ Ok cert) × IsFaultless c grid cert)
+
 -- Memory ran out, which is free. It does so only for words of a command, before a script is opened and before anything
 -- is written, and if they name a grid not before a whole accepted header of it was read.
 pub record LeavesAtNoMemory (before now : Told) (old new : Seen) (words : List (List ℕ)) : Type 0 where
   pub command : Command
+  pub opened : ℕ
   pub is_command : command_of words ≡ Some command
-  pub count : new.opens ≡ old.opens + grids_named command
+  pub count : new.opens ≡ old.opens + opened
+  pub least : least_open command ≤ opened
+  pub most : opened ≤ most_open command
   pub stands : Stands before now []
   pub header : (name : List ℕ) (job : Job) (files : List NamedFile) → command ≡ OnGrid name job → old.files ≡ Some files
-      → HasReadHeader (bytes_of files name) new.rest
+      → opened ≡ 1 → HasReadHeader (bytes_of files name) new.rest
+  pub in_order : (name : List ℕ) (c : Checking) (files : List NamedFile) → command ≡ OnGrid name (Check c) → old.files ≡ Some files
+      → CheckHasCome name c files opened
 
--- what a job reads is accepted: each line of its script
+-- what a check reads is accepted: a certificate without a fault, and the text of its triangles
+abbrev pub IsAcceptedCheck : Checking → HeightField → List NamedFile → Type 0
+IsAcceptedCheck c grid files =
+    (cert : Certificate) × (cert_in grid.n (bytes_of files c.certificate) ≡ Ok cert) × IsFaultless c grid cert
+    × (bytes_of files c.mesh ≡ text_in (checks_at c grid cert.camera) cert.leaves)
+
+-- what a job reads is accepted: each line of its script, or the certificate and the mesh of a check
 abbrev pub IsAcceptedJob : Job → HeightField → List NamedFile → Type 0
 IsAcceptedJob (Frames s) grid files = (script_walk s grid (bytes_of files s.script)).stop ≡ None
 IsAcceptedJob Facts grid files = ⊤
+IsAcceptedJob (Make m) grid files = ⊤
+IsAcceptedJob (Check c) grid files = IsAcceptedCheck c grid files
 
 -- its grid is a file text, and what its job reads is accepted; a generated run reads nothing
 abbrev pub IsAcceptedInput : Command → List NamedFile → Type 0
@@ -180,5 +227,7 @@ IsAccepted words files = (command : Command) × (command_of words ≡ Some comma
 abbrev pub leaves_engine : Option Command → Status → Bool
 leaves_engine (Some (OnGrid name (Frames s))) status = is_of_engine s.show && ends_script status
 leaves_engine (Some (OnGrid name Facts)) status = false
+leaves_engine (Some (OnGrid name (Make m))) status = false
+leaves_engine (Some (OnGrid name (Check c))) status = false
 leaves_engine (Some (Generated n seed)) status = ends_script status
 leaves_engine None status = false

@@ -1,12 +1,12 @@
 -- The lines of the report. This project's own; each ends with one LF (10).
 -- Words: blocked_text, marks_text, frame_line, strip_line, least_line, measure_line, all_triangles, worst_in, count_blocked, sums_line,
--- try_line, info_line, grid_fault_text, grid_refusal, script_fault_text, line_refusal.
+-- try_line, info_line, grid_fault_text, grid_refusal, script_fault_text, line_refusal, certified_line, reject_text, rejection.
 use Rattle.std.specs.Prelude.{ℕ, ◌^◌, max, is_some, List, [], ◌∷◌, ◌++◌, length, map, sum_by, count_by, Option, Some, None, codes, decimal}
 use Rattle.mesh_defs.specs.declared.mark.Mark.TheVariants.{Inside, Cut, Outside}
 use Rattle.mesh_defs.specs.HeightField.{HeightField, side_of}
 use Rattle.mesh_defs.specs.View.{ViewPlane}
 use Rattle.mesh_defs.specs.Thickness.{thickness_of}
-use Rattle.mesh_defs.specs.BoundingBox.{least, greatest}
+use Rattle.mesh_defs.specs.BoundingBox.{CameraAt, least, greatest}
 use Rattle.mesh_defs.specs.MeshText.{vertices_of}
 use Rattle.mesh_defs.specs.State.{State}
 use Rattle.pgm_grid.specs.declared.fault.PgmFault.{PgmFault}
@@ -14,6 +14,9 @@ use Rattle.pgm_grid.specs.declared.fault.PgmFault.TheVariants.{BadMagic, BadHead
 use Rattle.bintree_addr.specs.declared.blocked.Blocked.{Blocked}
 use Rattle.roam_script.specs.declared.script_fault.ScriptFault.{ScriptFault}
 use Rattle.roam_script.specs.declared.script_fault.ScriptFault.TheVariants.{LineTooLong, UnknownCommand, WrongFields, BadNumber, OutOfRange, TooManyLines, TooManyFrames, TooManyPlanes}
+use Rattle.certificate_laws.specs.declared.reason.Reject.{Reject}
+use Rattle.certificate_laws.specs.declared.reason.Reject.TheVariants.{BadLine, NotConforming, OverBudget, BadReason, TooFewReasons, MeshDiffers}
+use Rattle.cert_text.specs.CertText.{number_text}
 use Rattle.run_laws.specs.Walk.{Refusal}
 use Rattle.deviation_laws.specs.PlaneHeight.{deviation_of, thickest_of}
 use Rattle.run_laws.specs.Picture.{Picture, triangles_of, strip_triangles, mark_count}
@@ -130,3 +133,22 @@ script_fault_text TooManyPlanes = codes "too many planes"
 abbrev pub line_refusal : Refusal → List ℕ
 line_refusal refusal =
     codes "line " ++ decimal refusal.line ++ codes " refused: " ++ script_fault_text refusal.fault ++ codes "\n"
+
+-- `certified camera X Y Z triangles T worst W`: where the mesh was seen from, how many triangles it has, and their worst
+abbrev pub certified_line : CameraAt → ℕ → ℕ → List ℕ
+certified_line place triangles worst =
+    codes "certified camera" ++ number_text place.x ++ number_text place.y ++ number_text place.z
+    ++ codes " triangles " ++ decimal triangles ++ codes " worst " ++ decimal worst ++ codes "\n"
+
+-- which test of a check failed first; lines and reasons are counted from 1, bytes from 0
+abbrev pub reject_text : Reject → List ℕ
+reject_text (BadLine line) = codes "bad line " ++ decimal line
+reject_text NotConforming = codes "not conforming"
+reject_text OverBudget = codes "over budget"
+reject_text (BadReason index) = codes "bad reason " ++ decimal index
+reject_text TooFewReasons = codes "too few reasons"
+reject_text (MeshDiffers place) = codes "mesh differs at " ++ decimal place
+
+-- `rejected: TEXT`
+abbrev pub rejection : Reject → List ℕ
+rejection why = codes "rejected: " ++ reject_text why ++ codes "\n"

@@ -2,7 +2,7 @@
 -- of the entry is left, over the edge after it right, counterclockwise. This project's own words.
 -- Words: is_edge, has_edge_back, turns_left_from, turns_right_from, is_left_turn, is_right_turn, turns_by,
 -- left_turns, right_turns.
-use Rattle.std.specs.Prelude.{ℕ, ◌+◌, Bool, ◌&&◌, ◌||◌, cond, List, [], ◌∷◌}
+use Rattle.std.specs.Prelude.{ℕ, ◌+◌, Bool, ◌&&◌, ◌||◌, cond, List, ◌∷◌}
 use Rattle.mesh_defs.specs.declared.point.Point.{Point}
 use Rattle.mesh_defs.specs.declared.point.Corners.{Corners}
 use Rattle.mesh_defs.specs.Triangle.{corners_of}

@@ -1,10 +1,13 @@
 -- The words of a command line that are a command. This project's own.
--- Words: Show, Scripted, Job, Command, job_files, names_of, file_count, is_scripted, has_script, is_of_engine,
+-- Words: Show, Scripted, Making, Checking, Job, Command, job_files, names_of, file_count, is_scripted, has_script, is_check, is_of_engine,
 -- prefix_of, is_prefix, within, number_word, least_budget, greatest_budget, greatest_spacing, greatest_level, greatest_seed,
--- greatest_tolerance, budget_word, spacing_word, frames_command, meshes_command, try_command, command_of.
-use Rattle.std.specs.Prelude.{ℕ, Bool, true, false, ◌&&◌, nat_le, if◌then◌else◌, List, [], ◌∷◌, length, Option, Some, None, codes, bytes_eq}
+-- greatest_tolerance, budget_word, spacing_word, tolerance_word, in_reach, coordinate_word, frames_command, least_command, meshes_command, try_command,
+-- camera_word, make_command, check_command, command_of.
+use Rattle.std.specs.Prelude.{ℕ, Bool, true, false, ◌&&◌, nat_le, if◌then◌else◌, List, [], ◌∷◌, length, Option, Some, None, codes, bytes_eq, ℤ}
+use Rattle.mesh_defs.specs.BoundingBox.{CameraAt}
 use Rattle.roam_edge.specs.declared.mesh_sink.TheConstants.{LONGEST_PREFIX}
-use Rattle.roam_num.specs.DecText.{number_in}
+use Rattle.text_laws.specs.Numbers.{number_in, signed_in}
+use Rattle.cert_text.specs.CertLine.{is_coordinate}
 
 -- how frames are shown: as meshes whose names begin with this prefix, of a budget, with the triangles depth first or in the
 -- order of a strip, or of a tolerance; by how far the meshes of a budget are from the surface; or by their sums alone, of a
@@ -24,10 +27,25 @@ pub record Scripted : Type 0 where
   pub spacing : ℕ
   pub show : Show
 
--- what is done with a grid: the frames of a script, or a line of facts
+-- a certificate is made: where the mesh is seen from, its budget, and how many world units a grid step has
+pub record Making : Type 0 where
+  pub camera : CameraAt
+  pub budget : ℕ
+  pub spacing : ℕ
+
+-- a mesh is checked by a certificate: the names of both files, the budget of the mesh, and how many world units a grid step has
+pub record Checking : Type 0 where
+  pub mesh : List ℕ
+  pub certificate : List ℕ
+  pub budget : ℕ
+  pub spacing : ℕ
+
+-- what is done with a grid: the frames of a script, a line of facts, a certificate, or a check of a mesh by one
 pub data Job : Type 0 where
   Frames : (scripted : Scripted) → Job
   Facts : Job
+  Make : (making : Making) → Job
+  Check : (checking : Checking) → Job
 
 -- a command: a job on the grid of this name; or a generated run
 pub data Command : Type 0 where
@@ -38,6 +56,8 @@ pub data Command : Type 0 where
 abbrev pub job_files : Job → List (List ℕ)
 job_files (Frames s) = s.script ∷ []
 job_files Facts = []
+job_files (Make m) = []
+job_files (Check c) = c.certificate ∷ (c.mesh ∷ [])
 
 -- the names of a command's files; the grid comes first
 abbrev pub names_of : Command → List (List ℕ)
@@ -52,11 +72,21 @@ file_count (Some command) = length (names_of command)
 -- the job's file is a script
 abbrev pub is_scripted : Job → Bool
 is_scripted (Frames s) = true
-is_scripted _ = false
+is_scripted Facts = false
+is_scripted (Make m) = false
+is_scripted (Check c) = false
 
 abbrev pub has_script : Command → Bool
 has_script (OnGrid grid job) = is_scripted job
 has_script (Generated n seed) = false
+
+-- the command checks a mesh
+abbrev pub is_check : Command → Bool
+is_check (OnGrid grid (Frames s)) = false
+is_check (OnGrid grid Facts) = false
+is_check (OnGrid grid (Make m)) = false
+is_check (OnGrid grid (Check c)) = true
+is_check (Generated n seed) = false
 
 -- an engine makes the frames that are shown so; the meshes of a tolerance are made without one
 abbrev pub is_of_engine : Show → Bool
@@ -115,17 +145,36 @@ budget_word = number_word least_budget greatest_budget
 abbrev pub spacing_word : List ℕ → Option ℕ
 spacing_word = number_word 1 greatest_spacing
 
+abbrev pub tolerance_word : List ℕ → Option ℕ
+tolerance_word = number_word 0 greatest_tolerance
+
+-- a number, if it may be a coordinate of a camera
+abbrev pub in_reach : Option ℤ → Option ℤ
+in_reach None = None
+in_reach (Some v) = if is_coordinate v then Some v else None
+
+-- the number of a word of an optional `-` and 1 to 18 digits, if it is at most 2 ^ 30 in size
+abbrev pub coordinate_word : List ℕ → Option ℤ
+coordinate_word word = in_reach (signed_in word)
+
 -- the frames of a script on a grid, if budget and spacing are there
 abbrev pub frames_command : List ℕ → List ℕ → Show → Option ℕ → Option ℕ → Option Command
 frames_command grid_name script_name shown (Some b) (Some s) =
     Some (OnGrid grid_name (Frames (record { script = script_name; budget = b; spacing = s; show = shown })))
 frames_command grid_name script_name shown _ _ = None
 
+-- the meshes of a tolerance, if it and the spacing are there: they have no budget, so a script may set any
+abbrev pub least_command : List ℕ → List ℕ → List ℕ → Option ℕ → Option ℕ → Option Command
+least_command grid_name script_name prefix None spacing = None
+least_command grid_name script_name prefix (Some tolerance) spacing =
+    frames_command grid_name script_name (AsLeast prefix tolerance) (Some greatest_budget) spacing
+
 -- a word, GRID, SCRIPT, PREFIX, a number and SPACING
 abbrev pub meshes_command : List ℕ → List ℕ → List ℕ → List ℕ → List ℕ → List ℕ → Option Command
 meshes_command word i j prefix number step =
     if bytes_eq word (codes "mesh") then frames_command i j (AsMeshes prefix) (budget_word number) (spacing_word step)
     else if bytes_eq word (codes "strip") then frames_command i j (AsStrips prefix) (budget_word number) (spacing_word step)
+    else if bytes_eq word (codes "least") then least_command i j prefix (tolerance_word number) (spacing_word step)
     else None
 
 -- the generated run, if level and seed are there
@@ -133,8 +182,25 @@ abbrev pub try_command : Option ℕ → Option ℕ → Option Command
 try_command (Some n) (Some seed) = Some (Generated n seed)
 try_command _ _ = None
 
+-- the camera of three coordinates, if all are there
+abbrev pub camera_word : Option ℤ → Option ℤ → Option ℤ → Option CameraAt
+camera_word (Some i) (Some j) (Some k) = Some (record { x = i; y = j; z = k })
+camera_word _ _ _ = None
+
+-- a certificate is made, if camera, budget and spacing are there
+abbrev pub make_command : List ℕ → Option CameraAt → Option ℕ → Option ℕ → Option Command
+make_command grid_name (Some place) (Some b) (Some s) = Some (OnGrid grid_name (Make (record { camera = place; budget = b; spacing = s })))
+make_command grid_name _ _ _ = None
+
+-- a mesh is checked by a certificate, if budget and spacing are there
+abbrev pub check_command : List ℕ → List ℕ → List ℕ → Option ℕ → Option ℕ → Option Command
+check_command grid_name mesh_name cert_name (Some b) (Some s) =
+    Some (OnGrid grid_name (Check (record { mesh = mesh_name; certificate = cert_name; budget = b; spacing = s })))
+check_command grid_name mesh_name cert_name _ _ = None
+
 -- The command that the words are, None of other words: `info GRID`, `try N SEED`, `mesh GRID SCRIPT PREFIX BUDGET SPACING`,
--- `strip GRID SCRIPT PREFIX BUDGET SPACING`, or `measure GRID SCRIPT BUDGET SPACING`.
+-- `strip GRID SCRIPT PREFIX BUDGET SPACING`, `least GRID SCRIPT PREFIX TOLERANCE SPACING`, `measure GRID SCRIPT BUDGET SPACING`,
+-- `certify check GRID OBJ CERT BUDGET SPACING`, or `certify make GRID X Y Z BUDGET SPACING`.
 abbrev pub command_of : List (List ℕ) → Option Command
 command_of (word ∷ (i ∷ [])) = if bytes_eq word (codes "info") then Some (OnGrid i Facts) else None
 command_of (word ∷ (i ∷ (j ∷ []))) =
@@ -142,4 +208,9 @@ command_of (word ∷ (i ∷ (j ∷ []))) =
 command_of (word ∷ (i ∷ (j ∷ (k ∷ (l ∷ []))))) =
     if bytes_eq word (codes "measure") then frames_command i j AsMeasures (budget_word k) (spacing_word l) else None
 command_of (word ∷ (i ∷ (j ∷ (k ∷ (l ∷ (m ∷ [])))))) = if is_prefix k then meshes_command word i j k l m else None
+command_of (word ∷ (i ∷ (j ∷ (k ∷ (l ∷ (m ∷ (o ∷ []))))))) =
+    if bytes_eq word (codes "certify") && bytes_eq i (codes "check") then check_command j k l (budget_word m) (spacing_word o) else None
+command_of (word ∷ (i ∷ (j ∷ (k ∷ (l ∷ (m ∷ (o ∷ (p ∷ [])))))))) =
+    if bytes_eq word (codes "certify") && bytes_eq i (codes "make")
+    then make_command j (camera_word (coordinate_word k) (coordinate_word l) (coordinate_word m)) (budget_word o) (spacing_word p) else None
 command_of _ = None

@@ -1,8 +1,10 @@
 //! Laws of the definitions, as clauses of functions with empty bodies.
 
 ghost use Rattle.run_laws.specs.Examples.{WrongFieldsStop, FirstLinesAreRefused, CountsAreBounded, SeventhPlaneStops, BudgetsAreInForce, AreasAreRaised, WaysAreAddedUp, TurnsOfStrips, MeshesAreMeasured};
-ghost use Rattle.run_laws.specs.Laws.{WalksGoOn, PicturesGoOn, FramesExistFrom, RunsAreUnique, SetsStayClosed, LevelsAreInRange, BudgetsAreTwo, OutcomesAreUnique, OutcomesExist, AcceptedIsDone, PicturesAreCertified, HeadlineFollows, TurnsAreCounted};
+ghost use Rattle.run_laws.specs.CertifyExamples.{CertificatesAreRead, CertificatesAreRefused, WordsOfCertify};
+ghost use Rattle.run_laws.specs.Laws.{WalksGoOn, PicturesGoOn, FramesExistFrom, RunsAreUnique, SetsStayClosed, LevelsAreInRange, BudgetsAreTwo, OutcomesAreUnique, OutcomesExist, AcceptedIsDone, EnginesAreUnique, PicturesAreCertified, HeadlineFollows, CertifiedFollows, MadeIsAccepted, TurnsAreCounted};
 
+use cert_text::text_laws;
 use closure_laws::{frame_laws, member_laws};
 use frame_steps as steps;
 use pgm_grid::grids_and_texts;
@@ -30,20 +32,29 @@ pub fn state_laws()
     line_laws();
 }
 
-/// Words and files have one outcome. What is accepted ends with `Done`; a frame's line tells a
-/// certificate; and the meshes of a script are best meshes.
+/// Words and files have an outcome, and one alone but where a certificate is made. What is accepted ends with `Done`; a
+/// frame's line tells a certificate; the meshes of a script are best meshes; and a mesh that is certified is optimal.
 pub fn run_laws()
     ensures one_outcome { OutcomesAreUnique }
+    ensures one_engine { EnginesAreUnique }
     ensures some_outcome { OutcomesExist }
     ensures done { AcceptedIsDone }
     ensures certificate { PicturesAreCertified }
     ensures headline { HeadlineFollows }
+    ensures certified { CertifiedFollows }
 {
     state_laws();
     grids_and_texts();
     frame_laws();
     member_laws();
     falling_laws();
+}
+
+/// What `certify make` writes for a grid `certify check` accepts, with the mesh that it is of.
+pub fn certify_laws()
+    ensures accepted { MadeIsAccepted }
+{
+    text_laws();
 }
 
 /// How many turns a strip takes to either side is what the tests of turns count.
@@ -60,6 +71,13 @@ pub fn script_examples()
     ensures budgets { BudgetsAreInForce }
     ensures areas { AreasAreRaised }
     ensures ways { WaysAreAddedUp }
+{}
+
+/// What small texts of certificates are read as, and what some words are, worked by hand.
+pub fn certify_examples()
+    ensures read { CertificatesAreRead }
+    ensures refused { CertificatesAreRefused }
+    ensures words { WordsOfCertify }
 {}
 
 /// What small meshes are measured to be, worked by hand: the turns of strips, deviations and thicknesses.

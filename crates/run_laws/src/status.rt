@@ -9,7 +9,7 @@ pub enum Status {
     /// The command was carried out, and its script, where it has one, was read to its end.
     Done = 0,
     /// Out of memory. Nothing was written. It is free to come for words of a command before its script is opened, but where
-    /// the words name a grid only once a whole accepted header of it was read.
+    /// the words name a grid only once a whole accepted header of it was read. A check may also end so at its later files.
     NoMemory = 1,
     /// The words are no command. Nothing was opened or written.
     Usage = 2,
@@ -21,6 +21,8 @@ pub enum Status {
     ReadFault = 5,
     /// A mesh or the report could not be written.
     WriteFault = 6,
+    /// The certificate or the mesh of a check is rejected; the report says by which test.
+    Rejected = 7,
 }
 
 impl Status {

@@ -1,5 +1,5 @@
 use Rattle.std.proofs.Common.{refl}
-use Rattle.roam_num.specs.DecText.{number_in, signed_in}
+use Rattle.text_laws.specs.Numbers.{number_in, signed_in}
 use Rattle.roam_script.specs.LineText.{line_in}
 use Rattle.run_laws.specs.Walk.{walk_of}
 use Rattle.run_laws.proofs.laws.script_examples.Goals as goal

@@ -1,7 +1,0 @@
-use Rattle.std.proofs.Common.{◌≡◌, false, take}
-use Rattle.std.specs.List.{All}
-use Rattle.roam_script.specs.LineText.{is_gap}
-use Rattle.cert_text.proofs.fields.first_gap.Given as goal
-
-abbrev pub invariant-loop-i : goal.invariant-loop-i
-invariant-loop-i l = All (λ b. is_gap b ≡ false) (take l.i l.bytes)

@@ -1,0 +1,17 @@
+use Rattle.std.proofs.Common.{refl}
+use Rattle.text_laws.specs.Numbers.{number_in, signed_in}
+use Rattle.cert_text.specs.CertLine.{line_in}
+use Rattle.run_laws.specs.CertFile.{cert_in}
+use Rattle.run_laws.proofs.laws.certify_examples.Goals as goal
+
+pub returns-clause-read : goal.returns-clause-read
+unfolding cert_in line_in number_in signed_in
+returns-clause-read c = (refl, refl, refl, refl)
+
+pub returns-clause-refused : goal.returns-clause-refused
+unfolding cert_in line_in number_in signed_in
+returns-clause-refused c = (refl, refl, refl, refl, refl, refl, refl, refl, refl)
+
+pub returns-clause-words : goal.returns-clause-words
+unfolding number_in signed_in
+returns-clause-words c = (refl, refl, refl, refl, refl)

@@ -1,0 +1,40 @@
+-- Certificates as a run makes and checks them: over a grid as it was read, at a budget, a spacing and a camera, without planes.
+-- This project's own.
+-- Words: seen_from, makes_at, checks_at, IsMade, IsFaultless, IsFirstDifference.
+use Rattle.std.specs.Prelude.{◌≡◌, ◌≢◌, ℕ, ◌<◌, List, length, take, slice_get}
+use Rattle.mesh_defs.specs.HeightField.{HeightField}
+use Rattle.mesh_defs.specs.BoundingBox.{CameraAt}
+use Rattle.mesh_defs.specs.BestMesh.{IsBestMesh}
+use Rattle.mesh_defs.specs.State.{State, start_state, with_camera, priority_in}
+use Rattle.certificate_laws.specs.Certificate.{IsSound}
+use Rattle.cert_text.specs.Certificate.{Certificate}
+use Rattle.run_laws.specs.Words.{Making, Checking}
+
+-- the grid seen from a camera, before any line of a script
+abbrev pub seen_from : HeightField → ℕ → ℕ → CameraAt → State
+seen_from grid spacing budget place = with_camera place (start_state grid spacing budget)
+
+-- what a certificate is made for
+abbrev pub makes_at : Making → HeightField → State
+makes_at m grid = seen_from grid m.spacing m.budget m.camera
+
+-- what a certificate with this camera is checked for
+abbrev pub checks_at : Checking → HeightField → CameraAt → State
+checks_at c grid camera = seen_from grid c.spacing c.budget camera
+
+-- A certificate that may be made: of the best mesh of the budget at the camera of the words, depth first, and with reasons that
+-- prove it so.
+pub record IsMade (m : Making) (grid : HeightField) (cert : Certificate) : Type 0 where
+  pub camera : cert.camera ≡ m.camera
+  pub best : IsBestMesh grid.n m.budget (priority_in (makes_at m grid)) cert.leaves
+  pub sound : IsSound grid.n m.budget (priority_in (makes_at m grid)) cert.leaves cert.reasons
+  pub few : length cert.reasons < m.budget
+
+-- no part of the certificate fails
+abbrev pub IsFaultless : Checking → HeightField → Certificate → Type 0
+IsFaultless c grid cert = IsSound grid.n c.budget (priority_in (checks_at c grid cert.camera)) cert.leaves cert.reasons
+
+-- Two texts are the same up to this place, counted from 0, and there they differ, or only one goes on.
+pub record IsFirstDifference (these those : List ℕ) (at : ℕ) : Type 0 where
+  pub same : take at these ≡ take at those
+  pub differ : slice_get these at ≢ slice_get those at
