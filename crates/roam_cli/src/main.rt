@@ -61,11 +61,11 @@ fn explanation(status: Status) -> Option<&'static str>
         Status::NoMemory => Some("roam: out of memory"),
         Status::Usage => {
             Some(
-                "usage: roam info GRID, or roam try N SEED, or roam mesh GRID SCRIPT PREFIX BUDGET SPACING, or roam strip GRID SCRIPT PREFIX BUDGET SPACING, or roam measure GRID SCRIPT BUDGET SPACING   (PREFIX has 1 to 200 bytes, BUDGET is 2 to 1048576, SPACING 1 to 1024, N 1 to 11, SEED 0 to 4294967295)",
+                "usage: roam info GRID, or roam try N SEED, or roam mesh GRID SCRIPT PREFIX BUDGET SPACING, or roam strip GRID SCRIPT PREFIX BUDGET SPACING, or roam least GRID SCRIPT PREFIX TOLERANCE SPACING, or roam measure GRID SCRIPT BUDGET SPACING, or roam certify make GRID X Y Z BUDGET SPACING, or roam certify check GRID OBJ CERT BUDGET SPACING   (PREFIX has 1 to 200 bytes, BUDGET is 2 to 1048576, TOLERANCE 0 to 999999999999, SPACING 1 to 1024, N 1 to 11, SEED 0 to 4294967295, X, Y and Z -1073741824 to 1073741824)",
             )
         }
-        Status::ReadFault => Some("roam: the grid or the script could not be opened or read"),
+        Status::ReadFault => Some("roam: a file could not be opened or read"),
         Status::WriteFault => Some("roam: a mesh or the report could not be written"),
-        Status::Done | Status::GridRefused | Status::ScriptRefused => None,
+        Status::Done | Status::GridRefused | Status::ScriptRefused | Status::Rejected => None,
     }
 }

@@ -8,20 +8,15 @@ use Rattle.run_laws.specs.Walk.{Refusal, Walk, walk_of}
 use Rattle.run_laws.specs.Words.{Show}
 use Rattle.run_laws.specs.Picture.{Picture, ArePictures}
 use Rattle.run_laws.specs.Act.{Act, Told, Stands, IsCutShort}
-use Rattle.run_laws.specs.Outcome.{Outcome, shown_acts, sum_acts, stop_acts, stop_status, frames_outcome, IsFramesOutcome}
+use Rattle.run_laws.specs.Outcome.{Outcome, shown_acts, sum_acts, stop_acts, stop_status, engine_for, frames_outcome, IsFramesOutcome}
+use Rattle.run_laws.specs.Step.{Place, HasCome}
 use Rattle.run_laws.proofs.StepLemmas.{place, come-begin, walk_of-end, walk_of-empty}
 use Rattle.run_laws.specs.Promise.{is_complete}
-use Rattle.frame_loop.specs.Engine.{EngineState}
 use Rattle.roam_run.specs.declared.stage.Stage.{Stage}
 use Rattle.roam_run.specs.declared.script.Stop.{Stop}
 use Rattle.roam_run.specs.declared.script.Stop.TheVariants.{Refused, Failed}
-use Rattle.roam_run.specs.declared.showing.Showing.{Showing}
-use Rattle.roam_run.specs.EngineSeen.{engine_seen, HasFollowed}
-use Rattle.roam_run.specs.ShowView.{show_seen}
-use Rattle.roam_run.specs.StageView.{IsAt, Begins}
-use Rattle.roam_run.specs.Taking.{status_for, TakesBytes, DoesAs, EndsScript, StopsReading}
-use Rattle.roam_run.proofs.EngineLemmas.{followed-end}
-use Rattle.roam_run.proofs.ShowingLemmas.{sum-none, engine-left}
+use Rattle.roam_run.specs.StageView.{TellsFrames, IsAt, Begins}
+use Rattle.roam_run.specs.Taking.{status_for, TakesBytes, DoesAs, Leaves, EndsScript, StopsReading}
 
 -- a walk that was stopped ends as refused
 stop-refused : (stop : Option Refusal) → IsSome stop → stop_status stop ≡ ends.ScriptRefused
@@ -31,91 +26,92 @@ stop-refused None is = absurd (not_true is)
     not_true e = cc
 stop-refused (Some refusal) is = refl
 
-module _ (before now : Told) (showing : Showing) (start : Walk) where
-  abbrev show : Show
-  show = show_seen showing
-
-  -- what the outcome of a walk says stands, and that it leaves this engine
-  abbrev Does : EngineState → Status → Walk → Type 0
-  Does engine status walk = (end : Outcome) × IsFramesOutcome show 2 walk end × DoesAs before now end status
-      × (IsTrue (is_complete status) → Some (engine_seen engine) ≡ end.engine)
+module _ (before now : Told) (show : Show) (follows : Show → Walk → List Picture → Type 0) (start : Walk) where
+  -- what the outcome of a walk says stands, and what makes the frames has come to its end
+  abbrev Does : Status → Walk → Type 0
+  Does status walk = (end : Outcome) × IsFramesOutcome show 2 walk end × DoesAs before now end status × (IsTrue (is_complete status) → Leaves show follows end)
 
   -- nothing is told behind the frames but a refusal
-  no-sum : (walk : Walk) (ps : List Picture) → shown_acts show 1 ps ++ (sum_acts show ps ++ stop_acts walk.stop) ≡ shown_acts show 1 ps ++ stop_acts walk.stop
-  no-sum walk ps = ap (λ (l : List Act). shown_acts show 1 ps ++ (l ++ stop_acts walk.stop)) (sum-none showing ps)
+  no-sum : TellsFrames show → (walk : Walk) (ps : List Picture) → shown_acts show 1 ps ++ (sum_acts show ps ++ stop_acts walk.stop) ≡ shown_acts show 1 ps ++ stop_acts walk.stop
+  no-sum alone walk ps = ap (λ (l : List Act). shown_acts show 1 ps ++ (l ++ stop_acts walk.stop)) (alone ps)
 
   -- all lines were carried out
-  does-all : (walk : Walk) (ps : List Picture) (engine : EngineState) → walk.stop ≡ None → ArePictures show [] walk.frames ps → Stands before now (shown_acts show 1 ps)
-      → HasFollowed walk ps engine → Does engine ends.Done walk
-  does-all walk ps engine goes shown stands followed =
+  does-all : TellsFrames show → (walk : Walk) (ps : List Picture) → walk.stop ≡ None → ArePictures show [] walk.frames ps → Stands before now (shown_acts show 1 ps)
+      → follows show walk ps → Does ends.Done walk
+  does-all alone walk ps goes shown stands followed =
       let acts : shown_acts show 1 ps ++ (sum_acts show ps ++ stop_acts walk.stop) ≡ shown_acts show 1 ps =
-      no-sum walk ps ∙ (ap (λ (s : Option Refusal). shown_acts show 1 ps ++ stop_acts s) goes ∙ append-nil (shown_acts show 1 ps)) in
+      no-sum alone walk ps ∙ (ap (λ (s : Option Refusal). shown_acts show 1 ps ++ stop_acts s) goes ∙ append-nil (shown_acts show 1 ps)) in
       let P : List Act → Type 0 = λ l. Stands before now l in (
         frames_outcome show 2 walk ps,
         (ps, shown, refl),
         record { complete = λ e. (subst P (sym acts) stands, sym (ap stop_status goes)); cut_short = λ e. cc },
-        λ e. ap Some (followed-end walk ps engine followed) ∙ sym (engine-left showing walk ps),
+        λ e. record { walk = walk; pictures = ps; followed = followed; left = refl },
       )
 
   -- a line was refused
-  does-refusal : (walk : Walk) (ps : List Picture) (engine : EngineState) → IsSome walk.stop → ArePictures show [] walk.frames ps
-      → Stands before now (shown_acts show 1 ps ++ stop_acts walk.stop) → HasFollowed walk ps engine → Does engine ends.ScriptRefused walk
-  does-refusal walk ps engine some shown stands followed =
+  does-refusal : TellsFrames show → (walk gone : Walk) (ps : List Picture) → IsSome walk.stop → ArePictures show [] walk.frames ps
+      → Stands before now (shown_acts show 1 ps ++ stop_acts walk.stop) → follows show gone ps → engine_for show walk ps ≡ engine_for show gone ps → Does ends.ScriptRefused walk
+  does-refusal alone walk gone ps some shown stands followed same =
       let P : List Act → Type 0 = λ l. Stands before now l in (
         frames_outcome show 2 walk ps,
         (ps, shown, refl),
-        record { complete = λ e. (subst P (sym (no-sum walk ps)) stands, sym (stop-refused walk.stop some)); cut_short = λ e. cc },
-        λ e. ap Some (followed-end walk ps engine followed) ∙ sym (engine-left showing walk ps),
+        record { complete = λ e. (subst P (sym (no-sum alone walk ps)) stands, sym (stop-refused walk.stop some)); cut_short = λ e. cc },
+        λ e. record { walk = gone; pictures = ps; followed = followed; left = sym same },
       )
 
   -- what was done was cut short
-  does-cut : (walk : Walk) (end : Outcome) (engine : EngineState) → IsFramesOutcome show 2 walk end → IsCutShort before now end.acts → Does engine ends.WriteFault walk
-  does-cut walk end engine is cut = (end, is, record { complete = λ e. cc; cut_short = λ e. cut }, λ e. cc)
+  does-cut : (walk : Walk) (end : Outcome) → IsFramesOutcome show 2 walk end → IsCutShort before now end.acts → Does ends.WriteFault walk
+  does-cut walk end is cut = (end, is, record { complete = λ e. cc; cut_short = λ e. cut }, λ e. cc)
 
   -- at the end of a script no line has begun
-  pub ends-empty : (read : List ℕ) (stage : Stage) → IsAt before now show start read stage → stage.part.items ≡ []
-      → EndsScript before now show start read stage.engine ends.Done
+  pub ends-empty : (read : List ℕ) (stage : Stage) → IsAt before now show follows start read stage → stage.part.items ≡ []
+      → EndsScript before now show follows start read ends.Done
   ends-empty read stage at none =
-      let P : Walk → Type 0 = λ w. Does stage.engine ends.Done w in
+      let P : Walk → Type 0 = λ w. Does ends.Done w in
       subst P (sym (walk_of-empty before now show start read at.here at.come (sym at.shows.begun ∙ none)))
-      (does-all at.here.walk at.here.pictures stage.engine at.come.accepted at.come.shown at.come.stands at.shows.followed)
+      (does-all at.alone at.here.walk at.here.pictures at.come.accepted at.come.shown at.come.stands at.shows.followed)
 
   -- what a stop says of all that follows
-  pub ends-stop : (bytes more : List ℕ) (stage : Stage) (stop : Stop) → TakesBytes {T = Unit {0}} before now show start bytes stage (Err stop)
-      → EndsScript before now show start (bytes ++ more) stage.engine (status_for stop)
-  ends-stop bytes more stage Refused takes =
+  pub ends-stop : TellsFrames show → (bytes more : List ℕ) (stage : Stage) (stop : Stop) → TakesBytes {T = Unit {0}} before now show follows start bytes stage (Err stop)
+      → EndsScript before now show follows start (bytes ++ more) (status_for stop)
+  ends-stop alone bytes more stage Refused takes =
       let r = takes.refused refl in
-      let P : Walk → Type 0 = λ w. Does stage.engine ends.ScriptRefused w in
+      let P : Walk → Type 0 = λ w. Does ends.ScriptRefused w in
       subst P (sym (r.refuses.settled more))
-      (does-refusal r.refuses.walk r.refuses.pictures stage.engine r.refuses.refused r.refuses.shown r.refuses.stands r.followed)
-  ends-stop bytes more stage Failed takes =
+      (does-refusal alone r.refuses.walk r.gone r.refuses.pictures r.refuses.refused r.refuses.shown r.refuses.stands r.followed r.same_end)
+  ends-stop alone bytes more stage Failed takes =
       let cut = (takes.failed refl).short more in
-      does-cut (walk_of start (bytes ++ more)) cut.0 stage.engine cut.1 cut.2
+      does-cut (walk_of start (bytes ++ more)) cut.0 cut.1 cut.2
 
   -- the same of a walk that is known otherwise
-  pub ends-same : (read other : List ℕ) (engine : EngineState) (status : Status) → walk_of start read ≡ walk_of start other
-      → EndsScript before now show start other engine status → EndsScript before now show start read engine status
-  ends-same read other engine status same is =
-      let P : Walk → Type 0 = λ w. Does engine status w in
+  pub ends-same : (read other : List ℕ) (status : Status) → walk_of start read ≡ walk_of start other
+      → EndsScript before now show follows start other status → EndsScript before now show follows start read status
+  ends-same read other status same is =
+      let P : Walk → Type 0 = λ w. Does status w in
       subst P (sym same) is
 
 -- the last line ends with the script as with an LF
-pub last-line : (before now : Told) (show : Show) (start : Walk) (read : List ℕ) (stage : Stage) (at : IsAt before now show start read stage)
+pub last-line : (before now : Told) (show : Show) (follows : Show → Walk → List Picture → Type 0) (start : Walk) (read : List ℕ) (stage : Stage) (at : IsAt before now show follows start read stage)
     → stage.part.items ≢ [] → walk_of start read ≡ walk_of start (read ++ 10 ∷ [])
-last-line before now show start read stage at some =
+last-line before now show follows start read stage at some =
     walk_of-end before now show start read at.here at.come (λ e. some (at.shows.begun ∙ e))
 
 -- Some bytes of the script were read and carried out; where the shelf tells its files, they are the first of
 -- the named file, whose other bytes are unread.
-pub record IsCarried (before now : Told) (show : Show) (start : Walk) (stage : Stage) (files : Option (List NamedFile)) (rest : Option (List ℕ)) (name bytes : List ℕ) : Type 0 where
-  pub place : IsAt before now show start bytes stage
+pub record IsCarried (before now : Told) (show : Show) (follows : Show → Walk → List Picture → Type 0) (start : Walk) (stage : Stage) (files : Option (List NamedFile)) (rest : Option (List ℕ)) (name bytes : List ℕ) : Type 0 where
+  pub place : IsAt before now show follows start bytes stage
   pub told_script : (all : List NamedFile) → files ≡ Some all →
       (unread : List ℕ) × (rest ≡ Some unread) × (bytes_of all name ≡ bytes ++ unread)
 
 -- a walk that begins is at its first place
-pub begins-at : (before : Told) (show : Show) (start : Walk) (stage : Stage) → Begins start stage → IsAt before before show start [] stage
-begins-at before show start stage begins =
-    record { here = place start [] []; come = come-begin before show start begins.goes begins.none; shows = begins.shows }
+pub begins-at : (before : Told) (show : Show) (follows : Show → Walk → List Picture → Type 0) (start : Walk) (stage : Stage) → Begins show follows start → stage.lines ≡ 0 → stage.part.items ≡ []
+    → IsAt before before show follows start [] stage
+begins-at before show follows start stage begins lines part = record {
+  here = place start [] [];
+  come = come-begin before show start begins.goes begins.none;
+  shows = record { followed = begins.followed; lines = lines ∙ sym begins.first; begun = part };
+  alone = begins.alone;
+}
 
 -- the named file is what was read, this piece, and what is left then
 pub file-cut : (file bytes piece unread : List ℕ) (count : ℕ) → file ≡ bytes ++ unread → piece ≡ take count unread → file ≡ (bytes ++ piece) ++ drop count unread
@@ -123,24 +119,24 @@ file-cut file bytes piece unread count cut gives =
     cut ∙ ap (λ m. bytes ++ m) (sym (take-append-drop count unread) ∙ ap (λ m. m ++ drop count unread) (sym gives)) ∙ sym (append_assoc bytes piece (drop count unread))
 
 -- a read failed: what was carried out stands
-pub stops-reading : (before now : Told) (show : Show) (start : Walk) (stage : Stage) (read file unread : List ℕ) (rest : Option (List ℕ)) (ended : Bool)
-    → IsAt before now show start read stage → file ≡ read ++ unread → (ended ≡ true → read ≡ []) → (ended ≡ false → rest ≡ Some unread)
+pub stops-reading : (before now : Told) (show : Show) (start : Walk) (read file unread : List ℕ) (rest : Option (List ℕ)) (ended : Bool) (at : Place)
+    → HasCome before now show start read at → file ≡ read ++ unread → (ended ≡ true → read ≡ []) → (ended ≡ false → rest ≡ Some unread)
     → StopsReading before now show start file rest ended
-stops-reading before now show start stage read file unread rest ended at cut not_opened left =
-    record { read = read; unread = unread; here = at.here; cut = cut; not_opened = not_opened; left = left; come = at.come }
+stops-reading before now show start read file unread rest ended at come cut not_opened left =
+    record { read = read; unread = unread; here = at; cut = cut; not_opened = not_opened; left = left; come = come }
 
 -- a file that was read to its end is what was read
-pub ended-file : (before now : Told) (show : Show) (start : Walk) (stage : Stage) (files : Option (List NamedFile)) (rest : Option (List ℕ)) (name bytes : List ℕ)
-    → IsCarried before now show start stage files rest name bytes → ((unread : List ℕ) → rest ≡ Some unread → unread ≡ [])
+pub ended-file : (before now : Told) (show : Show) (follows : Show → Walk → List Picture → Type 0) (start : Walk) (stage : Stage) (files : Option (List NamedFile)) (rest : Option (List ℕ)) (name bytes : List ℕ)
+    → IsCarried before now show follows start stage files rest name bytes → ((unread : List ℕ) → rest ≡ Some unread → unread ≡ [])
     → (all : List NamedFile) → files ≡ Some all → bytes_of all name ≡ bytes
-ended-file before now show start stage files rest name bytes carried nothing all told =
+ended-file before now show follows start stage files rest name bytes carried nothing all told =
     let here = carried.told_script all told in
     here.2 ∙ (ap (λ m. bytes ++ m) (nothing here.0 here.1) ∙ append-nil bytes)
 
 -- the same file, cut behind a piece
-pub piece-file : (before now : Told) (show : Show) (start : Walk) (stage : Stage) (files : Option (List NamedFile)) (rest : Option (List ℕ)) (name bytes piece : List ℕ) (count : ℕ)
-    → IsCarried before now show start stage files rest name bytes → ((unread : List ℕ) → rest ≡ Some unread → piece ≡ take count unread)
+pub piece-file : (before now : Told) (show : Show) (follows : Show → Walk → List Picture → Type 0) (start : Walk) (stage : Stage) (files : Option (List NamedFile)) (rest : Option (List ℕ)) (name bytes piece : List ℕ) (count : ℕ)
+    → IsCarried before now show follows start stage files rest name bytes → ((unread : List ℕ) → rest ≡ Some unread → piece ≡ take count unread)
     → (all : List NamedFile) → files ≡ Some all → (more : List ℕ) × (bytes_of all name ≡ (bytes ++ piece) ++ more)
-piece-file before now show start stage files rest name bytes piece count carried gives all told =
+piece-file before now show follows start stage files rest name bytes piece count carried gives all told =
     let here = carried.told_script all told in
     (drop count here.0, file-cut (bytes_of all name) bytes piece here.0 count here.2 (gives here.0 here.1))

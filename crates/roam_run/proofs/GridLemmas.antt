@@ -12,19 +12,18 @@ use Rattle.pgm_grid.specs.Progress.{grid_of}
 use Rattle.run_laws.specs.declared.status.Status.{Status}
 use Rattle.run_laws.specs.declared.status.Status.TheVariants as ends
 use Rattle.run_laws.specs.Walk.{Walk, start_walk, HasBegun}
-use Rattle.run_laws.specs.Words.{Scripted, Job, Frames, Facts, OnGrid}
-use Rattle.run_laws.specs.Picture.{ArePictures}
+use Rattle.run_laws.specs.Words.{Show, Scripted, Job, Frames, Facts, OnGrid, Make, Check}
+use Rattle.run_laws.specs.Picture.{Picture, ArePictures}
 use Rattle.run_laws.specs.Act.{Told, told}
 use Rattle.run_laws.specs.ReportText.{info_line, grid_refusal}
 use Rattle.run_laws.specs.Outcome.{Outcome, text_outcome, shown_acts, IsGridOutcome}
-use Rattle.run_laws.specs.Promise.{Seen, ScriptHasRead, HasReadHeader, is_complete, ends_script}
+use Rattle.run_laws.specs.Promise.{Seen, ScriptHasRead, HasReadHeader, most_open_job, is_complete, ends_script}
 use Rattle.run_laws.proofs.ActLemmas.{stands-nothing, cut-only-line}
 use Rattle.frame_loop.specs.Engine.{EngineState}
-use Rattle.roam_run.specs.declared.stage.Stage.{Stage}
-use Rattle.roam_run.specs.EngineSeen.{engine_seen, HasFollowed}
-use Rattle.roam_run.specs.StageView.{Begins}
+use Rattle.roam_run.specs.EngineSeen.{engine_seen}
+use Rattle.roam_run.specs.StageView.{TellsFrames, Begins}
 use Rattle.roam_run.specs.GridStop.{StopsUndecided}
-use Rattle.roam_run.specs.Taking.{IsScriptEnd, DoesAs, EndsScript, StopsReading}
+use Rattle.roam_run.specs.Taking.{IsScriptEnd, DoesAs, Leaves, EndsScript, StopsReading}
 use Rattle.roam_run.specs.Leaving.{CommandEnds, CommandReadFault, CommandNoMemory}
 
 -- a count that is far from its greatest value goes up by one
@@ -46,7 +45,7 @@ text-cut meshes report report' text status files part =
     record { complete = λ e. cc; cut_short = λ e. cut-only-line meshes report report' text [] part }
 
 -- a command ends as the outcome says that what its grid is read as leads to
-ends-as : (before now : Told) (old new : Seen) (name : List ℕ) (job : Job) (files : List NamedFile) (answer : Result HeightField PgmFault) (end : Outcome) (status : Status)
+pub ends-as : (before now : Told) (old new : Seen) (name : List ℕ) (job : Job) (files : List NamedFile) (answer : Result HeightField PgmFault) (end : Outcome) (status : Status)
     → grid_of (bytes_of files name) ≡ answer → IsGridOutcome job answer files end → new.opens ≡ old.opens + end.opened
     → DoesAs before now end status → (engine : Option EngineState) → (IsTrue (is_complete status) → option_map engine_seen engine ≡ end.engine)
     → CommandEnds before now old new (OnGrid name job) files status engine
@@ -98,20 +97,31 @@ grid-fault before old new name job opened stops = record {
 same-name : (name other : List ℕ) (job job' : Job) → OnGrid name job ≡ OnGrid other job' → name ≡ other
 same-name name other job job' e = cc
 
+-- the grid is open where memory runs out
+one-open : (job : Job) → 1 ≤ most_open_job job
+one-open (Frames s) = omega arith
+one-open Facts = omega arith
+one-open (Make m) = omega arith
+one-open (Check c) = omega arith
+
 -- memory ran out at the grid
 pub grid-memory : (before : Told) (old new : Seen) (name : List ℕ) (job : Job) → new.opens ≡ old.opens + 1
     → ((files : List NamedFile) → old.files ≡ Some files → HasReadHeader (bytes_of files name) new.rest)
     → CommandNoMemory before before old new (OnGrid name job)
 grid-memory before old new name job opened header = record {
+  opened = 1;
   count = opened;
+  least = omega arith;
+  most = one-open job;
   stands = stands-nothing before;
-  header = λ other job' files e told_files.
+  header = λ other job' files e told_files alone.
       let P : List ℕ → Type 0 = λ l. HasReadHeader (bytes_of files l) new.rest in
       subst P (same-name name other job job' e) (header files told_files);
+  in_order = λ other c files e told_files two. absurd (omega (arith, two));
 }
 
 -- a script that was carried out to its end or its refusal leaves its engine
-left-some : (status : Status) (engine : EngineState) → (status ≡ ends.ReadFault) ⊎ IsScriptEnd status → IsTrue (is_complete status)
+pub left-some : (status : Status) (engine : EngineState) → (status ≡ ends.ReadFault) ⊎ IsScriptEnd status → IsTrue (is_complete status)
     → (if ends_script status then Some engine else None) ≡ Some engine
 left-some ends.Done engine how is = refl
 left-some ends.NoMemory engine how is = absurd (not_true is)
@@ -141,36 +151,42 @@ left-some ends.WriteFault engine how is = absurd (not_true is)
   where
     not_true : IsTrue false → ⊥
     not_true e = cc
+left-some ends.Rejected engine how is = absurd (not_so how)
+  where
+    not_so : (ends.Rejected ≡ ends.ReadFault) ⊎ IsScriptEnd ends.Rejected → ⊥
+    not_so (inl e) = cc
+    not_so (inr (inl e)) = cc
+    not_so (inr (inr (inl e))) = cc
+    not_so (inr (inr (inr e))) = cc
 
 module _ (s : Scripted) (grid : HeightField) where
   -- the walk before the first line
   abbrev pub first_walk : Walk
   first_walk = start_walk s.budget (start_state grid s.spacing s.budget)
 
-  -- a stage before the first line shows it
-  pub first-begins : 2 ≤ s.budget → 1 ≤ grid.n → grid.n ≤ 11 → (engine : EngineState) (stage : Stage) → HasFollowed first_walk [] engine
-      → stage.engine ≡ engine → stage.lines ≡ 0 → stage.part.items ≡ [] → Begins first_walk stage
-  first-begins low n_low n_high engine stage followed same lines part =
-      let P : EngineState → Type 0 = λ e. HasFollowed first_walk [] e in
-      record {
-        starts = record { keeps = record { level = refl; low = low; frames = tt }; n_low = n_low; n_high = n_high };
-        goes = refl;
-        none = refl;
-        shows = record { followed = subst P (sym same) followed; lines = lines; begun = part };
-      }
+  -- what makes the frames follows it
+  pub first-begins : 2 ≤ s.budget → 1 ≤ grid.n → grid.n ≤ 11 → (follows : Show → Walk → List Picture → Type 0) → follows s.show first_walk [] → TellsFrames s.show → Begins s.show follows first_walk
+  first-begins low n_low n_high follows followed alone = record {
+    starts = record { keeps = record { level = refl; low = low; frames = tt }; n_low = n_low; n_high = n_high };
+    goes = refl;
+    none = refl;
+    first = refl;
+    followed = followed;
+    alone = alone;
+  }
 
   module _ (before now : Told) (old new : Seen) (name : List ℕ) (opened : new.opens ≡ old.opens + 2) where
     -- the script ended
-    pub script-ends : (files : List NamedFile) (status : Status) (engine : EngineState) (left : Option EngineState) → grid_of (bytes_of files name) ≡ Ok grid
-        → left ≡ (if ends_script status then Some engine else None) → (status ≡ ends.ReadFault) ⊎ IsScriptEnd status
-        → (status ≢ ends.ReadFault → EndsScript before now s.show first_walk (bytes_of files s.script) engine status)
+    pub script-ends : (files : List NamedFile) (status : Status) (follows : Show → Walk → List Picture → Type 0) (left : Option EngineState) → grid_of (bytes_of files name) ≡ Ok grid
+        → ((end : Outcome) → IsTrue (is_complete status) → Leaves s.show follows end → option_map engine_seen left ≡ end.engine)
+        → (status ≢ ends.ReadFault → EndsScript before now s.show follows first_walk (bytes_of files s.script) status)
         → CommandEnds before now old new (OnGrid name (Frames s)) files status left
-    script-ends files status engine left found is how does = record {
+    script-ends files status follows left found leaves does = record {
       ends = λ memory fault.
           let did = does fault in
           let two : new.opens ≡ old.opens + did.0.opened = opened ∙ ap (λ (end : Outcome). old.opens + end.opened) (sym did.1.2) in
           (ends-as before now old new name (Frames s) files (Ok grid) did.0 status found did.1 two did.2 left
-          (λ complete. ap (option_map engine_seen) (is ∙ left-some status engine how complete) ∙ did.3 complete)).ends memory fault;
+          (λ complete. leaves did.0 complete (did.3 complete))).ends memory fault;
     }
 
     -- what was carried out of a script that was read in part

@@ -1,13 +1,14 @@
 -- What words do whose command is known: the promises of a run from those of its command.
-use Rattle.std.proofs.Common.{◌≡◌, ◌≢◌, ℕ, ◌-◌, ◌^◌, ◌<◌, ◌⊎◌, ◌↔◌, IsTrue, IsSome, false, ap, List, [], Option, option_map, Some, None, refl, sym, ◌∙◌, subst, inl, inr, arith}
+use Rattle.std.proofs.Common.{◌≡◌, ◌≢◌, ℕ, ◌-◌, ◌^◌, ◌<◌, ◌⊎◌, ◌↔◌, IsTrue, IsSome, false, ap, List, [], ◌∷◌, Option, option_map, Some, None, refl, sym, ◌∙◌, subst, inl, inr, arith}
 use Rattle.roam_edge.specs.Shelf.{NamedFile}
 use Rattle.roam_edge.specs.Fault.{Rose}
 use Rattle.run_laws.specs.declared.status.Status.{Status}
-use Rattle.run_laws.specs.declared.status.Status.TheVariants.{Done, NoMemory, Usage, GridRefused, ScriptRefused, ReadFault, WriteFault}
-use Rattle.run_laws.specs.Act.{Told}
+use Rattle.run_laws.specs.declared.status.Status.TheVariants.{Done, NoMemory, Usage, GridRefused, ScriptRefused, ReadFault, WriteFault, Rejected}
+use Rattle.run_laws.specs.Act.{Told, Act, ReportText, IsCutShort}
+use Rattle.run_laws.specs.CutShort.{StandsInText, CutTextsStand}
 use Rattle.run_laws.specs.Cause.{StatusHasCause, StatusWritesHaveCause}
 use Rattle.frame_loop.specs.Engine.{EngineState}
-use Rattle.run_laws.specs.Laws.{AcceptedIsDone, OutcomesAreUnique}
+use Rattle.run_laws.specs.Laws.{AcceptedIsDone, OutcomesAreUnique, EnginesAreUnique}
 use Rattle.run_laws.specs.Words.{Job, Command, OnGrid, file_count, command_of}
 use Rattle.run_laws.specs.Outcome.{Outcome, plain_outcome, IsWordsOutcome, IsOutcome, HasOneOutcome}
 use Rattle.run_laws.specs.Promise.{Seen, AreFiles, is_complete, leaves_engine, EndsRight, LeavesAtReadFault, LeavesAtNoMemory, IsAccepted}
@@ -60,6 +61,7 @@ not-memory GridRefused is e = cc
 not-memory ScriptRefused is e = cc
 not-memory ReadFault is e = cc
 not-memory WriteFault is e = cc
+not-memory Rejected is e = cc
 
 not-fault : (status : Status) → IsTrue (is_complete status) → status ≢ ReadFault
 not-fault Done is e = cc
@@ -69,6 +71,7 @@ not-fault GridRefused is e = cc
 not-fault ScriptRefused is e = cc
 not-fault ReadFault is e = cc
 not-fault WriteFault is e = cc
+not-fault Rejected is e = cc
 
 module _ (before now : Told) (old new : Seen) (words : List (List ℕ)) (command : Command) (is_command : command_of words ≡ Some command) where
   -- a command ends as its words
@@ -83,14 +86,14 @@ module _ (before now : Told) (old new : Seen) (words : List (List ℕ)) (command
   }
 
   -- and leaves the engine that each of their outcomes tells of
-  pub words-engine : OutcomesAreUnique → HasOneOutcome (command_of words) → (files : List NamedFile) (status : Status) (engine : Option EngineState)
+  pub words-engine : EnginesAreUnique → (files : List NamedFile) (status : Status) (engine : Option EngineState)
       → CommandEnds before now old new command files status engine → (end : Outcome) → IsOutcome words files end → IsTrue (is_complete status)
       → option_map engine_seen engine ≡ end.engine
   unfolding IsOutcome
-  words-engine unique one files status engine is end outcome complete =
+  words-engine unique files status engine is end outcome complete =
       let e = is.ends (not-memory status complete) (not-fault status complete) in
       let P : Option Command → Type 0 = λ c. IsWordsOutcome c files e.0 in
-      e.3 complete ∙ ap (λ (o : Outcome). o.engine) (unique words files e.0 end one (subst P (sym is_command) e.1) outcome)
+      e.3 complete ∙ unique words files e.0 end (subst P (sym is_command) e.1) outcome
 
   -- a read failed, of a file of the words
   pub words-read_fault : CommandReadFault before now old new command → LeavesAtReadFault before now old new words
@@ -107,10 +110,14 @@ module _ (before now : Told) (old new : Seen) (words : List (List ℕ)) (command
   pub words-no_memory : CommandNoMemory before now old new command → LeavesAtNoMemory before now old new words
   words-no_memory is = record {
     command = command;
+    opened = is.opened;
     is_command = is_command;
     count = is.count;
+    least = is.least;
+    most = is.most;
     stands = is.stands;
     header = is.header;
+    in_order = is.in_order;
   }
 
 -- a count that did not change did not rise
@@ -158,6 +165,18 @@ write-cause meshes report report' status low_meshes low_report cause = (
     only-write ScriptRefused none = absurd (none (λ e. cc))
     only-write ReadFault none = absurd (none (λ e. cc))
     only-write WriteFault none = refl
+    only-write Rejected none = absurd (none (λ e. cc))
+
+-- where the outcome is one text, a failed write leaves a prefix of it
+pub text-cut : CutTextsStand → OutcomesAreUnique → (before now : Told) (old new : Seen) (words : List (List ℕ)) (files : List NamedFile) (status : Status)
+    → EndsRight before now old new words files status → status ≡ WriteFault → HasOneOutcome (command_of words) → (end : Outcome) (text : List ℕ)
+    → IsOutcome words files end → end.acts ≡ ReportText text ∷ [] → StandsInText before now [] text
+text-cut texts unique before now old new words files status ends failed one end text outcome acts =
+    let not_memory : status ≢ NoMemory = λ e. let clash : NoMemory ≡ WriteFault = sym e ∙ failed in cc in
+    let not_read : status ≢ ReadFault = λ e. let clash : ReadFault ≡ WriteFault = sym e ∙ failed in cc in
+    let e = ends.ends not_memory not_read in
+    let same : e.0.acts ≡ ReportText text ∷ [] = ap (λ (o : Outcome). o.acts) (unique words files e.0 end one e.1 outcome) ∙ acts in
+    texts before now text (subst (λ (a : List Act). IsCutShort before now a) same (e.2.cut_short failed))
 
 -- what is accepted is done, unless memory ran out or something outside failed
 module _ (done : AcceptedIsDone) (before now : Told) (old new : Seen) (words : List (List ℕ)) (files : List NamedFile) (accepted : IsAccepted words files) where
@@ -175,3 +194,4 @@ module _ (done : AcceptedIsDone) (before now : Told) (old new : Seen) (words : L
   accepted-done ScriptRefused ends r w = inl (complete-done ScriptRefused refl (λ e. cc) r ends)
   accepted-done ReadFault ends r w = absurd (r refl)
   accepted-done WriteFault ends r w = absurd (w refl)
+  accepted-done Rejected ends r w = inl (complete-done Rejected refl (λ e. cc) r ends)

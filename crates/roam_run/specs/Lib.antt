@@ -1,7 +1,12 @@
 pub mod ShowView
+pub mod CertifyView
+pub mod CertStage
+pub mod Judging
 pub mod WordView
 pub mod EngineSeen
 pub mod NoteSeen
+pub mod EngineFrames
+pub mod LeastSeen
 pub mod StageView
 pub mod Taking
 pub mod GridStop

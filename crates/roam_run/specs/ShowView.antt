@@ -1,8 +1,8 @@
 -- How the frames of an engine are shown, and the lines of strips and measures from their numbers. This project's own.
--- Words: IsPrefixLength, show_seen, IsShowing, show_in, is_strip, strip_numbers, measure_numbers.
-use Rattle.std.specs.Prelude.{ℕ, ◌<◌, ◌≤◌, Bool, true, false, if◌then◌else◌, List, ◌++◌, length, Option, Some, None, bytes_eq, codes, decimal}
+-- Words: IsPrefixLength, show_seen, IsShowing, is_strip, strip_numbers, least_numbers, measure_numbers.
+use Rattle.std.specs.Prelude.{ℕ, ◌<◌, ◌≤◌, Bool, true, false, List, ◌++◌, length, codes, decimal}
 use Rattle.roam_edge.specs.declared.mesh_sink.TheConstants.{LONGEST_PREFIX}
-use Rattle.run_laws.specs.Words.{Show, AsMeshes, AsStrips, AsMeasures, is_prefix}
+use Rattle.run_laws.specs.Words.{Show, AsMeshes, AsStrips, AsMeasures}
 use Rattle.roam_run.specs.declared.showing.Showing.{Showing}
 use Rattle.roam_run.specs.declared.showing.Showing.TheVariants.{Meshes, Strips, Measures}
 
@@ -22,12 +22,6 @@ IsShowing (Meshes prefix) = IsPrefixLength prefix.now
 IsShowing (Strips prefix) = IsPrefixLength prefix.now
 IsShowing Measures = Unit {0}
 
--- how meshes are shown by the command with this word and prefix
-abbrev pub show_in : List ℕ → List ℕ → Option Show
-show_in word prefix =
-    if is_prefix prefix then (if bytes_eq word (codes "mesh") then Some (AsMeshes prefix)
-    else if bytes_eq word (codes "strip") then Some (AsStrips prefix) else None) else None
-
 -- frames are shown as strips, which want room
 abbrev pub is_strip : Showing → Bool
 is_strip (Meshes prefix) = false
@@ -39,6 +33,12 @@ abbrev pub strip_numbers : (number triangles left right : ℕ) → List ℕ
 strip_numbers number triangles left right =
     codes "strip " ++ decimal number ++ codes " triangles " ++ decimal triangles
     ++ codes " left " ++ decimal left ++ codes " right " ++ decimal right ++ codes "\n"
+
+-- the line of the least mesh of this number: how many triangles and vertices, and the worst
+abbrev pub least_numbers : (number triangles vertices worst : ℕ) → List ℕ
+least_numbers number triangles vertices worst =
+    codes "frame " ++ decimal number ++ codes " least " ++ decimal triangles
+    ++ codes " vertices " ++ decimal vertices ++ codes " worst " ++ decimal worst ++ codes "\n"
 
 -- the line of the measure of this number: a deviation, over how many, and a thickness
 abbrev pub measure_numbers : (number off over thick : ℕ) → List ℕ

@@ -1,12 +1,25 @@
 -- The commands of the code in the words of a run, and what the code knows of them.
--- Words: scripted_seen, command_seen, IsFrameCommand, IsAccepted.
+-- Words: show_for, IsMaking, scripted_seen, command_seen, IsFrameCommand, IsAccepted.
 use Rattle.std.specs.Prelude.{ℕ, ◌≤◌}
 use Rattle.wedgie_tree.specs.declared.wedges.TheConstants.{GREATEST_SPACING}
 use Rattle.roam_run.specs.declared.words.FrameWords.{FrameWords}
 use Rattle.roam_run.specs.declared.words.Command.{Command}
-use Rattle.roam_run.specs.declared.words.Command.TheVariants.{Frames, Info, Try}
-use Rattle.roam_run.specs.ShowView.{show_seen, IsShowing}
+use Rattle.roam_run.specs.declared.words.Command.TheVariants.{Frames, Info, Try, Make, Check}
+use Rattle.roam_run.specs.declared.showing.Making.{Making}
+use Rattle.roam_run.specs.declared.showing.Making.TheVariants.{ByEngine, ByTolerance}
+use Rattle.roam_run.specs.ShowView.{IsPrefixLength, show_seen, IsShowing}
+use Rattle.roam_run.specs.CertifyView.{making_seen, checking_seen, AreInBounds}
 use Rattle.run_laws.specs.Words as words
+
+-- how frames are shown
+abbrev pub show_for : Making → words.Show
+show_for (ByEngine showing) = show_seen showing
+show_for (ByTolerance prefix tolerance) = words.AsLeast prefix.now tolerance
+
+-- the prefix, where there is one, has an accepted length
+abbrev pub IsMaking : Making → Type 0
+IsMaking (ByEngine showing) = IsShowing showing
+IsMaking (ByTolerance prefix tolerance) = IsPrefixLength prefix.now
 
 -- the frames of a script
 abbrev pub scripted_seen : FrameWords → words.Scripted
@@ -14,24 +27,28 @@ scripted_seen c = record {
   script = c.script.now;
   budget = c.budget;
   spacing = c.spacing;
-  show = show_seen c.showing;
+  show = show_for c.making;
 }
 
 abbrev pub command_seen : Command → words.Command
 command_seen (Frames command) = words.OnGrid command.grid.now (words.Frames (scripted_seen command))
 command_seen (Info grid) = words.OnGrid grid.now words.Facts
 command_seen (Try n seed) = words.Generated n seed
+command_seen (Make w) = words.OnGrid w.grid.now (words.Make (making_seen w))
+command_seen (Check w) = words.OnGrid w.grid.now (words.Check (checking_seen w))
 
 -- budget and spacing lie within their bounds, and the prefix, where there is one, has an accepted length
 pub record IsFrameCommand (command : FrameWords) : Type 0 where
-  pub shown : IsShowing command.showing
+  pub shown : IsMaking command.making
   pub budget_low : 2 ≤ command.budget
   pub budget_high : command.budget ≤ 1048576
   pub spacing_low : 1 ≤ command.spacing
   pub spacing_high : command.spacing ≤ GREATEST_SPACING
 
--- a command lies within its bounds: of frames its words, of `try` its level
+-- a command lies within its bounds: of frames its words, of `try` its level, of `certify` budget and spacing
 abbrev pub IsAccepted : Command → Type 0
 IsAccepted (Frames command) = IsFrameCommand command
 IsAccepted (Info grid) = Unit {0}
 IsAccepted (Try n seed) = (1 ≤ n) × (n ≤ 11)
+IsAccepted (Make w) = AreInBounds w.budget w.spacing
+IsAccepted (Check w) = AreInBounds w.budget w.spacing

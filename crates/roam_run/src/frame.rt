@@ -1,8 +1,7 @@
 //! A frame: its mesh, and then its line of the report.
 
-ghost use Rattle.std.specs.Prelude.{◌≡◌, true, ◌<◌, ◌≤◌, ◌+◌, false, [], length, OnOk, OnErr};
+ghost use Rattle.std.specs.Prelude.{◌≡◌, true, ◌<◌, ◌≤◌, false, length, OnOk, OnErr};
 ghost use Rattle.roam_edge.specs.declared.mesh_sink.TheConstants.{LONGEST_PREFIX, GREATEST_NUMBER};
-ghost use Rattle.roam_script.specs.declared.limits.TheConstants.{MOST_LINES, MOST_FRAMES};
 ghost use Rattle.run_laws.specs.Act.{told, Stands, IsCutShort};
 ghost use Rattle.run_laws.specs.Cause.{WritesHaveCause};
 ghost use Rattle.run_laws.specs.Words.{AsMeshes};
@@ -10,85 +9,46 @@ ghost use Rattle.run_laws.specs.Outcome.{picture_acts};
 ghost use Rattle.mesh_defs.specs.ClosedSet.{IsClosed, among};
 ghost use Rattle.roam_mesh.specs.Mesh.{members_of};
 ghost use Rattle.roam_run.specs.NoteSeen.{picture_seen, leaves_seen, IsNoted};
-ghost use Rattle.roam_run.specs.StageView.{IsStage};
-ghost use Rattle.roam_run.specs.Taking.{TakesFrame};
 ghost use Rattle.roam_run.specs.ShowView.{show_seen, IsShowing, is_strip};
 
 use crate::report::frame_report;
 use crate::showing::Showing;
 use crate::shows::{write_measure, write_strip};
-use crate::stage::Stage;
+use bintree_addr::Tri;
 use frame_loop::{Engine, FrameNote};
 use obj_write::write_mesh;
 use roam_edge::{Failed, MeshSink, Sink};
 
-/// Makes the frame of a line, and shows it.
-pub(crate) fn take_frame<M: MeshSink, R: Sink>(
+/// Shows the frame that an engine made last, of which this is the note. A strip is put to the front of the room.
+pub(crate) fn show_frame<M: MeshSink, R: Sink>(
     showing: Showing<'_>,
-    stage: &mut Stage,
-    meshes: &mut M,
-    report: &mut R,
-) -> Result<(), Failed>
-    requires idle { M.under_way meshes.old ≡ false }
-    requires showing { IsShowing showing }
-    requires lines { stage.old.lines < MOST_LINES }
-    requires frames { stage.old.engine.frames < MOST_FRAMES }
-    requires stage { IsStage showing stage.old }
-    ensures outcome { TakesFrame (told (M.meshes meshes.old) (R.contents report.old))
-        (told (M.meshes meshes.new) (R.contents report.new)) (show_seen showing.entry)
-        stage.old.engine stage.new.engine result }
-    ensures lines { stage.new.lines ≡ stage.old.lines + 1 }
-    ensures part { stage.new.part.items ≡ [] }
-    ensures room { length stage.new.room.items ≡ length stage.old.room.items }
-    ensures idle { OnOk result (M.under_way meshes.new ≡ false) }
-    ensures faults { WritesHaveCause (M.faults meshes.old) (M.faults meshes.new)
-        (R.faults report.old) (R.faults report.new) result }
-{
-    let note = stage.end_frame();
-    show_frame(showing, stage, &note, meshes, report)
-}
-
-/// Shows the frame that was made last, of which this is the note.
-fn show_frame<M: MeshSink, R: Sink>(
-    showing: Showing<'_>,
-    stage: &mut Stage,
+    engine: &Engine,
     note: &FrameNote,
+    room: &mut [Tri],
     meshes: &mut M,
     report: &mut R,
 ) -> Result<(), Failed>
     requires idle { M.under_way meshes.old ≡ false }
     requires showing { IsShowing showing }
-    requires number_low { 1 ≤ stage.old.engine.frames }
-    requires number_high { stage.old.engine.frames ≤ GREATEST_NUMBER }
-    requires noted { IsNoted stage.old.engine note.now }
-    requires closed { IsClosed stage.old.engine.state.grid.n (among (members_of stage.old.engine.mesh.pool)) }
-    requires room { is_strip showing ≡ true → length (leaves_seen stage.old.engine) ≤ length stage.old.room.items }
+    requires number_low { 1 ≤ engine.now.frames }
+    requires number_high { engine.now.frames ≤ GREATEST_NUMBER }
+    requires noted { IsNoted engine.now note.now }
+    requires closed { IsClosed engine.now.state.grid.n (among (members_of engine.now.mesh.pool)) }
+    requires room { is_strip showing ≡ true → length (leaves_seen engine.now) ≤ length room.old }
     ensures ok { OnOk result (Stands (told (M.meshes meshes.old) (R.contents report.old))
         (told (M.meshes meshes.new) (R.contents report.new))
-        (picture_acts (show_seen showing.entry) stage.old.engine.frames (picture_seen stage.old.engine note.now))) }
+        (picture_acts (show_seen showing.entry) engine.now.frames (picture_seen engine.now note.now))) }
     ensures idle { OnOk result (M.under_way meshes.new ≡ false) }
     ensures err { OnErr result (IsCutShort (told (M.meshes meshes.old) (R.contents report.old))
         (told (M.meshes meshes.new) (R.contents report.new))
-        (picture_acts (show_seen showing.entry) stage.old.engine.frames (picture_seen stage.old.engine note.now))) }
+        (picture_acts (show_seen showing.entry) engine.now.frames (picture_seen engine.now note.now))) }
     ensures faults { WritesHaveCause (M.faults meshes.old) (M.faults meshes.new)
         (R.faults report.old) (R.faults report.new) result }
-    ensures engine { stage.new.engine ≡ stage.old.engine }
-    ensures lines { stage.new.lines ≡ stage.old.lines }
-    ensures part { stage.new.part.items ≡ stage.old.part.items }
-    ensures room { length stage.new.room.items ≡ length stage.old.room.items }
 {
     match showing {
-        Showing::Meshes(prefix) => write_frame(prefix, &stage.engine, note, meshes, report),
-        Showing::Strips(prefix) => {
-            write_strip(
-                prefix,
-                &stage.engine,
-                stage.room.as_mut_slice(),
-                meshes,
-                report,
-            )
-        }
-        Showing::Measures => write_measure(&stage.engine, report),
+        Showing::Meshes(prefix) => write_frame(prefix, engine, note, meshes, report),
+        Showing::Strips(prefix) => write_strip(prefix, engine, room, meshes, report),
+        Showing::Measures => write_measure(engine, report),
     }
 }
 

@@ -9,10 +9,19 @@
 #![tactic(auto)]
 
 mod carry;
+mod cert_file;
+mod certify;
+#[cfg(test)]
+mod certify_tests;
+mod certify_words;
+mod checking;
+mod engine_frames;
 mod frame;
 mod generated;
 mod grid_file;
 mod info;
+mod least_frames;
+mod maker;
 mod report;
 mod run;
 mod script;
@@ -20,6 +29,7 @@ mod showing;
 mod shows;
 mod stage;
 mod text;
+mod verdict_report;
 mod words;
 
 pub use run::{Run, roam};

@@ -4,6 +4,7 @@ ghost use Rattle.std.specs.Prelude.{◌≡◌, ◌+◌, ◌≤◌, ◌++◌, len
 ghost use Rattle.arrayvec.specs.ArrayVec.{array_vec_len};
 ghost use Rattle.run_laws.specs.ReportText.{sums_line, blocked_text, grid_fault_text, grid_refusal, script_fault_text, line_refusal};
 ghost use Rattle.roam_run.specs.NoteSeen.{note_marks, note_line};
+ghost use Rattle.roam_run.specs.ShowView.{least_numbers};
 ghost use Rattle.roam_run.specs.StageView.{refusal};
 
 use crate::generated::Sums;
@@ -11,6 +12,7 @@ use crate::text::Text;
 use arrayvec::ArrayVec;
 use bintree_addr::Blocked;
 use frame_loop::{Engine, FrameNote};
+use least_mesh::LeastNote;
 use pgm_grid::PgmFault;
 use roam_num::{push_bytes, push_number};
 use roam_script::ScriptFault;
@@ -60,6 +62,24 @@ fn push_blocked(text: &mut Text, blocked: &Option<Blocked>)
             push_placed(text, b" needs ", u64::from(blocked.need));
         }
     }
+}
+
+/// The line of a frame of this number, whose mesh is the least of a tolerance.
+pub(crate) fn least_report(number: u32, note: &LeastNote) -> Text
+    ensures { result.items ≡ least_numbers number note.now.triangles note.now.vertices note.now.worst }
+{
+    let LeastNote {
+        triangles,
+        vertices,
+        worst,
+    } = *note;
+    let mut text = ArrayVec::new();
+    push_placed(&mut text, b"frame ", u64::from(number));
+    push_placed(&mut text, b" least ", u64::from(triangles));
+    push_placed(&mut text, b" vertices ", u64::from(vertices));
+    push_placed(&mut text, b" worst ", worst);
+    push_bytes(&mut text, b"\n");
+    text
 }
 
 /// The line of a generated run.

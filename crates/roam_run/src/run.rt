@@ -1,34 +1,37 @@
 //! The top call: a run from words to meshes and a report.
 
-ghost use Rattle.std.specs.Prelude.{◌≡◌, ◌≢◌, ◌+◌, ◌-◌, ◌^◌, ◌<◌, ◌≤◌, ◌⊎◌, ◌↔◌, ◌*◌, min, length, IfOk, ℕ, List, Option, map, option_map, Some, None, All, IsTrue, IsSome, is_some, true, false, if◌then◌else◌, string_bytes};
+ghost use Rattle.std.specs.Prelude.{◌≡◌, ◌≢◌, ◌+◌, ◌-◌, ◌^◌, ◌<◌, ◌≤◌, ◌⊎◌, ◌↔◌, ◌&&◌, ℕ, List, Option, map, option_map, [], ◌∷◌, Some, None, All, IsTrue, IsSome, is_some, true, false, if◌then◌else◌, string_bytes};
 ghost use Rattle.mesh_defs.specs.HeightField.{HeightField};
-ghost use Rattle.roam_run.specs.ShowView.{is_strip};
 ghost use Rattle.roam_edge.specs.MeshSink.{Mesh};
 ghost use Rattle.roam_edge.specs.Shelf.{NamedFile, bytes_of};
-ghost use Rattle.run_laws.specs.Act.{told};
+ghost use Rattle.run_laws.specs.Act.{ReportText, told};
 ghost use Rattle.run_laws.specs.Cause.{StatusHasCause, StatusWritesHaveCause};
-ghost use Rattle.run_laws.specs.Words.{Scripted, OnGrid, Generated, Frames, Facts, command_of, file_count};
+ghost use Rattle.run_laws.specs.Words.{Scripted, OnGrid, Generated, Frames, Facts, is_of_engine, command_of, file_count, Checking, AsMeshes};
+ghost use Rattle.obj_write.specs.Written.{Grows};
+ghost use Rattle.run_laws.specs.CutShort.{StandsInText, LeavesAtWriteFault};
 ghost use Rattle.run_laws.specs.Picture.{IsCertified};
 ghost use Rattle.run_laws.specs.Outcome.{Outcome, IsOutcome, HasOneOutcome, text_outcome};
 ghost use Rattle.run_laws.specs.Promise.{Seen, seen, AreFiles, EndsRight, HasEnded, OpensForStatus, LeavesAtReadFault, LeavesAtNoMemory, IsAccepted, is_complete, ends_script, may_end, leaves_engine};
-ghost use Rattle.run_laws.specs.Headline.{IsRunOf, KeepsGoodMeshes};
+ghost use Rattle.run_laws.specs.Headline.{IsRunOf, KeepsGoodMeshes, IsCheckOf, IsCertifiedMesh};
 ghost use Rattle.roam_run.specs.EngineSeen.{engine_seen};
 ghost use Rattle.roam_run.specs.Taking.{DoesAs};
 ghost use Rattle.roam_run.specs.Leaving.{CommandEnds, CommandReadFault, CommandNoMemory};
-ghost use Rattle.roam_run.specs.WordView.{scripted_seen, IsFrameCommand};
+ghost use Rattle.roam_run.specs.WordView.{show_for, scripted_seen, IsFrameCommand};
 
+use crate::certify::run_make;
+use crate::checking::run_check;
+use crate::engine_frames::EngineFrames;
 use crate::generated::sums_of;
 use crate::grid_file::{GridStop, read_grid};
 use crate::info::info_report;
+use crate::least_frames::LeastFrames;
 use crate::report::{grid_report, try_report};
 use crate::script::run_script;
-use crate::showing::Showing;
-use crate::stage::Stage;
+use crate::showing::Making;
 use crate::words::{Command, FrameWords, command_in};
-use bintree_addr::Tri;
 use frame_loop::Engine;
-use roam_edge::{MeshSink, NoMemory, Shelf, Sink};
-use run_laws::{Status, run_laws, state_laws};
+use roam_edge::{MeshSink, Shelf, Sink};
+use run_laws::{Status, cut_short_laws, run_laws, state_laws};
 use std::alloc::Global;
 use wedgie_tree::Wedges;
 
@@ -73,14 +76,14 @@ impl Run {
 /// Carries out the words of a command line, those after the program's name.
 ///
 /// `mesh` reads a grid and a script from the shelf, and writes a mesh for each frame line and a line of the
-/// report behind it; `strip` the same with the triangles in the order of their strip; `measure` a line alone, on how far
-/// the mesh is from the surface. `info` reads a grid and writes one line about it. `try` reads nothing: it makes a grid and
+/// report behind it; `strip` the same with the triangles in the order of their strip; `least` the same with the least mesh of a
+/// tolerance in place of the best one of a budget; `measure` a line alone, on how far the mesh is from the surface. `info` reads a grid and writes one line about it. `try` reads nothing: it makes a grid and
 /// a script from a level and a seed, and writes one line with the sums of their frames. Files are read and
 /// meshes written in pieces, a mesh is finished before its line is written, and the first call that fails
 /// ends the run.
 /// Cost (not proved): a few steps a byte of the files; for each frame that of `Engine::frame`, which is what has changed since the
-/// frame before; for every frame of `mesh` the writing of its mesh. Memory is taken for the heights and for the engine, all of it
-/// before a script is opened.
+/// frame before, or of `Least::frame`, two passes over the grid; for every frame of `mesh` the writing of its mesh. Memory is taken
+/// for the heights and for what makes the frames, all of it before a script is opened.
 pub fn roam<F: Shelf, M: MeshSink, R: Sink>(
     alloc: Global,
     words: &[String],
@@ -125,6 +128,17 @@ pub fn roam<F: Shelf, M: MeshSink, R: Sink>(
         (seen (F.files shelf.old) (F.rest shelf.old) (F.opens shelf.old) (F.ended shelf.old))
         (seen (F.files shelf.new) (F.rest shelf.new) (F.opens shelf.new) (F.ended shelf.new))
         (map string_bytes words.now) }
+    ensures write_fault { (files : List NamedFile) (run : Scripted) (grid : HeightField) (prefix : List ℕ) →
+        F.files shelf.old ≡ Some files → result.status ≡ Status.WriteFault →
+        IsRunOf (map string_bytes words.now) files run grid → run.show ≡ AsMeshes prefix →
+        LeavesAtWriteFault (told (M.meshes meshes.old) (R.contents report.old))
+        (told (M.meshes meshes.new) (R.contents report.new)) run grid (bytes_of files run.script) prefix }
+    ensures text_fault { (files : List NamedFile) (end : Outcome) (text : List ℕ) →
+        AreFiles (F.files shelf.old) (map string_bytes words.now) files → result.status ≡ Status.WriteFault →
+        HasOneOutcome (command_of (map string_bytes words.now)) →
+        IsOutcome (map string_bytes words.now) files end → end.acts ≡ ReportText text ∷ [] →
+        StandsInText (told (M.meshes meshes.old) (R.contents report.old))
+        (told (M.meshes meshes.new) (R.contents report.new)) [] text }
     ensures complete { (files : List NamedFile) → AreFiles (F.files shelf.old) (map string_bytes words.now) files →
         IsAccepted (map string_bytes words.now) files → F.faults shelf.new ≡ F.faults shelf.old →
         M.faults meshes.new ≡ M.faults meshes.old → R.faults report.new ≡ R.faults report.old →
@@ -133,6 +147,12 @@ pub fn roam<F: Shelf, M: MeshSink, R: Sink>(
     // What a frame's line tells of blocking is a certificate.
     ensures certificate { (files : List NamedFile) (end : Outcome) → IsTrue (is_some end.engine) →
         IsOutcome (map string_bytes words.now) files end → All IsCertified end.pictures }
+
+    // A mesh that is certified is optimal: no conforming list of triangles within the budget has a lower worst.
+    ensures certified { (files : List NamedFile) (c : Checking) (grid : HeightField) →
+        F.files shelf.old ≡ Some files → IsCheckOf (map string_bytes words.now) files c grid →
+        result.status ≡ Status.Done → (line : List ℕ) × Grows (R.contents report.old) (R.contents report.new) line
+        × IsCertifiedMesh c grid (bytes_of files c.mesh) line }
 
     // The engine that is left.
     ensures engine { IsSome result.engine ↔
@@ -160,6 +180,7 @@ pub fn roam<F: Shelf, M: MeshSink, R: Sink>(
     ensures idle { result.status ≢ Status.WriteFault → M.under_way meshes.new ≡ false }
 {
     run_laws();
+    cut_short_laws();
     match command_in(words) {
         None => Run {
             status: Status::Usage,
@@ -174,10 +195,24 @@ pub fn roam<F: Shelf, M: MeshSink, R: Sink>(
             }
         }
         Some(Command::Try { n, seed }) => run_try(alloc, n, seed, report),
+        Some(Command::Make(making)) => {
+            let status = run_make(alloc, &making, shelf, report);
+            Run {
+                status,
+                engine: None,
+            }
+        }
+        Some(Command::Check(checking)) => {
+            let status = run_check(alloc, &checking, shelf, report);
+            Run {
+                status,
+                engine: None,
+            }
+        }
     }
 }
 
-/// Carries out a command whose frames an engine makes.
+/// Carries out a command that makes the frames of a script.
 fn run_frames<F: Shelf, M: MeshSink, R: Sink>(
     alloc: Global,
     command: &FrameWords<'_>,
@@ -206,8 +241,10 @@ fn run_frames<F: Shelf, M: MeshSink, R: Sink>(
         (seen (F.files shelf.old) (F.rest shelf.old) (F.opens shelf.old) (F.ended shelf.old))
         (seen (F.files shelf.new) (F.rest shelf.new) (F.opens shelf.new) (F.ended shelf.new))
         (OnGrid command.now.grid.now (Frames (scripted_seen command.now))) }
-    ensures engine { IsSome result.engine ↔ IsTrue (ends_script result.status) }
+    ensures engine { IsSome result.engine ↔
+        IsTrue (is_of_engine (show_for command.now.making) && ends_script result.status) }
     ensures not_usage { result.status ≢ Status.Usage }
+    ensures not_rejected { result.status ≢ Status.Rejected }
     ensures faults { StatusHasCause (F.faults shelf.old) (F.faults shelf.new) (M.faults meshes.old)
         (M.faults meshes.new) (R.faults report.old) (R.faults report.new) result.status }
     ensures opens { OpensForStatus (F.opens shelf.old) (F.opens shelf.new) 2 result.status }
@@ -218,69 +255,45 @@ fn run_frames<F: Shelf, M: MeshSink, R: Sink>(
 {
     state_laws();
     match read_grid(alloc, command.grid, shelf) {
-        Ok(grid) => {
-            let Ok(engine) = Engine::make(alloc, grid, command.budget, command.spacing) else {
-                return Run {
-                    status: Status::NoMemory,
-                    engine: None,
+        Ok(grid) => match command.making {
+            Making::ByEngine(showing) => {
+                let made = EngineFrames::make(
+                    alloc,
+                    grid,
+                    showing,
+                    command.budget,
+                    command.spacing,
+                );
+                let Ok(mut frames) = made else {
+                    return Run::without_engine(Status::NoMemory);
                 };
-            };
-            let Ok(room) = strip_room(alloc, command.showing, &engine) else {
-                return Run {
-                    status: Status::NoMemory,
-                    engine: None,
+                let status = run_script(&mut frames, command.script, shelf, meshes, report);
+                Run::of_script(status, frames.engine)
+            }
+            Making::ByTolerance { prefix, tolerance } => {
+                let made = LeastFrames::make(
+                    alloc,
+                    grid,
+                    prefix,
+                    tolerance,
+                    command.budget,
+                    command.spacing,
+                );
+                let Ok(mut frames) = made else {
+                    return Run::without_engine(Status::NoMemory);
                 };
-            };
-            let mut stage = Stage::new(engine, room);
-            let status = run_script(
-                command.showing,
-                &mut stage,
-                command.script,
-                shelf,
-                meshes,
-                report,
-            );
-            Run::of_script(status, stage.engine)
-        }
-        Err(GridStop::NoMemory) => Run {
-            status: Status::NoMemory,
-            engine: None,
+                let status = run_script(&mut frames, command.script, shelf, meshes, report);
+                Run::without_engine(status)
+            }
         },
-        Err(GridStop::Failed) => Run {
-            status: Status::ReadFault,
-            engine: None,
-        },
+        Err(GridStop::NoMemory) => Run::without_engine(Status::NoMemory),
+        Err(GridStop::Failed) => Run::without_engine(Status::ReadFault),
         Err(GridStop::Refused(fault)) => {
             let text = grid_report(fault);
             let status = end_with_text(text.as_slice(), Status::GridRefused, report);
-            Run {
-                status,
-                engine: None,
-            }
+            Run::without_engine(status)
         }
     }
-}
-
-/// Room for the strip of any mesh of an engine, where frames are shown as strips.
-fn strip_room(alloc: Global, showing: Showing<'_>, engine: &Engine) -> Result<Vec<Tri>, NoMemory>
-    ensures { IfOk result (λ room. is_strip showing.entry ≡ true →
-        length room.items ≡ min engine.now.most (2 * 4 ^ engine.now.state.grid.n)) }
-{
-    match showing {
-        Showing::Strips(_) => {
-            let finest = finest_triangles(engine.grid().n());
-            Ok(vec![in alloc; Tri::default(); engine.most().min(finest) as usize]?)
-        }
-        Showing::Meshes(_) | Showing::Measures => Ok(Vec::new(alloc)),
-    }
-}
-
-/// How many finest triangles a grid has.
-fn finest_triangles(n: u32) -> u32
-    requires in_grid { n ≤ 11 }
-    ensures { result ≡ 2 * 4 ^ n }
-{
-    2 * 4u32.pow(n)
 }
 
 /// Carries out the command `info`.
@@ -301,7 +314,7 @@ fn run_info<F: Shelf, R: Sink>(alloc: Global, name: &str, shelf: &mut F, report:
         (seen (F.files shelf.old) (F.rest shelf.old) (F.opens shelf.old) (F.ended shelf.old))
         (seen (F.files shelf.new) (F.rest shelf.new) (F.opens shelf.new) (F.ended shelf.new))
         (OnGrid name.now Facts) }
-    ensures status { (result ≢ Status.Usage) × (result ≢ Status.ScriptRefused) }
+    ensures status { (result ≢ Status.Usage) × (result ≢ Status.ScriptRefused) × (result ≢ Status.Rejected) }
     ensures faults { StatusHasCause (F.faults shelf.old) (F.faults shelf.new) 0 0
         (R.faults report.old) (R.faults report.new) result }
     ensures opens { F.opens shelf.new ≡ F.opens shelf.old + 1 }
@@ -336,7 +349,8 @@ fn run_try<R: Sink>(alloc: Global, n: u32, seed: u32, report: &mut R) -> Run
         shelf shelf (Generated n seed) }
     ensures engine { IsSome result.engine ↔ IsTrue (ends_script result.status) }
     ensures status { (result.status ≢ Status.Usage) × (result.status ≢ Status.GridRefused)
-        × (result.status ≢ Status.ScriptRefused) × (result.status ≢ Status.ReadFault) }
+        × (result.status ≢ Status.ScriptRefused) × (result.status ≢ Status.ReadFault)
+        × (result.status ≢ Status.Rejected) }
     ensures faults { (shelf meshes : ℕ) → StatusHasCause shelf shelf meshes meshes
         (R.faults report.old) (R.faults report.new) result.status }
 {
@@ -350,7 +364,7 @@ fn run_try<R: Sink>(alloc: Global, n: u32, seed: u32, report: &mut R) -> Run
 }
 
 /// Writes the last text of a run, which ends with this status unless the write fails.
-fn end_with_text<R: Sink>(text: &[u8], status: Status, report: &mut R) -> Status
+pub(crate) fn end_with_text<R: Sink>(text: &[u8], status: Status, report: &mut R) -> Status
     requires { is_complete status ≡ true }
     ensures ends { (meshes : Option (List Mesh)) (files : ℕ) → DoesAs (told meshes (R.contents report.old))
         (told meshes (R.contents report.new)) (text_outcome text.now status files) result }

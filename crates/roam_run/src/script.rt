@@ -7,16 +7,15 @@ ghost use Rattle.roam_edge.specs.Sink.{Appends};
 ghost use Rattle.run_laws.specs.Cause.{StatusHasCause, StatusWritesHaveCause};
 ghost use Rattle.run_laws.specs.Promise.{seen, HasEnded};
 ghost use Rattle.run_laws.specs.Walk.{Walk};
+ghost use Rattle.run_laws.specs.Words.{Show};
 ghost use Rattle.run_laws.specs.Act.{Told, told};
 ghost use Rattle.run_laws.specs.ReportText.{line_refusal};
 ghost use Rattle.roam_run.specs.StageView.{IsStage, IsAt, Starts, Begins, refusal};
 ghost use Rattle.roam_run.specs.Taking.{NotFailed, StopsHaveCause, TakesBytes, status_for, IsScriptEnd, EndsScript, StopsReading};
-ghost use Rattle.roam_run.specs.ShowView.{show_seen, IsShowing};
 
-use crate::frame::take_frame;
 use crate::grid_file::PIECE;
+use crate::maker::FrameMaker;
 use crate::report::line_report;
-use crate::showing::Showing;
 use crate::stage::Stage;
 use roam_edge::{Failed, MeshSink, Shelf, Sink};
 use roam_script::{Line, ScriptFault, line_laws, read_line};
@@ -41,21 +40,21 @@ fn refuse<R: Sink>(number: u32, fault: ScriptFault, report: &mut R) -> Result<()
 }
 
 /// Carries out the line that has begun, which ends here, or refuses it.
-fn take_line<M: MeshSink, R: Sink>(
-    showing: Showing<'_>,
+fn take_line<K: FrameMaker, M: MeshSink, R: Sink>(
+    frames: &mut K,
     stage: &mut Stage,
     meshes: &mut M,
     report: &mut R,
 ) -> Result<(), Stop>
     requires idle { M.under_way meshes.old ≡ false }
-    requires showing { IsShowing showing }
-    requires stage { IsStage showing stage.old }
-    ensures outcome { (before : Told) (start : Walk) (read : List ℕ) →
-        Starts start →
-        IsAt before (told (M.meshes meshes.old) (R.contents report.old)) (show_seen showing.entry) start read stage.old →
-        TakesBytes before (told (M.meshes meshes.new) (R.contents report.new)) (show_seen showing.entry) start
+    requires ready { K.is_ready frames.old stage.old.lines }
+    requires stage { IsStage stage.old }
+    ensures outcome { (before : Told) (show : Show) (start : Walk) (read : List ℕ) → Starts start →
+        IsAt before (told (M.meshes meshes.old) (R.contents report.old)) show (K.follows frames.old) start read stage.old →
+        TakesBytes before (told (M.meshes meshes.new) (R.contents report.new)) show (K.follows frames.new) start
         (read ++ 10 ∷ []) stage.new result }
-    ensures stage { OnOk result (IsStage showing.entry stage.new) }
+    ensures ready { OnOk result (K.is_ready frames.new stage.new.lines) }
+    ensures stage { OnOk result (IsStage stage.new) }
     ensures lines { OnOk result (stage.new.lines ≡ stage.old.lines + 1) }
     ensures part { OnOk result (stage.new.part.items ≡ []) }
     ensures idle { NotFailed result → M.under_way meshes.new ≡ false }
@@ -64,13 +63,17 @@ fn take_line<M: MeshSink, R: Sink>(
 {
     state_laws();
     line_laws();
-    match read_line(stage.part.as_slice(), &stage.limits()) {
-        Ok(Line::Frame) => match take_frame(showing, stage, meshes, report) {
-            Ok(()) => Ok(()),
+    match read_line(stage.part.as_slice(), &frames.limits(stage.lines)) {
+        Ok(Line::Frame) => match frames.take_frame(meshes, report) {
+            Ok(()) => {
+                stage.end_line();
+                Ok(())
+            }
             Err(_) => Err(Stop::Failed),
         },
         Ok(line) => {
-            stage.end_line(line);
+            frames.carry_out(line);
+            stage.end_line();
             Ok(())
         }
         Err(fault) => match refuse(stage.lines + 1, fault, report) {
@@ -82,22 +85,22 @@ fn take_line<M: MeshSink, R: Sink>(
 
 /// Takes one byte of a script: the line that has begun goes on, or it ends and is carried out. A line
 /// that no further byte can mend is refused at once.
-fn take_byte<M: MeshSink, R: Sink>(
-    showing: Showing<'_>,
+fn take_byte<K: FrameMaker, M: MeshSink, R: Sink>(
+    frames: &mut K,
     stage: &mut Stage,
     byte: u8,
     meshes: &mut M,
     report: &mut R,
 ) -> Result<(), Stop>
     requires idle { M.under_way meshes.old ≡ false }
-    requires showing { IsShowing showing }
-    requires stage { IsStage showing stage.old }
-    ensures outcome { (before : Told) (start : Walk) (read : List ℕ) →
-        Starts start →
-        IsAt before (told (M.meshes meshes.old) (R.contents report.old)) (show_seen showing.entry) start read stage.old →
-        TakesBytes before (told (M.meshes meshes.new) (R.contents report.new)) (show_seen showing.entry) start
+    requires ready { K.is_ready frames.old stage.old.lines }
+    requires stage { IsStage stage.old }
+    ensures outcome { (before : Told) (show : Show) (start : Walk) (read : List ℕ) → Starts start →
+        IsAt before (told (M.meshes meshes.old) (R.contents report.old)) show (K.follows frames.old) start read stage.old →
+        TakesBytes before (told (M.meshes meshes.new) (R.contents report.new)) show (K.follows frames.new) start
         (read ++ byte ∷ []) stage.new result }
-    ensures stage { OnOk result (IsStage showing.entry stage.new) }
+    ensures ready { OnOk result (K.is_ready frames.new stage.new.lines) }
+    ensures stage { OnOk result (IsStage stage.new) }
     ensures longer { OnOk result (201 * stage.old.lines + length stage.old.part.items + 1
         ≤ 201 * stage.new.lines + length stage.new.part.items) }
     ensures idle { NotFailed result → M.under_way meshes.new ≡ false }
@@ -105,7 +108,7 @@ fn take_byte<M: MeshSink, R: Sink>(
         (R.faults report.old) (R.faults report.new) result }
 {
     if byte == b'\n' {
-        return take_line(showing, stage, meshes, report);
+        return take_line(frames, stage, meshes, report);
     }
     match stage.settled_fault() {
         Some(fault) => match refuse(stage.lines + 1, fault, report) {
@@ -120,22 +123,22 @@ fn take_byte<M: MeshSink, R: Sink>(
 }
 
 /// Takes a piece of a script.
-fn take_piece<M: MeshSink, R: Sink>(
-    showing: Showing<'_>,
+fn take_piece<K: FrameMaker, M: MeshSink, R: Sink>(
+    frames: &mut K,
     stage: &mut Stage,
     piece: &[u8],
     meshes: &mut M,
     report: &mut R,
 ) -> Result<(), Stop>
     requires idle { M.under_way meshes.old ≡ false }
-    requires showing { IsShowing showing }
-    requires stage { IsStage showing stage.old }
-    ensures outcome { (before : Told) (start : Walk) (read : List ℕ) →
-        Starts start →
-        IsAt before (told (M.meshes meshes.old) (R.contents report.old)) (show_seen showing.entry) start read stage.old →
-        TakesBytes before (told (M.meshes meshes.new) (R.contents report.new)) (show_seen showing.entry) start
+    requires ready { K.is_ready frames.old stage.old.lines }
+    requires stage { IsStage stage.old }
+    ensures outcome { (before : Told) (show : Show) (start : Walk) (read : List ℕ) → Starts start →
+        IsAt before (told (M.meshes meshes.old) (R.contents report.old)) show (K.follows frames.old) start read stage.old →
+        TakesBytes before (told (M.meshes meshes.new) (R.contents report.new)) show (K.follows frames.new) start
         (read ++ piece.now) stage.new result }
-    ensures stage { OnOk result (IsStage showing.entry stage.new) }
+    ensures ready { OnOk result (K.is_ready frames.new stage.new.lines) }
+    ensures stage { OnOk result (IsStage stage.new) }
     ensures longer { OnOk result (201 * stage.old.lines + length stage.old.part.items + length piece.now
         ≤ 201 * stage.new.lines + length stage.new.part.items) }
     ensures idle { NotFailed result → M.under_way meshes.new ≡ false }
@@ -143,7 +146,7 @@ fn take_piece<M: MeshSink, R: Sink>(
         (R.faults report.old) (R.faults report.new) result }
 {
     for byte in piece {
-        take_byte(showing, stage, *byte, meshes, report)?;
+        take_byte(frames, stage, *byte, meshes, report)?;
     }
     Ok(())
 }
@@ -159,19 +162,18 @@ fn status_of(stop: Stop) -> Status
 }
 
 /// Ends a script: bytes after the last LF are a line too.
-fn end_script<M: MeshSink, R: Sink>(
-    showing: Showing<'_>,
+fn end_script<K: FrameMaker, M: MeshSink, R: Sink>(
+    frames: &mut K,
     stage: &mut Stage,
     meshes: &mut M,
     report: &mut R,
 ) -> Status
     requires idle { M.under_way meshes.old ≡ false }
-    requires showing { IsShowing showing }
-    requires stage { IsStage showing stage.old }
-    ensures ends { (before : Told) (start : Walk) (read : List ℕ) → Starts start →
-        IsAt before (told (M.meshes meshes.old) (R.contents report.old)) (show_seen showing.entry) start read stage.old →
-        EndsScript before (told (M.meshes meshes.new) (R.contents report.new)) (show_seen showing.entry) start read
-        stage.new.engine result }
+    requires ready { K.is_ready frames.old stage.old.lines }
+    requires stage { IsStage stage.old }
+    ensures ends { (before : Told) (show : Show) (start : Walk) (read : List ℕ) → Starts start →
+        IsAt before (told (M.meshes meshes.old) (R.contents report.old)) show (K.follows frames.old) start read stage.old →
+        EndsScript before (told (M.meshes meshes.new) (R.contents report.new)) show (K.follows frames.new) start read result }
     ensures status { IsScriptEnd result }
     ensures idle { result ≢ Status.WriteFault → M.under_way meshes.new ≡ false }
     ensures faults { StatusWritesHaveCause (M.faults meshes.old) (M.faults meshes.new)
@@ -180,33 +182,31 @@ fn end_script<M: MeshSink, R: Sink>(
     if stage.part.is_empty() {
         return Status::Done;
     }
-    match take_line(showing, stage, meshes, report) {
+    match take_line(frames, stage, meshes, report) {
         Ok(()) => Status::Done,
         Err(stop) => status_of(stop),
     }
 }
 
 /// Reads the script of this name and carries out its lines, each whole line before the next read.
-pub(crate) fn run_script<F: Shelf, M: MeshSink, R: Sink>(
-    showing: Showing<'_>,
-    stage: &mut Stage,
+pub(crate) fn run_script<K: FrameMaker, F: Shelf, M: MeshSink, R: Sink>(
+    frames: &mut K,
     name: &str,
     shelf: &mut F,
     meshes: &mut M,
     report: &mut R,
 ) -> Status
     requires idle { M.under_way meshes.old ≡ false }
-    requires showing { IsShowing showing }
-    requires stage { IsStage showing stage.old }
-    ensures ends { (start : Walk) → Begins start stage.old → (files : List NamedFile) →
-        F.files shelf.old ≡ Some files → result ≢ Status.ReadFault →
+    requires ready { K.is_ready frames.old 0 }
+    ensures ends { (show : Show) (start : Walk) → Begins show (K.follows frames.old) start →
+        (files : List NamedFile) → F.files shelf.old ≡ Some files → result ≢ Status.ReadFault →
         EndsScript (told (M.meshes meshes.old) (R.contents report.old))
-        (told (M.meshes meshes.new) (R.contents report.new)) (show_seen showing.entry) start
-        (bytes_of files name.now) stage.new.engine result }
-    ensures read_fault { result ≡ Status.ReadFault → (start : Walk) → Begins start stage.old →
-        (files : List NamedFile) → F.files shelf.old ≡ Some files →
+        (told (M.meshes meshes.new) (R.contents report.new)) show (K.follows frames.new) start
+        (bytes_of files name.now) result }
+    ensures read_fault { result ≡ Status.ReadFault → (show : Show) (start : Walk) →
+        Begins show (K.follows frames.old) start → (files : List NamedFile) → F.files shelf.old ≡ Some files →
         StopsReading (told (M.meshes meshes.old) (R.contents report.old))
-        (told (M.meshes meshes.new) (R.contents report.new)) (show_seen showing.entry) start
+        (told (M.meshes meshes.new) (R.contents report.new)) show start
         (bytes_of files name.now) (F.rest shelf.new) (F.ended shelf.new) }
     ensures status { (result ≡ Status.ReadFault) ⊎ IsScriptEnd result }
     ensures done { result ≡ Status.Done → HasEnded (seen (F.files shelf.new) (F.rest shelf.new)
@@ -220,15 +220,16 @@ pub(crate) fn run_script<F: Shelf, M: MeshSink, R: Sink>(
     let Ok(()) = shelf.open_named(name) else {
         return Status::ReadFault;
     };
+    let mut stage = Stage::new();
     let mut buffer = [0; PIECE];
     'pieces: loop {
         let Ok(count) = shelf.read(&mut buffer) else {
             return Status::ReadFault;
         };
         if count == 0 {
-            return end_script(showing, stage, meshes, report);
+            return end_script(frames, &mut stage, meshes, report);
         }
-        if let Err(stop) = take_piece(showing, stage, &buffer[..count], meshes, report) {
+        if let Err(stop) = take_piece(frames, &mut stage, &buffer[..count], meshes, report) {
             return status_of(stop);
         }
     }

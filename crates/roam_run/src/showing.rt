@@ -1,4 +1,4 @@
-//! How the frames of an engine are shown.
+//! What makes the frames of a script, and how they are shown.
 
 /// How the frames of an engine are shown.
 #[derive(Clone, Copy)]
@@ -9,4 +9,13 @@ pub(crate) enum Showing<'a> {
     Strips(&'a str),
     /// By how far the meshes are from the surface, without a mesh.
     Measures,
+}
+
+/// What makes the frames of a script.
+#[derive(Clone, Copy)]
+pub(crate) enum Making<'a> {
+    /// An engine, whose frames are shown so.
+    ByEngine(Showing<'a>),
+    /// The least meshes of a tolerance, whose names begin with the prefix.
+    ByTolerance { prefix: &'a str, tolerance: u64 },
 }

@@ -1,10 +1,10 @@
 use Rattle.std.proofs.Common.{◌≡◌, ℕ, List, map, string_bytes, Some, None, refl, sym, ◌∙◌, ap, arith}
-use Rattle.run_laws.specs.Words.{Command, OnGrid, Generated, Frames, Facts, command_of}
+use Rattle.run_laws.specs.Words.{Command, OnGrid, Generated, Frames, Facts, Make, Check, command_of}
 use Rattle.run_laws.specs.declared.status.Status.TheVariants.{Usage}
 use Rattle.run_laws.specs.Promise.{seen}
+use Rattle.roam_run.specs.CertifyView.{making_seen, checking_seen}
 use Rattle.roam_run.specs.WordView.{scripted_seen, command_seen}
-use Rattle.roam_run.proofs.TopLemmas.{told-files, usage-ends, usage-engine, words-end, words-engine, words-left, words-read_fault, words-no_memory, not-read, not-write, write-cause, accepted-done}
-use Rattle.roam_run.proofs.ShowingLemmas.{frames-left}
+use Rattle.roam_run.proofs.TopLemmas.{told-files, usage-ends, usage-engine, words-end, words-engine, words-left, words-read_fault, words-no_memory, not-read, not-write, write-cause, accepted-done, text-cut}
 use Rattle.roam_run.proofs.run.roam.Goals as goal
 
 pub returns-in-None-clause-outcome : goal.returns-in-None-clause-outcome
@@ -134,7 +134,7 @@ returns-in-Some-Frames-clause-engine g c =
     let command : Command = OnGrid c.in-Some-Frames.command.grid.now (Frames (scripted_seen c.in-Some-Frames.command)) in
     let is_command : command_of words ≡ Some command =
     sym c.in-Some-Frames.ensures.value ∙ ap (λ command. Some (command_seen command)) c.in-Some-Frames.field-0-is in
-    words-left words (Some command) _ _ is_command (frames-left c.in-Some-Frames.command.showing _ c.run_frames.result.status c.run_frames.ensures.engine)
+    words-left words (Some command) _ _ is_command c.run_frames.ensures.engine
 
 pub returns-in-Some-Frames-clause-engine_end : goal.returns-in-Some-Frames-clause-engine_end
 returns-in-Some-Frames-clause-engine_end g c files end are is_outcome complete =
@@ -142,7 +142,7 @@ returns-in-Some-Frames-clause-engine_end g c files end are is_outcome complete =
     let command : Command = OnGrid c.in-Some-Frames.command.grid.now (Frames (scripted_seen c.in-Some-Frames.command)) in
     let is_command : command_of words ≡ Some command =
     sym c.in-Some-Frames.ensures.value ∙ ap (λ command. Some (command_seen command)) c.in-Some-Frames.field-0-is in
-    words-engine _ _ _ _ words command is_command c.run_laws.ensures.one_outcome tt files _ _
+    words-engine _ _ _ _ words command is_command c.run_laws.ensures.one_engine files _ _
     (c.run_frames.ensures.outcome files (told-files _ words files _ _ is_command are)) end is_outcome complete
 
 pub returns-in-Some-Info-clause-engine : goal.returns-in-Some-Info-clause-engine
@@ -159,7 +159,7 @@ returns-in-Some-Info-clause-engine_end g c files end are is_outcome complete =
     let command : Command = OnGrid c.in-Some-Info.grid.now Facts in
     let is_command : command_of words ≡ Some command =
     sym c.in-Some-Info.ensures.value ∙ ap (λ command. Some (command_seen command)) c.in-Some-Info.field-0-is in
-    words-engine _ _ _ _ words command is_command c.run_laws.ensures.one_outcome tt files _ _
+    words-engine _ _ _ _ words command is_command c.run_laws.ensures.one_engine files _ _
     (c.run_info-status.ensures.outcome (g.M.MeshSink.meshes c.args.meshes.now) files (told-files _ words files _ _ is_command are)) end is_outcome complete
 
 pub returns-in-Some-Try-clause-engine : goal.returns-in-Some-Try-clause-engine
@@ -176,5 +176,201 @@ returns-in-Some-Try-clause-engine_end g c files end are is_outcome complete =
     let command : Command = Generated c.in-Some-Try.n c.in-Some-Try.seed in
     let is_command : command_of words ≡ Some command =
     sym c.in-Some-Try.ensures.value ∙ ap (λ command. Some (command_seen command)) c.in-Some-Try.field-0-is in
-    words-engine _ _ _ _ words command is_command c.run_laws.ensures.one_outcome tt files _ _
+    words-engine _ _ _ _ words command is_command c.run_laws.ensures.one_engine files _ _
     (c.run_try.ensures.outcome (g.M.MeshSink.meshes c.args.meshes.now) (seen (g.F.Shelf.files c.args.shelf.now) (g.F.Shelf.rest c.args.shelf.now) (g.F.Shelf.opens c.args.shelf.now) (g.F.Shelf.ended c.args.shelf.now)) files) end is_outcome complete
+
+pub returns-in-Some-Make-clause-outcome : goal.returns-in-Some-Make-clause-outcome
+returns-in-Some-Make-clause-outcome g c files are =
+    let words : List (List ℕ) = map string_bytes c.args.words.now in
+    let command : Command = OnGrid c.in-Some-Make.making.grid.now (Make (making_seen c.in-Some-Make.making)) in
+    let is_command : command_of words ≡ Some command =
+    sym c.in-Some-Make.ensures.value ∙ ap (λ command. Some (command_seen command)) c.in-Some-Make.field-0-is in
+    words-end _ _ _ _ words command is_command files _ _
+    (c.run_make-status.ensures.outcome (g.M.MeshSink.meshes c.args.meshes.now) files (told-files _ words files _ _ is_command are))
+
+pub returns-in-Some-Make-clause-read_fault : goal.returns-in-Some-Make-clause-read_fault
+returns-in-Some-Make-clause-read_fault g c e =
+    let words : List (List ℕ) = map string_bytes c.args.words.now in
+    let command : Command = OnGrid c.in-Some-Make.making.grid.now (Make (making_seen c.in-Some-Make.making)) in
+    let is_command : command_of words ≡ Some command =
+    sym c.in-Some-Make.ensures.value ∙ ap (λ command. Some (command_seen command)) c.in-Some-Make.field-0-is in
+    words-read_fault _ _ _ _ words command is_command (c.run_make-status.ensures.read_fault e (g.M.MeshSink.meshes c.args.meshes.now))
+
+pub returns-in-Some-Make-clause-no_memory : goal.returns-in-Some-Make-clause-no_memory
+returns-in-Some-Make-clause-no_memory g c e =
+    let words : List (List ℕ) = map string_bytes c.args.words.now in
+    let command : Command = OnGrid c.in-Some-Make.making.grid.now (Make (making_seen c.in-Some-Make.making)) in
+    let is_command : command_of words ≡ Some command =
+    sym c.in-Some-Make.ensures.value ∙ ap (λ command. Some (command_seen command)) c.in-Some-Make.field-0-is in
+    words-no_memory _ _ _ _ words command is_command (c.run_make-status.ensures.no_memory e (g.M.MeshSink.meshes c.args.meshes.now))
+
+pub returns-in-Some-Make-clause-complete : goal.returns-in-Some-Make-clause-complete
+returns-in-Some-Make-clause-complete g c files are accepted shelf_same meshes_same report_same =
+    let words : List (List ℕ) = map string_bytes c.args.words.now in
+    let cause = c.run_make-status.ensures.faults in
+    accepted-done c.run_laws.ensures.done _ _ _ _ words files accepted _ (returns-in-Some-Make-clause-outcome g c files are)
+    (not-read _ _ _ _ _ _ _ c.requires.shelf_faults shelf_same cause)
+    (not-write _ _ 0 0 _ _ _ (omega arith) c.requires.report_faults refl report_same cause)
+
+pub returns-in-Some-Make-clause-certificate : goal.returns-in-Some-Make-clause-certificate
+returns-in-Some-Make-clause-certificate g c files end = c.run_laws.ensures.certificate (map string_bytes c.args.words.now) files end
+
+pub returns-in-Some-Make-clause-engine : goal.returns-in-Some-Make-clause-engine
+returns-in-Some-Make-clause-engine g c =
+    let words : List (List ℕ) = map string_bytes c.args.words.now in
+    let command : Command = OnGrid c.in-Some-Make.making.grid.now (Make (making_seen c.in-Some-Make.making)) in
+    let is_command : command_of words ≡ Some command =
+    sym c.in-Some-Make.ensures.value ∙ ap (λ command. Some (command_seen command)) c.in-Some-Make.field-0-is in
+    words-left words (Some command) None c.run_make-status.result is_command ((λ e. e), (λ e. e))
+
+pub returns-in-Some-Make-clause-engine_end : goal.returns-in-Some-Make-clause-engine_end
+returns-in-Some-Make-clause-engine_end g c files end are is_outcome complete =
+    let words : List (List ℕ) = map string_bytes c.args.words.now in
+    let command : Command = OnGrid c.in-Some-Make.making.grid.now (Make (making_seen c.in-Some-Make.making)) in
+    let is_command : command_of words ≡ Some command =
+    sym c.in-Some-Make.ensures.value ∙ ap (λ command. Some (command_seen command)) c.in-Some-Make.field-0-is in
+    words-engine _ _ _ _ words command is_command c.run_laws.ensures.one_engine files _ _
+    (c.run_make-status.ensures.outcome (g.M.MeshSink.meshes c.args.meshes.now) files (told-files _ words files _ _ is_command are)) end is_outcome complete
+
+pub returns-in-Some-Check-clause-outcome : goal.returns-in-Some-Check-clause-outcome
+returns-in-Some-Check-clause-outcome g c files are =
+    let words : List (List ℕ) = map string_bytes c.args.words.now in
+    let command : Command = OnGrid c.in-Some-Check.checking.grid.now (Check (checking_seen c.in-Some-Check.checking)) in
+    let is_command : command_of words ≡ Some command =
+    sym c.in-Some-Check.ensures.value ∙ ap (λ command. Some (command_seen command)) c.in-Some-Check.field-0-is in
+    words-end _ _ _ _ words command is_command files _ _
+    (c.run_check-status.ensures.outcome (g.M.MeshSink.meshes c.args.meshes.now) files (told-files _ words files _ _ is_command are))
+
+pub returns-in-Some-Check-clause-read_fault : goal.returns-in-Some-Check-clause-read_fault
+returns-in-Some-Check-clause-read_fault g c e =
+    let words : List (List ℕ) = map string_bytes c.args.words.now in
+    let command : Command = OnGrid c.in-Some-Check.checking.grid.now (Check (checking_seen c.in-Some-Check.checking)) in
+    let is_command : command_of words ≡ Some command =
+    sym c.in-Some-Check.ensures.value ∙ ap (λ command. Some (command_seen command)) c.in-Some-Check.field-0-is in
+    words-read_fault _ _ _ _ words command is_command (c.run_check-status.ensures.read_fault e (g.M.MeshSink.meshes c.args.meshes.now))
+
+pub returns-in-Some-Check-clause-no_memory : goal.returns-in-Some-Check-clause-no_memory
+returns-in-Some-Check-clause-no_memory g c e =
+    let words : List (List ℕ) = map string_bytes c.args.words.now in
+    let command : Command = OnGrid c.in-Some-Check.checking.grid.now (Check (checking_seen c.in-Some-Check.checking)) in
+    let is_command : command_of words ≡ Some command =
+    sym c.in-Some-Check.ensures.value ∙ ap (λ command. Some (command_seen command)) c.in-Some-Check.field-0-is in
+    words-no_memory _ _ _ _ words command is_command (c.run_check-status.ensures.no_memory e (g.M.MeshSink.meshes c.args.meshes.now))
+
+pub returns-in-Some-Check-clause-complete : goal.returns-in-Some-Check-clause-complete
+returns-in-Some-Check-clause-complete g c files are accepted shelf_same meshes_same report_same =
+    let words : List (List ℕ) = map string_bytes c.args.words.now in
+    let cause = c.run_check-status.ensures.faults in
+    accepted-done c.run_laws.ensures.done _ _ _ _ words files accepted _ (returns-in-Some-Check-clause-outcome g c files are)
+    (not-read _ _ _ _ _ _ _ c.requires.shelf_faults shelf_same cause)
+    (not-write _ _ 0 0 _ _ _ (omega arith) c.requires.report_faults refl report_same cause)
+
+pub returns-in-Some-Check-clause-certificate : goal.returns-in-Some-Check-clause-certificate
+returns-in-Some-Check-clause-certificate g c files end = c.run_laws.ensures.certificate (map string_bytes c.args.words.now) files end
+
+pub returns-in-Some-Check-clause-engine : goal.returns-in-Some-Check-clause-engine
+returns-in-Some-Check-clause-engine g c =
+    let words : List (List ℕ) = map string_bytes c.args.words.now in
+    let command : Command = OnGrid c.in-Some-Check.checking.grid.now (Check (checking_seen c.in-Some-Check.checking)) in
+    let is_command : command_of words ≡ Some command =
+    sym c.in-Some-Check.ensures.value ∙ ap (λ command. Some (command_seen command)) c.in-Some-Check.field-0-is in
+    words-left words (Some command) None c.run_check-status.result is_command ((λ e. e), (λ e. e))
+
+pub returns-in-Some-Check-clause-engine_end : goal.returns-in-Some-Check-clause-engine_end
+returns-in-Some-Check-clause-engine_end g c files end are is_outcome complete =
+    let words : List (List ℕ) = map string_bytes c.args.words.now in
+    let command : Command = OnGrid c.in-Some-Check.checking.grid.now (Check (checking_seen c.in-Some-Check.checking)) in
+    let is_command : command_of words ≡ Some command =
+    sym c.in-Some-Check.ensures.value ∙ ap (λ command. Some (command_seen command)) c.in-Some-Check.field-0-is in
+    words-engine _ _ _ _ words command is_command c.run_laws.ensures.one_engine files _ _
+    (c.run_check-status.ensures.outcome (g.M.MeshSink.meshes c.args.meshes.now) files (told-files _ words files _ _ is_command are)) end is_outcome complete
+
+pub returns-in-None-clause-certified : goal.returns-in-None-clause-certified
+returns-in-None-clause-certified g c files check grid told_files is_check done =
+    c.run_laws.ensures.certified (map string_bytes c.args.words.now) files check grid _ _ _ _ _ is_check
+    (returns-in-None-clause-outcome g c files (λ some. told_files)) done
+
+pub returns-in-Some-Frames-clause-certified : goal.returns-in-Some-Frames-clause-certified
+returns-in-Some-Frames-clause-certified g c files check grid told_files is_check done =
+    c.run_laws.ensures.certified (map string_bytes c.args.words.now) files check grid _ _ _ _ _ is_check
+    (returns-in-Some-Frames-clause-outcome g c files (λ some. told_files)) done
+
+pub returns-in-Some-Info-clause-certified : goal.returns-in-Some-Info-clause-certified
+returns-in-Some-Info-clause-certified g c files check grid told_files is_check done =
+    c.run_laws.ensures.certified (map string_bytes c.args.words.now) files check grid _ _ _ _ _ is_check
+    (returns-in-Some-Info-clause-outcome g c files (λ some. told_files)) done
+
+pub returns-in-Some-Try-clause-certified : goal.returns-in-Some-Try-clause-certified
+returns-in-Some-Try-clause-certified g c files check grid told_files is_check done =
+    c.run_laws.ensures.certified (map string_bytes c.args.words.now) files check grid _ _ _ _ _ is_check
+    (returns-in-Some-Try-clause-outcome g c files (λ some. told_files)) done
+
+pub returns-in-Some-Make-clause-certified : goal.returns-in-Some-Make-clause-certified
+returns-in-Some-Make-clause-certified g c files check grid told_files is_check done =
+    c.run_laws.ensures.certified (map string_bytes c.args.words.now) files check grid _ _ _ _ _ is_check
+    (returns-in-Some-Make-clause-outcome g c files (λ some. told_files)) done
+
+pub returns-in-Some-Check-clause-certified : goal.returns-in-Some-Check-clause-certified
+returns-in-Some-Check-clause-certified g c files check grid told_files is_check done =
+    c.run_laws.ensures.certified (map string_bytes c.args.words.now) files check grid _ _ _ _ _ is_check
+    (returns-in-Some-Check-clause-outcome g c files (λ some. told_files)) done
+
+pub returns-in-None-clause-write_fault : goal.returns-in-None-clause-write_fault
+returns-in-None-clause-write_fault g c files run grid prefix is_told failed is_run shown =
+    c.cut_short_laws.ensures.write_faults _ _ _ _ (map string_bytes c.args.words.now) files run grid prefix _
+    (returns-in-None-clause-outcome g c files (λ _. is_told)) failed is_run shown
+
+pub returns-in-None-clause-text_fault : goal.returns-in-None-clause-text_fault
+returns-in-None-clause-text_fault g c files end text are failed one outcome acts =
+    text-cut c.cut_short_laws.ensures.texts c.run_laws.ensures.one_outcome _ _ _ _ (map string_bytes c.args.words.now) files _
+    (returns-in-None-clause-outcome g c files are) failed one end text outcome acts
+
+pub returns-in-Some-Frames-clause-write_fault : goal.returns-in-Some-Frames-clause-write_fault
+returns-in-Some-Frames-clause-write_fault g c files run grid prefix is_told failed is_run shown =
+    c.cut_short_laws.ensures.write_faults _ _ _ _ (map string_bytes c.args.words.now) files run grid prefix _
+    (returns-in-Some-Frames-clause-outcome g c files (λ _. is_told)) failed is_run shown
+
+pub returns-in-Some-Frames-clause-text_fault : goal.returns-in-Some-Frames-clause-text_fault
+returns-in-Some-Frames-clause-text_fault g c files end text are failed one outcome acts =
+    text-cut c.cut_short_laws.ensures.texts c.run_laws.ensures.one_outcome _ _ _ _ (map string_bytes c.args.words.now) files _
+    (returns-in-Some-Frames-clause-outcome g c files are) failed one end text outcome acts
+
+pub returns-in-Some-Info-clause-write_fault : goal.returns-in-Some-Info-clause-write_fault
+returns-in-Some-Info-clause-write_fault g c files run grid prefix is_told failed is_run shown =
+    c.cut_short_laws.ensures.write_faults _ _ _ _ (map string_bytes c.args.words.now) files run grid prefix _
+    (returns-in-Some-Info-clause-outcome g c files (λ _. is_told)) failed is_run shown
+
+pub returns-in-Some-Info-clause-text_fault : goal.returns-in-Some-Info-clause-text_fault
+returns-in-Some-Info-clause-text_fault g c files end text are failed one outcome acts =
+    text-cut c.cut_short_laws.ensures.texts c.run_laws.ensures.one_outcome _ _ _ _ (map string_bytes c.args.words.now) files _
+    (returns-in-Some-Info-clause-outcome g c files are) failed one end text outcome acts
+
+pub returns-in-Some-Try-clause-write_fault : goal.returns-in-Some-Try-clause-write_fault
+returns-in-Some-Try-clause-write_fault g c files run grid prefix is_told failed is_run shown =
+    c.cut_short_laws.ensures.write_faults _ _ _ _ (map string_bytes c.args.words.now) files run grid prefix _
+    (returns-in-Some-Try-clause-outcome g c files (λ _. is_told)) failed is_run shown
+
+pub returns-in-Some-Try-clause-text_fault : goal.returns-in-Some-Try-clause-text_fault
+returns-in-Some-Try-clause-text_fault g c files end text are failed one outcome acts =
+    text-cut c.cut_short_laws.ensures.texts c.run_laws.ensures.one_outcome _ _ _ _ (map string_bytes c.args.words.now) files _
+    (returns-in-Some-Try-clause-outcome g c files are) failed one end text outcome acts
+
+pub returns-in-Some-Make-clause-write_fault : goal.returns-in-Some-Make-clause-write_fault
+returns-in-Some-Make-clause-write_fault g c files run grid prefix is_told failed is_run shown =
+    c.cut_short_laws.ensures.write_faults _ _ _ _ (map string_bytes c.args.words.now) files run grid prefix _
+    (returns-in-Some-Make-clause-outcome g c files (λ _. is_told)) failed is_run shown
+
+pub returns-in-Some-Make-clause-text_fault : goal.returns-in-Some-Make-clause-text_fault
+returns-in-Some-Make-clause-text_fault g c files end text are failed one outcome acts =
+    text-cut c.cut_short_laws.ensures.texts c.run_laws.ensures.one_outcome _ _ _ _ (map string_bytes c.args.words.now) files _
+    (returns-in-Some-Make-clause-outcome g c files are) failed one end text outcome acts
+
+pub returns-in-Some-Check-clause-write_fault : goal.returns-in-Some-Check-clause-write_fault
+returns-in-Some-Check-clause-write_fault g c files run grid prefix is_told failed is_run shown =
+    c.cut_short_laws.ensures.write_faults _ _ _ _ (map string_bytes c.args.words.now) files run grid prefix _
+    (returns-in-Some-Check-clause-outcome g c files (λ _. is_told)) failed is_run shown
+
+pub returns-in-Some-Check-clause-text_fault : goal.returns-in-Some-Check-clause-text_fault
+returns-in-Some-Check-clause-text_fault g c files end text are failed one outcome acts =
+    text-cut c.cut_short_laws.ensures.texts c.run_laws.ensures.one_outcome _ _ _ _ (map string_bytes c.args.words.now) files _
+    (returns-in-Some-Check-clause-outcome g c files are) failed one end text outcome acts

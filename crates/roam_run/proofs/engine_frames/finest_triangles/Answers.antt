@@ -1,6 +1,6 @@
 use Rattle.std.proofs.Common.{ℕ, ◌^◌, ◌≤◌, ◌<◌, arith}
 use Rattle.std.proofs.Math.Nat.{pow-le-pow_right}
-use Rattle.roam_run.proofs.run.finest_triangles.Goals as goal
+use Rattle.roam_run.proofs.engine_frames.finest_triangles.Goals as goal
 
 -- a power of 4 up to the eleventh
 within : (n : ℕ) → n ≤ 11 → 4 ^ n ≤ 4194304

@@ -1,0 +1,183 @@
+-- A certificate that is read from a shelf, byte by byte and piece by piece.
+use Rattle.std.proofs.Common.{◌≡◌, ◌≢◌, ℕ, ◌+◌, ◌<◌, ◌≤◌, Bool, true, false, List, [], ◌∷◌, ◌++◌, take, drop, length, Option, Some, None, Result, Ok, Err, IfOk, OnOk, refl, sym, ◌∙◌, ap, subst, arith, append_assoc, append-nil}
+use Rattle.mesh_defs.specs.BoundingBox.{CameraAt}
+use Rattle.roam_edge.specs.Shelf.{NamedFile, bytes_of}
+use Rattle.roam_script.specs.declared.limits.TheConstants.{MOST_LINE_BYTES}
+use Rattle.cert_text.specs.Certificate.{Certificate}
+use Rattle.cert_text.specs.CertReader.{ReadSoFar, Reading, nothing_read, cert_line_in}
+use Rattle.run_laws.specs.CertFile.{CertPlace, HasCertCome, cert_of, cert_in}
+use Rattle.run_laws.proofs.CertFileLemmas.{cert_place, cert-begin, cert-byte, cert-line, refused-line, refused-byte, cert-end, cert-last, refused-last}
+use Rattle.roam_run.specs.declared.cert_file.CertStage.{CertStage}
+use Rattle.roam_run.specs.declared.cert_file.CertStop.{CertStop}
+use Rattle.roam_run.specs.declared.cert_file.CertStop.TheVariants.{BadLine}
+use Rattle.roam_run.specs.CertStage.{place_seen, IsCounted, TakesCert, EndsCert, StopsCert}
+use Rattle.roam_run.proofs.EndLemmas.{file-cut}
+
+-- the refusal of a line, as an answer
+abbrev refused : ℕ → Result Certificate ℕ
+refused line = Err line
+
+abbrev stopped : CertStop → Result (Unit {0}) CertStop
+stopped stop = Err stop
+
+same-line : (line other : ℕ) → stopped (BadLine line) ≡ stopped (BadLine other) → line ≡ other
+same-line line other e = cc
+
+module _ (n : ℕ) (read : List ℕ) (old : CertStage) (come : HasCertCome n read (place_seen old)) where
+  -- the line that has begun ended
+  pub takes-line : (new : CertStage) (answer : Result (Unit {0}) CertStop)
+      → OnOk answer (cert_line_in n old.reader.read old.part.items ≡ Some new.reader.read) → OnOk answer (new.lines ≡ old.lines + 1) → OnOk answer (new.part.items ≡ [])
+      → ((line : ℕ) → answer ≡ Err (BadLine line) → cert_line_in n old.reader.read old.part.items ≡ None)
+      → ((line : ℕ) → answer ≡ Err (BadLine line) → line ≡ old.lines + 1) → TakesCert n (read ++ 10 ∷ []) new answer
+  takes-line new (Ok u) is lines part bad number =
+      let P : ℕ → Type 0 = λ k. HasCertCome n (read ++ 10 ∷ []) (cert_place new.reader.read k []) in
+      let Q : List ℕ → Type 0 = λ l. HasCertCome n (read ++ 10 ∷ []) (cert_place new.reader.read new.lines l) in
+      record { ok = subst Q (sym part) (subst P (sym lines) (cert-line n read (place_seen old) come new.reader.read is)); bad = λ line e. cc }
+  takes-line new (Err stop) is lines part bad number = record {
+    ok = tt;
+    bad = λ line e more. refused-line n read (place_seen old) come (bad line e) more ∙ ap refused (sym (number line e));
+  }
+
+  -- a byte is one too many
+  pub takes-long : (byte : ℕ) (new : CertStage) → byte ≢ 10 → MOST_LINE_BYTES ≤ length old.part.items
+      → TakesCert {T = Unit {0}} n (read ++ byte ∷ []) new (Err (BadLine (old.lines + 1)))
+  takes-long byte new other long = record {
+    ok = tt;
+    bad = λ line e more. refused-byte n read (place_seen old) come byte other long more ∙ ap refused (same-line (old.lines + 1) line e);
+  }
+
+  -- the line goes on by a byte
+  pub takes-on : (byte : ℕ) (new : CertStage) → byte ≢ 10 → length old.part.items < MOST_LINE_BYTES → new.reader ≡ old.reader → new.lines ≡ old.lines
+      → new.part.items ≡ old.part.items ++ byte ∷ [] → TakesCert {T = Unit {0}} n (read ++ byte ∷ []) new (Ok tt)
+  takes-on byte new other short reader lines part =
+      let P : ReadSoFar → Type 0 = λ r. HasCertCome n (read ++ byte ∷ []) (cert_place r old.lines (old.part.items ++ byte ∷ [])) in
+      let Q : ℕ → Type 0 = λ k. HasCertCome n (read ++ byte ∷ []) (cert_place new.reader.read k (old.part.items ++ byte ∷ [])) in
+      let R : List ℕ → Type 0 = λ l. HasCertCome n (read ++ byte ∷ []) (cert_place new.reader.read new.lines l) in
+      record {
+        ok = subst R (sym part) (subst Q (sym lines) (subst P (sym (ap (λ (r : Reading). r.read) reader)) (cert-byte n read (place_seen old) come byte other short)));
+        bad = λ line e. cc;
+      }
+
+  -- the file ended behind whole lines
+  pub ends-whole : (answer : Result Certificate CertStop) → old.part.items ≡ [] → IfOk answer (λ cert. cert_of old.reader.read ≡ Ok cert)
+      → ((line : ℕ) → answer ≡ Err (BadLine line) → cert_of old.reader.read ≡ Err line) → EndsCert n read answer
+  ends-whole (Ok cert) none ok bad = record { ok = cert-end n read (place_seen old) come none ∙ ok; bad = λ line e. cc }
+  ends-whole (Err stop) none ok bad = record { ok = tt; bad = λ line e. cert-end n read (place_seen old) come none ∙ bad line e }
+
+  -- the file ended in a line
+  pub ends-line : (next : ReadSoFar) (answer : Result Certificate CertStop) → old.part.items ≢ [] → cert_line_in n old.reader.read old.part.items ≡ Some next
+      → IfOk answer (λ cert. cert_of next ≡ Ok cert) → ((line : ℕ) → answer ≡ Err (BadLine line) → cert_of next ≡ Err line) → EndsCert n read answer
+  ends-line next (Ok cert) some is ok bad = record { ok = cert-last n read (place_seen old) come next some is ∙ ok; bad = λ line e. cc }
+  ends-line next (Err stop) some is ok bad = record { ok = tt; bad = λ line e. cert-last n read (place_seen old) come next some is ∙ bad line e }
+
+  -- the file ended in a line that is refused
+  pub ends-refused : (stop : CertStop) → old.part.items ≢ []
+      → ((line : ℕ) → stopped stop ≡ Err (BadLine line) → cert_line_in n old.reader.read old.part.items ≡ None)
+      → ((line : ℕ) → stopped stop ≡ Err (BadLine line) → line ≡ old.lines + 1) → EndsCert n read (Err stop)
+  ends-refused stop some bad number = record {
+    ok = tt;
+    bad = λ line e. refused-last n read (place_seen old) come some (bad line (again line e)) ∙ ap refused (sym (number line (again line e)));
+  }
+    where
+      again : (line : ℕ) → (let a : Result Certificate CertStop = Err stop in a) ≡ Err (BadLine line) → stopped stop ≡ Err (BadLine line)
+      again line e = cc
+
+-- what is refused with some bytes is refused with more
+pub takes-longer : (n : ℕ) (bytes tail whole : List ℕ) (old new : CertStage) (stop : CertStop) → whole ≡ bytes ++ tail → TakesCert {T = Unit {0}} n bytes old (Err stop)
+    → TakesCert {T = Unit {0}} n whole new (Err stop)
+takes-longer n bytes tail whole old new stop is takes = record {
+  ok = tt;
+  bad = λ line e more. ap (λ (l : List ℕ). cert_in n (l ++ more)) is ∙ (ap (cert_in n) (append_assoc bytes tail more) ∙ takes.bad line e (tail ++ more));
+}
+
+camera-once : (camera : Option CameraAt) → (elim camera as (λ _. ℕ) [ None ↦ 0 | Some seen_from ↦ 1 ]) ≤ 1
+camera-once None = omega arith
+camera-once (Some seen_from) = omega arith
+
+-- a certificate has no more lines than this
+pub lines-bound : (stage : CertStage) → IsCounted stage → stage.lines ≤ 2148577
+lines-bound stage counted =
+    let one = camera-once stage.reader.read.camera in
+    omega (arith, one, counted.counted, counted.few_leaves, counted.few_reasons)
+
+-- Some bytes of a certificate were read; where the shelf tells its files, they are the first of the named file, whose other bytes
+-- are unread.
+pub record IsReadingCert (n : ℕ) (files : Option (List NamedFile)) (rest : Option (List ℕ)) (name : List ℕ) (stage : CertStage) : Type 0 where
+  pub bytes : List ℕ
+  pub come : HasCertCome n bytes (place_seen stage)
+  pub told : (all : List NamedFile) → files ≡ Some all →
+      (unread : List ℕ) × (rest ≡ Some unread) × (bytes_of all name ≡ bytes ++ unread)
+
+-- nothing was read of a file that was just opened
+pub cert-starts : (n : ℕ) (files : Option (List NamedFile)) (rest : Option (List ℕ)) (name : List ℕ) (stage : CertStage) → place_seen stage ≡ cert_place nothing_read 0 []
+    → ((all : List NamedFile) → files ≡ Some all → rest ≡ Some (bytes_of all name)) → IsReadingCert n files rest name stage
+cert-starts n files rest name stage is chosen =
+    let P : CertPlace → Type 0 = λ p. HasCertCome n [] p in
+    record { bytes = []; come = subst P (sym is) (cert-begin n); told = λ all told. (bytes_of all name, chosen all told, refl) }
+
+module _ (n : ℕ) (files : Option (List NamedFile)) (rest : Option (List ℕ)) (name : List ℕ) (stage : CertStage) (reading : IsReadingCert n files rest name stage) where
+  -- a piece was read and taken
+  pub cert-more : (rest' : Option (List ℕ)) (piece : List ℕ) (count : ℕ) (next : CertStage) → HasCertCome n (reading.bytes ++ piece) (place_seen next)
+      → ((unread : List ℕ) → rest ≡ Some unread → rest' ≡ Some (drop count unread)) → ((unread : List ℕ) → rest ≡ Some unread → piece ≡ take count unread)
+      → IsReadingCert n files rest' name next
+  cert-more rest' piece count next come takes gives = record {
+    bytes = reading.bytes ++ piece;
+    come = come;
+    told = λ all told.
+        let here = reading.told all told in
+        (drop count here.0, takes here.0 here.1, file-cut (bytes_of all name) reading.bytes piece here.0 count here.2 (gives here.0 here.1));
+  }
+
+  -- a piece was read that has a line that is refused
+  pub cert-refused : (piece : List ℕ) (count : ℕ) (new : CertStage) (stop : CertStop) (line : ℕ) → TakesCert {T = Unit {0}} n (reading.bytes ++ piece) new (Err stop) → stop ≡ BadLine line
+      → ((unread : List ℕ) → rest ≡ Some unread → piece ≡ take count unread) → (all : List NamedFile) → files ≡ Some all → cert_in n (bytes_of all name) ≡ Err line
+  cert-refused piece count new stop line takes is gives all told =
+      let here = reading.told all told in
+      ap (cert_in n) (file-cut (bytes_of all name) reading.bytes piece here.0 count here.2 (gives here.0 here.1)) ∙ takes.bad line (ap stopped is) (drop count here.0)
+
+  -- the whole file was read
+  pub cert-whole : ((unread : List ℕ) → rest ≡ Some unread → unread ≡ []) → (all : List NamedFile) → files ≡ Some all → bytes_of all name ≡ reading.bytes
+  cert-whole nothing all told =
+      let here = reading.told all told in
+      here.2 ∙ (ap (λ m. reading.bytes ++ m) (nothing here.0 here.1) ∙ append-nil reading.bytes)
+
+  -- what the end of the file comes to is what the file is
+  pub cert-ok : (answer : Result Certificate CertStop) → ((unread : List ℕ) → rest ≡ Some unread → unread ≡ []) → EndsCert n reading.bytes answer
+      → IfOk answer (λ cert. (all : List NamedFile) → files ≡ Some all → cert_in n (bytes_of all name) ≡ Ok cert)
+  cert-ok (Ok cert) nothing ends = λ all told. ap (cert_in n) (cert-whole nothing all told) ∙ ends.ok
+  cert-ok (Err stop) nothing ends = tt
+
+  pub cert-bad : (answer : Result Certificate CertStop) (line : ℕ) → ((unread : List ℕ) → rest ≡ Some unread → unread ≡ []) → EndsCert n reading.bytes answer
+      → answer ≡ Err (BadLine line) → (all : List NamedFile) → files ≡ Some all → cert_in n (bytes_of all name) ≡ Err line
+  cert-bad answer line nothing ends is all told = ap (cert_in n) (cert-whole nothing all told) ∙ ends.bad line is
+
+  -- a read failed
+  pub cert-failed : (rest' : Option (List ℕ)) (ended' : Bool) → rest' ≡ rest → ended' ≡ false → (all : List NamedFile) → files ≡ Some all
+      → StopsCert n (bytes_of all name) rest' ended'
+  cert-failed rest' ended' kept open_file all told =
+      let here = reading.told all told in
+      record {
+        read = reading.bytes;
+        unread = here.0;
+        cut = here.2;
+        not_opened = λ e. absurd (both (sym open_file ∙ e));
+        left = λ e. kept ∙ here.1;
+        come = (place_seen stage, reading.come);
+      }
+    where
+      both : false ≡ true → ⊥
+      both e = cc
+
+-- nothing was read of a file that could not be opened
+pub cert-not_opened : (n : ℕ) (file : List ℕ) (rest : Option (List ℕ)) (ended : Bool) → ended ≡ true → StopsCert n file rest ended
+cert-not_opened n file rest ended at_end = record {
+  read = [];
+  unread = file;
+  cut = refl;
+  not_opened = λ e. refl;
+  left = λ e. absurd (both (sym e ∙ at_end));
+  come = (cert_place nothing_read 0 [], cert-begin n);
+}
+  where
+    both : false ≡ true → ⊥
+    both e = cc

@@ -1,0 +1,288 @@
+-- A certificate and a mesh are judged: what the calls of a check come to.
+use Rattle.std.proofs.Common.{◌≡◌, ◌≢◌, ℕ, ◌+◌, ◌*◌, ◌^◌, ◌≤◌, ◌⊎◌, inl, inr, Bool, true, false, List, [], ◌∷◌, take, slice_get, Option, Some, None, Result, Ok, Err, IfOk, All, refl, sym, ◌∙◌, subst, arith}
+use Rattle.std.specs.List.{AllByRecursion}
+use Rattle.std.proofs.Math.Nat.{min-eq_left}
+use Rattle.std.proofs.lemmas.List.Elements.{recursion_from_All, All-from_recursion}
+use Rattle.mesh_defs.specs.HeightField.{HeightField}
+use Rattle.mesh_defs.specs.Triangle.{level_of, IsAddress}
+use Rattle.bintree_laws.proofs.LevelLemmas.{level-le}
+use Rattle.roam_edge.specs.Fault.{next_count}
+use Rattle.roam_edge.specs.Shelf.{NamedFile, bytes_of}
+use Rattle.pgm_grid.specs.Progress.{grid_of}
+use Rattle.mesh_compare.specs.Differs.{IsCutShort}
+use Rattle.certificate_laws.specs.declared.reason.Reason.{Reason}
+use Rattle.certificate_laws.specs.declared.reason.Reject.{Reject}
+use Rattle.certificate_laws.specs.declared.reason.Reject.TheVariants.{BadLine, NotConforming, OverBudget, BadReason, TooFewReasons, MeshDiffers}
+use Rattle.certificate_laws.specs.Certificate.{IsRejected}
+use Rattle.cert_text.specs.Certificate.{Certificate}
+use Rattle.run_laws.specs.declared.status.Status.{Status}
+use Rattle.run_laws.specs.declared.status.Status.TheVariants as ends
+use Rattle.run_laws.specs.Words.{Checking, Check, OnGrid}
+use Rattle.run_laws.specs.CertFile.{cert_in}
+use Rattle.run_laws.specs.Certify.{IsFaultless, IsFirstDifference}
+use Rattle.run_laws.specs.Act.{Told}
+use Rattle.run_laws.specs.Outcome.{text_outcome, IsCheckOutcome}
+use Rattle.run_laws.specs.Promise.{Seen, OpensForStatus, is_complete}
+use Rattle.run_laws.proofs.ActLemmas.{stands-nothing}
+use Rattle.roam_run.specs.declared.checking.CheckStop.{CheckStop}
+use Rattle.roam_run.specs.declared.verdict_report.Judgement.{Judgement}
+use Rattle.roam_run.specs.declared.verdict_report.Judgement.TheVariants.{Certified, Rejected}
+use Rattle.roam_run.specs.Taking.{DoesAs}
+use Rattle.roam_run.specs.Leaving.{CommandEnds, CommandReadFault, CommandNoMemory}
+use Rattle.roam_run.specs.Judging.{judged_text, judged_status, opened_for, judged_outcome, mesh_seen, IsJudged, IsFaultlessFile, JudgesNoMemory, StopsComparing, JudgesFault}
+use Rattle.roam_run.proofs.GridLemmas.{ends-as}
+
+-- triangles of the grid have levels of the grid
+levels-recursion : (n : ℕ) (leaves : List ℕ) → AllByRecursion (IsAddress n) leaves → AllByRecursion (λ a. level_of a ≤ 2 * n) leaves
+levels-recursion n [] are = tt
+levels-recursion n (a ∷ leaves) are = (level-le n a are.0, levels-recursion n leaves are.1)
+
+pub leaf-levels : (n : ℕ) (leaves : List ℕ) → All (IsAddress n) leaves → All (λ a. level_of a ≤ 2 * n) leaves
+leaf-levels n leaves are = All-from_recursion (λ a. level_of a ≤ 2 * n) leaves (levels-recursion n leaves (recursion_from_All (IsAddress n) leaves are))
+
+-- the first difference of two texts, the other way round
+pub difference-other : (text file : List ℕ) (at : ℕ) → take at text ≡ take at file → slice_get text at ≢ slice_get file at → IsFirstDifference file text at
+difference-other text file at before differs = record { same = sym before; differ = λ e. differs (sym e) }
+
+-- a verdict that rejects opens no mesh
+pub rejected-two : (n budget : ℕ) (priority : ℕ → ℕ) (leaves : List ℕ) (reasons : List Reason) (why : Reject) → IsRejected n budget priority leaves reasons why → opened_for (Rejected why) ≡ 2
+rejected-two n budget priority leaves reasons (BadLine line) is = absurd is
+rejected-two n budget priority leaves reasons NotConforming is = refl
+rejected-two n budget priority leaves reasons OverBudget is = refl
+rejected-two n budget priority leaves reasons (BadReason index) is = refl
+rejected-two n budget priority leaves reasons TooFewReasons is = refl
+rejected-two n budget priority leaves reasons (MeshDiffers place) is = absurd is
+
+-- a mesh that could not be opened
+pub compare-not_opened : (text file : List ℕ) (rest : Option (List ℕ)) (ended : Bool) → ended ≡ true → StopsComparing text file rest ended
+compare-not_opened text file rest ended at_end = record {
+  read = [];
+  unread = file;
+  cut = refl;
+  not_opened = λ e. refl;
+  left = λ e. absurd (both (sym e ∙ at_end));
+  of_text = record { back = text; joined = refl };
+}
+  where
+    both : false ≡ true → ⊥
+    both e = cc
+
+-- a read of a mesh failed
+pub compare-stops : (text file : List ℕ) (rest rest' : Option (List ℕ)) (ended' : Bool) → IsCutShort text rest rest' → rest ≡ Some file → ended' ≡ false → StopsComparing text file rest' ended'
+compare-stops text file rest rest' ended' cut is goes_on =
+    let there = cut.of_file file is in
+    record {
+      read = cut.read;
+      unread = there.0;
+      cut = there.2;
+      not_opened = λ e. absurd (both (sym goes_on ∙ e));
+      left = λ e. there.1;
+      of_text = cut.of_text;
+    }
+  where
+    both : false ≡ true → ⊥
+    both e = cc
+
+-- an answer of a check of a certificate, as one of its file
+module _ (c : Checking) (grid : HeightField) (cert : Certificate) (told told' : Option (List NamedFile)) (same : told' ≡ told)
+    (is : (files : List NamedFile) → told ≡ Some files → cert_in grid.n (bytes_of files c.certificate) ≡ Ok cert) where
+  pub judged-file : (answer : Result Judgement CheckStop)
+      → IfOk answer (λ judgement. (files : List NamedFile) → told' ≡ Some files → IsCheckOutcome c grid (Ok cert) (bytes_of files c.mesh) (judged_outcome judgement))
+      → IfOk answer (λ judgement. (files : List NamedFile) → told ≡ Some files → IsJudged c grid files judgement)
+  judged-file (Ok judgement) ok = λ files here.
+      let P : Result Certificate ℕ → Type 0 = λ r. IsCheckOutcome c grid r (bytes_of files c.mesh) (judged_outcome judgement) in
+      subst P (sym (is files here)) (ok files (same ∙ here))
+  judged-file (Err stop) ok = tt
+
+  faultless-file : IsFaultless c grid cert → (files : List NamedFile) → told ≡ Some files → IsFaultlessFile c grid files
+  faultless-file faultless files here = (cert, is files here, faultless)
+
+  -- memory ran out behind the certificate
+  pub judged-memory : (before middle now : ℕ) → middle ≡ before + 1 → (now ≡ middle) ⊎ ((now ≡ middle + 1) × IsFaultless c grid cert) → JudgesNoMemory c grid told before now
+  judged-memory before middle now one (inl same_count) = inl (same_count ∙ one)
+  judged-memory before middle now one (inr (more, faultless)) = inr (omega (arith, more, one), faultless-file faultless)
+
+  -- a read of the mesh failed
+  pub judged-stops : (before middle now : ℕ) (rest : Option (List ℕ)) (ended : Bool) → middle ≡ before + 1 → now ≡ middle + 1 → IsFaultless c grid cert
+      → ((files : List NamedFile) → told' ≡ Some files → StopsComparing (mesh_seen c grid cert) (bytes_of files c.mesh) rest ended)
+      → JudgesFault c grid told rest ended before now
+  judged-stops before middle now rest ended one more faultless stops =
+      inr (omega (arith, more, one), λ files here. (cert, is files here, faultless, stops files (same ∙ here)))
+
+-- one file more was opened
+pub judged-opens : (answer : Result Judgement CheckStop) (before middle now : ℕ) → middle ≡ before + 1 → IfOk answer (λ judgement. now + 2 ≡ middle + opened_for judgement)
+    → IfOk answer (λ judgement. now + 1 ≡ before + opened_for judgement)
+judged-opens (Ok judgement) before middle now one ok = omega (arith, one, ok)
+judged-opens (Err stop) before middle now one ok = tt
+
+-- a line of the certificate is refused
+pub judged-line : (c : Checking) (grid : HeightField) (files : List NamedFile) (line : ℕ) → cert_in grid.n (bytes_of files c.certificate) ≡ Err line → IsJudged c grid files (Rejected (BadLine line))
+judged-line c grid files line is =
+    let P : Result Certificate ℕ → Type 0 = λ r. IsCheckOutcome c grid r (bytes_of files c.mesh) (judged_outcome (Rejected (BadLine line))) in
+    subst P (sym is) refl
+
+-- a count that is far from its greatest value goes up by one
+pub next-one : (before now : ℕ) → before ≤ 2 ^ 63 + 2 → now ≡ next_count before → now ≡ before + 1
+next-one before now low is = is ∙ min-eq_left (omega (arith, low))
+
+-- the end of a check
+
+-- a judgement is a whole answer
+pub judged-complete : (judgement : Judgement) → is_complete (judged_status judgement) ≡ true
+judged-complete (Certified camera triangles worst) = refl
+judged-complete (Rejected why) = refl
+
+two-least : (judgement : Judgement) → 2 ≤ opened_for judgement
+two-least (Certified camera triangles worst) = omega arith
+two-least (Rejected (BadLine line)) = omega arith
+two-least (Rejected NotConforming) = omega arith
+two-least (Rejected OverBudget) = omega arith
+two-least (Rejected (BadReason index)) = omega arith
+two-least (Rejected TooFewReasons) = omega arith
+two-least (Rejected (MeshDiffers place)) = omega arith
+
+three-most : (judgement : Judgement) → opened_for judgement ≤ 3
+three-most (Certified camera triangles worst) = omega arith
+three-most (Rejected (BadLine line)) = omega arith
+three-most (Rejected NotConforming) = omega arith
+three-most (Rejected OverBudget) = omega arith
+three-most (Rejected (BadReason index)) = omega arith
+three-most (Rejected TooFewReasons) = omega arith
+three-most (Rejected (MeshDiffers place)) = omega arith
+
+module _ (judgement : Judgement) (status : Status) (how : (status ≡ judged_status judgement) ⊎ (status ≡ ends.WriteFault)) where
+  -- only a mesh that is certified ends with Done
+  done-three : status ≡ ends.Done → opened_for judgement ≡ 3
+  done-three is = go judgement how is
+    where
+      go : (j : Judgement) → (status ≡ judged_status j) ⊎ (status ≡ ends.WriteFault) → status ≡ ends.Done → opened_for j ≡ 3
+      go (Certified camera triangles worst) h e = refl
+      go (Rejected why) (inl h) e = absurd cc
+      go (Rejected why) (inr h) e = absurd cc
+
+  pub done-judged : status ≡ ends.Done → judged_status judgement ≡ ends.Done
+  done-judged is = go how is
+    where
+      go : (status ≡ judged_status judgement) ⊎ (status ≡ ends.WriteFault) → status ≡ ends.Done → judged_status judgement ≡ ends.Done
+      go (inl h) e = sym h ∙ e
+      go (inr h) e = absurd cc
+
+  -- no other status than these
+  pub judged-ends : (status ≢ ends.Usage) × (status ≢ ends.ScriptRefused) × (status ≢ ends.GridRefused) × (status ≢ ends.ReadFault) × (status ≢ ends.NoMemory)
+  judged-ends = go judgement how
+    where
+      go : (j : Judgement) → (status ≡ judged_status j) ⊎ (status ≡ ends.WriteFault)
+          → (status ≢ ends.Usage) × (status ≢ ends.ScriptRefused) × (status ≢ ends.GridRefused) × (status ≢ ends.ReadFault) × (status ≢ ends.NoMemory)
+      go (Certified camera triangles worst) (inl h) = (λ e. cc, λ e. cc, λ e. cc, λ e. cc, λ e. cc)
+      go (Rejected why) (inl h) = (λ e. cc, λ e. cc, λ e. cc, λ e. cc, λ e. cc)
+      go j (inr h) = (λ e. cc, λ e. cc, λ e. cc, λ e. cc, λ e. cc)
+
+  -- how often files were opened
+  pub judged-count : (before middle now : ℕ) → middle ≡ before + 1 → now + 1 ≡ middle + opened_for judgement → OpensForStatus before now 3 status
+  judged-count before middle now one more =
+      let low = two-least judgement in
+      let high = three-most judgement in
+      record {
+        done = λ e. (let three = done-three e in omega (arith, one, more, three));
+        script_refused = λ e. absurd (judged-ends.1 e);
+        grid_refused = λ e. absurd (judged-ends.2 e);
+        usage = λ e. absurd (judged-ends.0 e);
+        read_fault = λ e. absurd (judged-ends.3 e);
+        rejected = λ e. omega (arith, one, more, low);
+        least = omega (arith, one, more, low);
+        most = omega (arith, one, more, high);
+      }
+
+-- a judgement ends a check
+pub check-ends : (before now : Told) (old new : Seen) (name : List ℕ) (c : Checking) (files : List NamedFile) (grid : HeightField) (judgement : Judgement) (text : List ℕ) (middle : ℕ) (end status : Status)
+    → grid_of (bytes_of files name) ≡ Ok grid → IsJudged c grid files judgement → text ≡ judged_text judgement → end ≡ judged_status judgement
+    → middle ≡ old.opens + 1 → new.opens + 1 ≡ middle + opened_for judgement
+    → DoesAs before now (text_outcome text end (opened_for judgement)) status → CommandEnds before now old new (OnGrid name (Check c)) files status None
+check-ends before now old new name c files grid judgement text middle end status found judged is_text is_end one more does =
+    let P : List ℕ → Type 0 = λ t. DoesAs before now (text_outcome t end (opened_for judgement)) status in
+    let Q : Status → Type 0 = λ s. DoesAs before now (text_outcome (judged_text judgement) s (opened_for judgement)) status in
+    ends-as before now old new name (Check c) files (Ok grid) (judged_outcome judgement) status found judged (omega (arith, one, more))
+    (subst Q is_end (subst P is_text does)) None (λ e. refl)
+
+-- commands are the same
+same-grid : (name other : List ℕ) (c check : Checking) → OnGrid name (Check c) ≡ OnGrid other (Check check) → name ≡ other
+same-grid name other c check e = cc
+
+same-check : (name other : List ℕ) (c check : Checking) → OnGrid name (Check c) ≡ OnGrid other (Check check) → c ≡ check
+same-check name other c check e = cc
+
+-- memory ran out behind the grid
+pub check-memory : (before : Told) (old new : Seen) (name : List ℕ) (c : Checking) (grid : HeightField) (middle : ℕ) → middle ≡ old.opens + 1
+    → ((files : List NamedFile) → old.files ≡ Some files → grid_of (bytes_of files name) ≡ Ok grid) → JudgesNoMemory c grid old.files middle new.opens
+    → CommandNoMemory before before old new (OnGrid name (Check c))
+check-memory before old new name c grid middle one found (inl first) = record {
+  opened = 2;
+  count = omega (arith, one, first);
+  least = omega arith;
+  most = omega arith;
+  stands = stands-nothing before;
+  header = λ other job files e told two. absurd (omega (arith, two));
+  in_order = λ other check files e told two. (
+    grid,
+    (let P : List ℕ → Type 0 = λ l. grid_of (bytes_of files l) ≡ Ok grid in subst P (same-grid name other c check e) (found files told)),
+    λ three. absurd (omega (arith, three)),
+  );
+}
+check-memory before old new name c grid middle one found (inr (second, faultless)) = record {
+  opened = 3;
+  count = omega (arith, one, second);
+  least = omega arith;
+  most = omega arith;
+  stands = stands-nothing before;
+  header = λ other job files e told three. absurd (omega (arith, three));
+  in_order = λ other check files e told two. (
+    grid,
+    (let P : List ℕ → Type 0 = λ l. grid_of (bytes_of files l) ≡ Ok grid in subst P (same-grid name other c check e) (found files told)),
+    λ three. (let P : Checking → Type 0 = λ d. IsFaultlessFile d grid files in subst P (same-check name other c check e) (faultless files told)),
+  );
+}
+
+-- a read failed behind the grid
+pub check-fault : (before : Told) (old new : Seen) (name : List ℕ) (c : Checking) (grid : HeightField) (middle : ℕ) → middle ≡ old.opens + 1
+    → ((files : List NamedFile) → old.files ≡ Some files → grid_of (bytes_of files name) ≡ Ok grid)
+    → JudgesFault c grid old.files new.rest new.ended middle new.opens
+    → CommandReadFault before before old new (OnGrid name (Check c))
+check-fault before old new name c grid middle one found (inl (first, stops)) = record {
+  file = 1;
+  opened = omega (arith, one, first);
+  before_script = λ scripted. stands-nothing before;
+  at_file = λ files told.
+      let at = stops files told in
+      record {
+        name = c.certificate;
+        read = at.read;
+        unread = at.unread;
+        acts = [];
+        named = refl;
+        cut = at.cut;
+        not_opened = at.not_opened;
+        left = at.left;
+        has_read = (grid, found files told, (at.come, refl));
+        stands = stands-nothing before;
+      };
+}
+check-fault before old new name c grid middle one found (inr (second, stops)) = record {
+  file = 2;
+  opened = omega (arith, one, second);
+  before_script = λ scripted. stands-nothing before;
+  at_file = λ files told.
+      let at = stops files told in
+      let text = at.3 in
+      record {
+        name = c.mesh;
+        read = text.read;
+        unread = text.unread;
+        acts = [];
+        named = refl;
+        cut = text.cut;
+        not_opened = text.not_opened;
+        left = text.left;
+        has_read = (grid, found files told, ((at.0, at.1, at.2, text.of_text), refl));
+        stands = stands-nothing before;
+      };
+}
