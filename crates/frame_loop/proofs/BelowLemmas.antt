@@ -1,28 +1,25 @@
 -- Which entries lie at and below a triangle, and that a rectangle has those of the triangles below.
-use Rattle.std.proofs.Common.{◌≡◌, ℕ, zero, suc, ◌+◌, ◌-◌, ◌*◌, ◌/◌, ◌%◌, ◌<◌, ◌≤◌, ◌⊎◌, ◌||◌, ◌↔◌, Bool, true, false, nat_eq, IsTrue, inl, inr, List, max, refl, sym, ◌∙◌, ap, subst, arith, ⊎_elim}
-use Rattle.std.specs.Cmp.Derive.{both_true}
-use Rattle.std.proofs.lemmas.Bool.{cases_lt, or_cases, or_left, or_right, eqb-true, eq-eqb, leb-true, le-leb, and_parts, both_ways}
-use Rattle.mesh_defs.specs.declared.point.Point.{Point}
+use Rattle.std.proofs.Common.{◌≡◌, ℕ, zero, suc, ◌+◌, ◌-◌, ◌*◌, ◌/◌, ◌%◌, ◌<◌, ◌≤◌, ◌⊎◌, ◌||◌, ◌↔◌, Bool, true, false, nat_eq, IsTrue, inl, inr, List, refl, sym, ◌∙◌, ap, subst, arith, ⊎_elim}
+use Rattle.std.proofs.lemmas.Bool.{cases_lt, or_cases, or_left, or_right, eqb-true, eq-eqb, both_ways}
 use Rattle.mesh_defs.specs.declared.point.Corners.{Corners}
 use Rattle.mesh_defs.specs.Triangle.{IsAddress, IsSplittable, corners_of, child, level_of}
 use Rattle.mesh_defs.specs.ClosedSet.{IsClosed, among}
-use Rattle.mesh_defs.specs.BoundingBox.{least_of_3, greatest_of_3}
-use Rattle.mesh_defs.specs.State.{Area, is_in_area}
+use Rattle.mesh_defs.specs.State.{Area}
+use Rattle.bintree_laws.specs.Areas.{MeetsArea, overlaps}
+use Rattle.bintree_laws.proofs.AreaLemmas.{AreCrossing, read-overlaps, made-overlaps, overlaps-meets, meets-overlaps}
 use Rattle.bintree_laws.proofs.CornerLemmas.{corners_of-left, corners_of-right}
 use Rattle.bintree_laws.proofs.LevelLemmas.{level_of-parent, level_of-left, level_of-right, level_of-root}
 use Rattle.tiling_laws.proofs.ConformityLemmas.{IsUnder, self, below, IsUnder-left, IsUnder-right, member_above}
 use Rattle.tiling_laws.proofs.DescentLemmas.{IsAddress-splittable}
-use Rattle.closure_laws.proofs.ClosureLemmas.{same_tests}
+use Rattle.mesh_defs.proofs.TestLemmas.{same_tests}
 use Rattle.closure_laws.proofs.LeafLemmas.{leaf-where}
 use Rattle.closure_laws.proofs.SizeLemmas.{under-true, true-under, under-cases}
 use Rattle.edge_laws.specs.Slots.{has_children, split_set, IsPool, address_at, IsLive}
-use Rattle.edge_laws.proofs.SlotLemmas.{same_closed, set_false, has_children-set, parent_has_children}
+use Rattle.edge_laws.proofs.SlotLemmas.{among-split_list, split_list-closed, set_false, has_children-set, parent_has_children}
 use Rattle.triangle_pool.specs.Slots.{PoolState}
 use Rattle.frame_steps.specs.Deferred.{IsEntry, leaf as of_leaf, member as of_diamond}
-use Rattle.wedgie_tree.specs.Edits.{MeetsArea, IsInRectangle, overlaps}
 use Rattle.roam_mesh.specs.Mesh.{members_of}
 use Rattle.frame_loop.specs.Below.{is_at_or_below}
-use Rattle.frame_loop.proofs.PoolLemmas.{among_members}
 
 -- at and below
 
@@ -73,11 +70,11 @@ pub record IsPlaced (pool : PoolState) (a : ℕ) : Type 0 where
 
 pub entry_placed : (pool : PoolState) (a : ℕ) → IsPool pool.n pool.pairs → IsEntry pool.n (among (members_of pool)) a → IsPlaced pool a
 entry_placed pool a is (of_leaf listed) =
-    let closed : IsClosed pool.n (among (members_of pool)) = same_closed pool.n (split_set pool.pairs) (among (members_of pool)) (among_members pool is) is.closed in
+    let closed : IsClosed pool.n (among (members_of pool)) = (split_list-closed pool.n pool.pairs is).closed in
     let leaf = (leaf-where pool.n (among (members_of pool)) a closed).0 listed in
-    record { address = leaf.0; parent = λ deep. among_members pool is (a / 2) ∙ leaf.2 deep }
+    record { address = leaf.0; parent = λ deep. sym (among-split_list pool.n pool.pairs (a / 2) is) ∙ leaf.2 deep }
 entry_placed pool a is (of_diamond can) =
-    let member : IsTrue (split_set pool.pairs a) = among_members pool is a ∙ can.member in
+    let member : IsTrue (split_set pool.pairs a) = sym (among-split_list pool.n pool.pairs a is) ∙ can.member in
     record { address = IsAddress-splittable pool.n a (is.closed.splittable a member); parent = λ deep. is.closed.parent a member deep }
 
 -- no entry lies below a leaf
@@ -121,62 +118,7 @@ child_falls n pairs t a is low has (inr right) =
 
 -- rectangles
 
--- what is known of a point of the area
-record IsBetweenEnds (area : Area) (i j : ℕ) : Type 0 where
-  left : area.x0 ≤ i
-  right : i ≤ area.x1
-  bottom : area.y0 ≤ j
-  top : j ≤ area.y1
-
-read-area : (area : Area) (i j : ℕ) → is_in_area area i j ≡ true → IsBetweenEnds area i j
-read-area area i j held = grind (arith)
-
-made-area : (area : Area) (i j : ℕ) → IsBetweenEnds area i j → is_in_area area i j ≡ true
-made-area area i j held = grind (arith)
-
--- the columns and the rows overlap
-record AreCrossing (c : Corners) (area : Area) : Type 0 where
-  right : area.x0 ≤ greatest_of_3 c.apex.x c.v0.x c.v1.x
-  left : least_of_3 c.apex.x c.v0.x c.v1.x ≤ area.x1
-  top : area.y0 ≤ greatest_of_3 c.apex.y c.v0.y c.v1.y
-  bottom : least_of_3 c.apex.y c.v0.y c.v1.y ≤ area.y1
-
-read-overlaps : (c : Corners) (area : Area) → overlaps c area ≡ true → AreCrossing c area
-read-overlaps c area over =
-    let one = and_parts _ _ over in let two = and_parts _ _ one.1 in let three = and_parts _ _ two.1 in
-    record { right = leb-true _ _ one.0; left = leb-true _ _ two.0; top = leb-true _ _ three.0; bottom = leb-true _ _ three.1 }
-
-made-overlaps : (c : Corners) (area : Area) → AreCrossing c area → overlaps c area ≡ true
-made-overlaps c area is = both_true (le-leb _ _ is.right) (both_true (le-leb _ _ is.left) (both_true (le-leb _ _ is.top) (le-leb _ _ is.bottom)))
-
-overlaps-meets : (c : Corners) (area : Area) → area.x0 ≤ area.x1 → area.y0 ≤ area.y1 → overlaps c area ≡ true → MeetsArea c area
-overlaps-meets c area columns rows over =
-    let is = read-overlaps c area over in
-    let p : Point = record {
-      x = max area.x0 (least_of_3 c.apex.x c.v0.x c.v1.x);
-      y = max area.y0 (least_of_3 c.apex.y c.v0.y c.v1.y);
-    } in (
-      p,
-      record {
-        in_rectangle = record { left = omega arith; right = omega (arith, is.right); bottom = omega arith; top = omega (arith, is.top) };
-        in_area = made-area area p.x p.y (record { left = omega arith; right = omega (arith, is.left); bottom = omega arith; top = omega (arith, is.bottom) });
-      },
-    )
-
--- what meets the area overlaps it
-pub meets-overlaps : (c : Corners) (area : Area) → MeetsArea c area → overlaps c area ≡ true
-meets-overlaps c area meets =
-    let p : Point = meets.0 in
-    let r : IsInRectangle c p = meets.1.in_rectangle in
-    let e : IsBetweenEnds area p.x p.y = read-area area p.x p.y meets.1.in_area in
-    made-overlaps c area (record {
-      right = omega (arith, r.right, e.left);
-      left = omega (arith, r.left, e.right);
-      top = omega (arith, r.top, e.bottom);
-      bottom = omega (arith, r.bottom, e.top);
-    })
-
--- and the other way
+-- a test of whether a rectangle and an area share a point is whether they overlap
 pub overlaps_is : (c : Corners) (area : Area) (test : Bool) → area.x0 ≤ area.x1 → area.y0 ≤ area.y1 → IsTrue test ↔ MeetsArea c area → test ≡ overlaps c area
 overlaps_is c area test columns rows is = same_tests test (overlaps c area)
     (λ meets. meets-overlaps c area (is.0 meets))

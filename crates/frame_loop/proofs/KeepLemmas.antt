@@ -13,7 +13,7 @@ use Rattle.mesh_defs.proofs.ListLemmas.{IsIn, IsIn-among}
 use Rattle.tiling_laws.proofs.DescentLemmas.{IsAddress-leaves_of}
 use Rattle.closure_laws.proofs.SetListLemmas.{among-filter}
 use Rattle.edge_laws.specs.Slots.{split_set}
-use Rattle.wedgie_tree.specs.Edits.{MeetsArea}
+use Rattle.bintree_laws.specs.Areas.{MeetsArea}
 use Rattle.triangle_pool.specs.Slots.{PoolState}
 use Rattle.frame_steps.specs.Deferred.{IsEntry, leaf, member}
 use Rattle.frame_steps.specs.Stamps.{Stamp, IsBetween, is_due, stamp_now, StampsHold}

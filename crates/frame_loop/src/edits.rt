@@ -5,7 +5,8 @@ ghost use Rattle.mesh_defs.specs.State.{with_height, with_plane, without_planes,
 ghost use Rattle.mesh_defs.specs.Triangle.{corners_of};
 ghost use Rattle.mesh_defs.specs.BoundingBox.{holds_point, point};
 ghost use Rattle.mesh_defs.specs.ClosedSet.{among};
-ghost use Rattle.wedgie_tree.specs.Edits.{area_of, overlaps};
+ghost use Rattle.bintree_laws.specs.Areas.{overlaps};
+ghost use Rattle.wedgie_tree.specs.Edits.{area_of};
 ghost use Rattle.edge_laws.specs.Slots.{address_at, IsLive};
 ghost use Rattle.frame_loop.specs.Engine.{IsExpired};
 ghost use Rattle.frame_loop.specs.Below.{is_at_or_below};

@@ -4,13 +4,15 @@
 
 ghost use Rattle.std.specs.Prelude.{◌<◌, ◌≤◌};
 
-use crate::{Camera, Engine, FrameNote, Grid, Plane, Planes, Tri};
+use crate::{Camera, Engine, FrameNote, Grid, NoMemory, Plane, Planes, Tri};
 use mesh_defs::Mark;
 use plain_mesh::{PlainFrame, plain_frame};
 use std::alloc::Global;
 use std::process::Abort;
 use std::test::Fail;
 use wedgie_tree::Wedges;
+
+mod worked;
 
 /// An engine, and beside it what its state must be.
 #[derive(Drop)]
@@ -25,7 +27,13 @@ struct Run {
 
 impl Run {
     /// The engine of a flat grid.
-    fn new(rt: &impl Abort, alloc: Global, n: u32, budget: u32, spacing: u32) -> Result<Run, Fail> {
+    fn new(
+        rt: &impl Abort,
+        alloc: Global,
+        n: u32,
+        budget: u32,
+        spacing: u32,
+    ) -> Result<Run, NoMemory> {
         assert!(rt; 1 <= n);
         assert!(rt; n <= 11);
         assert!(rt; 2 <= budget);
@@ -36,15 +44,15 @@ impl Run {
         Ok(Run {
             engine: Engine::make(alloc, copy_of(alloc, &grid)?, budget, spacing)?,
             grid,
-            camera: Camera::new(0, 0, 0).ok_or("a camera")?,
+            camera: Camera::new(0, 0, 0).expect(rt, "a camera"),
             spacing,
             planes: Planes::none(),
             budget,
         })
     }
 
-    fn move_to(&mut self, rt: &impl Abort, x: i64, y: i64, z: i64) -> Result<(), Fail> {
-        let camera = Camera::new(x, y, z).ok_or("a camera")?;
+    fn move_to(&mut self, rt: &impl Abort, x: i64, y: i64, z: i64) {
+        let camera = Camera::new(x, y, z).expect(rt, "a camera");
         let odometer = self
             .engine
             .odometer()
@@ -53,7 +61,6 @@ impl Run {
         self.engine.camera(camera);
         assert_eq!(rt; self.engine.odometer(), odometer);
         self.camera = camera;
-        Ok(())
     }
 
     fn set_height(&mut self, rt: &impl Abort, x: u32, y: u32, h: u16) {
@@ -75,13 +82,12 @@ impl Run {
         raise_each(rt, &mut self.grid, (x0, y0), (x1, y1), dz);
     }
 
-    fn add_plane(&mut self, rt: &impl Abort, a: i64, b: i64, c: i64, d: i64) -> Result<(), Fail> {
-        let plane = Plane::new(a, b, c, d).ok_or("a plane")?;
+    fn add_plane(&mut self, rt: &impl Abort, a: i64, b: i64, c: i64, d: i64) {
+        let plane = Plane::new(a, b, c, d).expect(rt, "a plane");
         assert!(rt; self.engine.planes() < 6);
         assert!(rt; self.planes.len() < 6);
         self.engine.add_plane(plane);
         self.planes.add(plane);
-        Ok(())
     }
 
     fn clear_planes(&mut self) {
@@ -97,7 +103,15 @@ impl Run {
     }
 
     /// The next frame, which is that from scratch.
-    fn frame(&mut self, rt: &impl Abort, alloc: Global) -> Result<FrameNote, Fail> {
+    fn frame(&mut self, rt: &impl Abort, alloc: Global) -> FrameNote {
+        let note = self.step(rt);
+        self.compare(rt, alloc, &note)
+            .expect(rt, "a frame from scratch");
+        note
+    }
+
+    /// The next frame: it adds up.
+    fn step(&mut self, rt: &impl Abort) -> FrameNote {
         let frames = self.engine.frames();
         assert!(rt; frames < 1000000);
         let before = self.engine.pool().leaf_count() as u64;
@@ -105,12 +119,11 @@ impl Run {
         assert_eq!(rt; self.engine.frames(), frames + 1);
         let after = self.engine.pool().leaf_count() as u64;
         assert_eq!(rt; before + note.splits as u64, after + note.merges as u64);
-        self.compare(rt, alloc, &note)?;
-        Ok(note)
+        note
     }
 
     /// Stops where the frame is not that of the state.
-    fn compare(&self, rt: &impl Abort, alloc: Global, note: &FrameNote) -> Result<(), Fail> {
+    fn compare(&self, rt: &impl Abort, alloc: Global, note: &FrameNote) -> Result<(), NoMemory> {
         let wedges = Wedges::build(alloc, copy_of(alloc, &self.grid)?)?;
         let plain = self.from_scratch(rt, alloc, &wedges)?;
         let leaves = plain.split.leaves(alloc)?;
@@ -131,7 +144,7 @@ impl Run {
         rt: &impl Abort,
         alloc: Global,
         wedges: &Wedges,
-    ) -> Result<PlainFrame, Fail> {
+    ) -> Result<PlainFrame, NoMemory> {
         assert!(rt; 1 <= self.spacing);
         assert!(rt; self.spacing <= 1024);
         assert!(rt; 2 <= self.budget);
@@ -180,7 +193,7 @@ fn clamped(h: i64) -> u16 {
     h as u16
 }
 
-fn copy_of(alloc: Global, grid: &Grid) -> Result<Grid, Fail> {
+fn copy_of(alloc: Global, grid: &Grid) -> Result<Grid, NoMemory> {
     let heights = Vec::from_slice(alloc, grid.heights())?;
     Ok(Grid::from_heights(grid.n(), grid.maxval(), heights))
 }
@@ -237,39 +250,27 @@ fn around(seed: &mut u64, reach: u32) -> i64 {
 }
 
 /// Changes a random part of the state, or nothing.
-fn change(rt: &impl Abort, seed: &mut u64, run: &mut Run) -> Result<(), Fail> {
+fn change(rt: &impl Abort, seed: &mut u64, run: &mut Run) {
     match below(seed, 8) {
         0 => change_camera(rt, seed, run, 8),
         1 => change_camera(rt, seed, run, 1 << 20),
-        2 => {
-            change_height(rt, seed, run);
-            Ok(())
-        }
-        3 => {
-            change_area(rt, seed, run);
-            Ok(())
-        }
+        2 => change_height(rt, seed, run),
+        3 => change_area(rt, seed, run),
         4 => change_planes(rt, seed, run),
         5 => {
             let budget = below(seed, run.engine.most()).max(2);
             run.set_budget(rt, budget);
-            Ok(())
         }
-        6 => {
-            run.clear_planes();
-            Ok(())
-        }
-        _ => Ok(()),
+        6 => run.clear_planes(),
+        _ => {}
     }
 }
 
-fn change_camera(rt: &impl Abort, seed: &mut u64, run: &mut Run, reach: u32) -> Result<(), Fail> {
-    run.move_to(
-        rt,
-        around(seed, reach),
-        around(seed, reach),
-        around(seed, reach),
-    )
+fn change_camera(rt: &impl Abort, seed: &mut u64, run: &mut Run, reach: u32) {
+    let x = around(seed, reach);
+    let y = around(seed, reach);
+    let z = around(seed, reach);
+    run.move_to(rt, x, y, z);
 }
 
 fn change_height(rt: &impl Abort, seed: &mut u64, run: &mut Run) {
@@ -286,21 +287,19 @@ fn change_area(rt: &impl Abort, seed: &mut u64, run: &mut Run) {
     run.raise(rt, below(seed, x1), below(seed, y1), x1, y1, dz);
 }
 
-fn change_planes(rt: &impl Abort, seed: &mut u64, run: &mut Run) -> Result<(), Fail> {
+fn change_planes(rt: &impl Abort, seed: &mut u64, run: &mut Run) {
     if run.engine.planes() == 6 {
-        return Ok(());
+        return;
     }
-    run.add_plane(
-        rt,
-        around(seed, 3),
-        around(seed, 3),
-        around(seed, 2),
-        around(seed, 40),
-    )
+    let a = around(seed, 3);
+    let b = around(seed, 3);
+    let c = around(seed, 2);
+    let d = around(seed, 40);
+    run.add_plane(rt, a, b, c, d);
 }
 
 /// A random run of eight frames.
-fn wander(rt: &impl Abort, alloc: Global, seed: &mut u64, n: u32) -> Result<(), Fail> {
+fn wander(rt: &impl Abort, alloc: Global, seed: &mut u64, n: u32) -> Result<(), NoMemory> {
     let budget = 2 + below(seed, 2 << (2 * n.min(5)));
     let spacing = 1 + below(seed, 40);
     let mut run = Run::new(rt, alloc, n, budget, spacing)?;
@@ -309,9 +308,9 @@ fn wander(rt: &impl Abort, alloc: Global, seed: &mut u64, n: u32) -> Result<(), 
     }
     for _frame in 0..8 {
         for _change in 0..below(seed, 4) {
-            change(rt, seed, &mut run)?;
+            change(rt, seed, &mut run);
         }
-        run.frame(rt, alloc)?;
+        run.frame(rt, alloc);
     }
     Ok(())
 }

@@ -4,7 +4,8 @@ use Rattle.frame_steps.proofs.MeasureLemmas.{run_small}
 use Rattle.deferred_loop.specs.Promise.{IsAtMost, AreStampsGood}
 use Rattle.roam_mesh.specs.Mesh.{members_of, seen_of}
 use Rattle.frame_loop.specs.Outlook.{OutlookState, told_of, readings_of, priority_seen, AreBracketed}
-use Rattle.frame_loop.proofs.PoolLemmas.{members_closed, same_members_leaves}
+use Rattle.edge_laws.proofs.SlotLemmas.{split_list-closed}
+use Rattle.frame_loop.proofs.PoolLemmas.{same_members_leaves}
 use Rattle.frame_loop.proofs.CountLemmas.{run_still, few_asked}
 use Rattle.frame_loop.proofs.frame.advance_mesh.Goals as goal
 
@@ -40,7 +41,7 @@ returns-clause-few_splits c =
     (run_small c.args.mesh.now.pool.n c.args.budget (priority_seen o)
     (subst (λ (k : ℕ). IsFalling k (priority_seen o)) n (c.outlook_laws.ensures.falls o)) c.requires.some
     (members_of c.args.mesh.now.pool) (members_of c.advance-steps.new.self.pool) c.advance-steps.result.splits c.advance-steps.result.merges
-    (members_closed c.args.mesh.now.pool c.pool-before.ensures.valid) c.advance-steps.ensures.run.run).0
+    (split_list-closed c.args.mesh.now.pool.n c.args.mesh.now.pool.pairs c.pool-before.ensures.valid) c.advance-steps.ensures.run.run).0
 
 pub returns-clause-few_merges : goal.returns-clause-few_merges
 returns-clause-few_merges c =
@@ -49,7 +50,7 @@ returns-clause-few_merges c =
     (run_small c.args.mesh.now.pool.n c.args.budget (priority_seen o)
     (subst (λ (k : ℕ). IsFalling k (priority_seen o)) n (c.outlook_laws.ensures.falls o)) c.requires.some
     (members_of c.args.mesh.now.pool) (members_of c.advance-steps.new.self.pool) c.advance-steps.result.splits c.advance-steps.result.merges
-    (members_closed c.args.mesh.now.pool c.pool-before.ensures.valid) c.advance-steps.ensures.run.run).1
+    (split_list-closed c.args.mesh.now.pool.n c.args.mesh.now.pool.pairs c.pool-before.ensures.valid) c.advance-steps.ensures.run.run).1
 
 pub returns-clause-few : goal.returns-clause-few
 returns-clause-few c =
@@ -57,7 +58,7 @@ returns-clause-few c =
     let merges = returns-clause-few_merges c in
     let asked = few_asked (told_of c.args.outlook.now) (readings_of c.args.outlook.now) c.args.odometer (seen_of c.args.mesh.now) c.args.budget
     (c.advance-steps.result.splits + c.advance-steps.result.merges) c.args.meter.now c.into_meter.result
-    (members_closed c.args.mesh.now.pool c.pool-before.ensures.valid) c.requires.some (returns-clause-most c) in
+    (split_list-closed c.args.mesh.now.pool.n c.args.mesh.now.pool.pairs c.pool-before.ensures.valid) c.requires.some (returns-clause-most c) in
     omega (arith, splits, merges, asked)
 
 pub returns-clause-still : goal.returns-clause-still
@@ -65,4 +66,4 @@ returns-clause-still c none = same_members_leaves c.args.mesh.now.pool c.advance
     c.advance-steps.ensures.n
     (run_still c.args.mesh.now.pool.n c.args.budget (priority_seen c.new-gauge.result.outlook.now)
     (members_of c.args.mesh.now.pool) (members_of c.advance-steps.new.self.pool) c.advance-steps.result.splits c.advance-steps.result.merges
-    (members_closed c.args.mesh.now.pool c.pool-before.ensures.valid) c.advance-steps.ensures.run.run (omega arith) (omega arith))
+    (split_list-closed c.args.mesh.now.pool.n c.args.mesh.now.pool.pairs c.pool-before.ensures.valid) c.advance-steps.ensures.run.run (omega arith) (omega arith))

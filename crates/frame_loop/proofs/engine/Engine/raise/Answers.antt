@@ -4,10 +4,11 @@ use Rattle.mesh_defs.specs.HeightField.{side_of}
 use Rattle.mesh_defs.specs.MeshText.{vertices_of}
 use Rattle.mesh_defs.specs.Triangle.{corners_of}
 use Rattle.mesh_defs.specs.State.{Area}
-use Rattle.wedgie_tree.specs.Edits.{area_of, overlaps}
+use Rattle.bintree_laws.specs.Areas.{overlaps}
+use Rattle.wedgie_tree.specs.Edits.{area_of}
 use Rattle.frame_loop.specs.Outlook.{OutlookState}
 use Rattle.frame_loop.specs.Engine.{IsExpired}
-use Rattle.frame_loop.proofs.BelowLemmas.{meets-overlaps}
+use Rattle.bintree_laws.proofs.AreaLemmas.{meets-overlaps}
 use Rattle.frame_loop.proofs.ExpiryLemmas.{AreAllExpired-kept}
 use Rattle.frame_loop.proofs.HeightLemmas.{heights_engine, heights_leaves}
 use Rattle.frame_loop.proofs.engine.Engine.raise.Goals as goal

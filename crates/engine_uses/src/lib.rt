@@ -1,0 +1,16 @@
+//! Two callers of the engine: a flight over terrain, and an edit under a camera that stands still.
+//!
+//! They show how `frame_loop` is used, and what its public clauses give to a caller: each frame's mesh has no cracks, keeps to the
+//! budget, and none that does is better. Nothing here is called by the program.
+
+#![tactic(auto)]
+
+mod edit;
+mod flight;
+mod step;
+#[cfg(test)]
+mod tests;
+
+pub use edit::set_and_look;
+pub use flight::fly;
+pub use step::Sight;

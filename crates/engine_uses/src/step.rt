@@ -1,0 +1,41 @@
+//! One frame, and what its caller knows of it.
+
+ghost use Rattle.std.specs.Prelude.{◌≡◌, ◌+◌, ◌<◌};
+ghost use Rattle.engine_uses.specs.Best.{IsBestSeen, mesh_seen};
+
+use closure_laws::frame_laws;
+use frame_loop::Engine;
+use plain_mesh::falling_laws;
+
+/// What these callers keep of what a frame tells.
+#[derive(Clone, Copy, Debug)]
+pub struct Sight {
+    /// How many triangles the mesh has.
+    pub triangles: u32,
+    /// The greatest priority of a triangle of the mesh.
+    pub worst: u64,
+    /// How many triangles were split in the frame.
+    pub splits: u32,
+    /// How many were merged.
+    pub merges: u32,
+}
+
+/// Makes a frame. Its mesh is a best one of the state.
+pub(crate) fn best_frame(engine: &mut Engine) -> Sight
+    requires some { engine.old.frames < 1000000 }
+    ensures best { IsBestSeen engine.old.state (mesh_seen engine.new) result }
+    ensures state { engine.new.state ≡ engine.old.state }
+    ensures odometer { engine.new.odometer ≡ engine.old.odometer }
+    ensures frames { engine.new.frames ≡ engine.old.frames + 1 }
+{
+    frame_laws();
+    falling_laws();
+    let _budget = engine.budget_in_force();
+    let note = engine.frame();
+    Sight {
+        triangles: note.triangles,
+        worst: note.worst,
+        splits: note.splits,
+        merges: note.merges,
+    }
+}
