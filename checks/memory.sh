@@ -1,61 +1,71 @@
-#!/usr/bin/env bash
-# Lets each allocation of a run fail in turn: a run of `mesh` with each kind of line, `info`, and `try`, up to the first run
-# that meets no refusal. Each has to end with status 1, its one line on standard error, an empty report and no mesh. Prints
-# for each command how many allocations were refused. The runs are those of `rt try`, which proves nothing and compiles the
-# program for each of them: some minutes a command, so it stands outside the gate.
-#
-# usage: checks/memory.sh [COMMAND..]     of mesh, info and try; all three if none is given
-set -u
-export LC_ALL=C
+# shellcheck shell=bash disable=SC2154
+# Runs of the built program in which each allocation fails in turn, up to the first run that meets no refusal. Each ends with
+# status 1, its one line on standard error, an empty report and no mesh. Sourced by checks/run; wants a C compiler.
 
-here=$(readlink -f -- "${BASH_SOURCE[0]}")
-top=${here%/*/*}
-room=$(mktemp -d) || exit 1
-trap 'rm -rf -- "$room"' EXIT
-mkdir "$room/meshes"
-{ printf 'P5\n5 5\n65535\n'; head -c 24 /dev/zero; printf '\0\012'; head -c 24 /dev/zero; } >"$room/g"
-printf '%s\n' '# each kind of line' frame 'camera 4 4 0' frame 'set 1 0 7' 'plane 1 0 0 -2' frame noplanes 'budget 5' frame \
-  'raise 0 0 2 2 -5' frame >"$room/s"
+mkdir -- "$room/memory" && cd -- "$room/memory" || exit 1
 
-# words COMMAND: the words of its run.
-words() {
-  case $1 in
-    mesh) printf '%s\n' mesh g s "$room/meshes/out" 9 1 ;;
-    info) printf '%s\n' info g ;;
-    try) printf '%s\n' try 2 1 ;;
-    *) return 1 ;;
-  esac
+# A library that is loaded before the program: the allocation whose number is in REFUSE gets no memory.
+cat >refuse.c <<'C'
+#define _GNU_SOURCE
+#include <dlfcn.h>
+#include <errno.h>
+#include <stdlib.h>
+
+static void *(*whole)(size_t), *(*again)(void *, size_t);
+static long count, refused;
+
+static int is_refused(void) {
+    if (!whole) {
+        const char *word = getenv("REFUSE");
+        whole = (void *(*)(size_t))dlsym(RTLD_NEXT, "malloc");
+        again = (void *(*)(void *, size_t))dlsym(RTLD_NEXT, "realloc");
+        refused = word ? atol(word) : 0;
+    }
+    if (++count != refused) return 0;
+    errno = ENOMEM;
+    return 1;
 }
 
-# one NUMBER COMMAND: a run whose allocation of this number fails.
-one() {
-  local all
-  mapfile -t all < <(words "$2")
-  (cd -- "$top/crates/roam_cli" && rt try --fail-alloc "$1" --data "g=$room/g" --data "s=$room/s" -- "${all[@]}") \
-    >"$room/report" 2>"$room/said" </dev/null
-}
+void *malloc(size_t size) { return is_refused() ? NULL : whole(size); }
+void *realloc(void *room, size_t size) { return is_refused() ? NULL : again(room, size); }
+C
 
-failed=0
-for command in "${@:-mesh info try}"; do
-  for command in $command; do
-    words "$command" >/dev/null || { echo "usage: checks/memory.sh [mesh] [info] [try]"; exit 2; }
+if cc -O1 -shared -fPIC -o refuse.so refuse.c -ldl 2>said; then
+  { printf 'P5\n5 5\n65535\n'; head -c 24 /dev/zero; printf '\0\012'; head -c 24 /dev/zero; } >g
+  printf '%s\n' '# each kind of line' frame 'camera 4 4 0' frame 'set 1 0 7' 'plane 1 0 0 -2' frame noplanes 'budget 5' frame \
+    'raise 0 0 2 2 -5' frame >s
+  { printf 'P5\n3 3\n65535\n'; head -c 9 /dev/zero; printf '\012'; head -c 8 /dev/zero; } >hill
+  printf '%s\n' 'v 0 0 0' 'v 2 0 0' 'v 0 2 0' 'v 2 2 0' 'f 1 2 3' 'f 4 3 2' >o
+  printf '%s\n' 'camera 0 0 0' 'leaf 2' 'leaf 3' 'want 2' >c
+
+  while read -r name words; do
+    why=()
     for ((number = 1; number <= 1000; number++)); do
-      one "$number" "$command"
+      # shellcheck disable=SC2086 # no word has blanks of its own
+      REFUSE=$number LD_PRELOAD=./refuse.so "$program" $words >report 2>said
       status=$?
       [ "$status" -ne 0 ] || break
-      why=
-      [ "$status" -eq 1 ] || why="status $status"
-      [ "$(grep '^roam: ' "$room/said")" = 'roam: out of memory' ] || why="$why; it does not say so: $(tail -n 1 "$room/said")"
-      [ ! -s "$room/report" ] || why="$why; the report is not empty"
-      [ -z "$(ls -A "$room/meshes")" ] || why="$why; a mesh was begun"
-      if [ -n "$why" ]; then
-        echo "FAILED $command, allocation $number: ${why#; }"
-        failed=1
-        break
-      fi
+      [ "$status" -eq 1 ] || why+=("allocation $number: status $status")
+      [ "$(cat said)" = 'roam: out of memory' ] || why+=("allocation $number: standard error has '$(head -n 2 said)'")
+      [ ! -s report ] || why+=("allocation $number: the report is not empty")
+      [ -z "$(find . -name 'out*.obj')" ] || why+=("allocation $number: a mesh was begun")
+      [ ${#why[@]} -eq 0 ] || break
     done
-    echo "$command: $((number - 1)) allocations were refused, each with status 1 and nothing written"
-    rm -f -- "$room/meshes/"*
-  done
-done
-exit "$failed"
+    # The words, and what a run holds: fewer refusals than these would say that they did not reach the program.
+    [ "$number" -ge 3 ] || why+=("only $((number - 1)) allocations were refused")
+    [ "$number" -le 1000 ] || why+=("1000 allocations were refused")
+    decide "each_allocation_of_${name}_fails_in_turn" ${why[0]+"${why[@]}"}
+    rm -f -- out*.obj
+  done <<'TABLE'
+mesh mesh g s out 9 1
+strip strip g s out 9 1
+measure measure g s 9 1
+info info g
+try try 2 1
+least least g s out 0 1
+certify_make certify make hill 0 0 0 4 1
+certify_check certify check hill o c 2 1
+TABLE
+else
+  skip memory "the C compiler makes no library to load before a program"
+fi

@@ -3,7 +3,7 @@
 # (greedy.py): the exit status, each line of the report and each byte of the meshes. Sourced by checks/run; wants python3.
 
 # The commands whose random runs are compared.
-compared=(mesh strip measure)
+compared=(mesh strip measure least certify)
 
 # Python itself, since python3 may be a script that looks for it, which is slow to start so often.
 python=$(python3 -c 'import sys; print(sys.executable)')

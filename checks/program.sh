@@ -56,7 +56,7 @@ expect() {
   { cat "$room/before"; [ "$2" -eq 0 ] || printf '%s\n' "${meshes[@]}"; } | sort -u |
     cmp -s - "$room/after" || why+=("the files there are not those wanted")
   case $1 in
-    0 | 3 | 4) [ ! -s "$room/said" ] || why+=("standard error has '$(head -c 200 "$room/said")'") ;;
+    0 | 3 | 4 | 7) [ ! -s "$room/said" ] || why+=("standard error has '$(head -c 200 "$room/said")'") ;;
     1 | 2 | 5 | 6) [ "$(wc -l <"$room/said")" -eq 1 ] || why+=("standard error has not one line") ;;
   esac
   grep -qF -- "${4:-}" "$room/said" || [ -z "${4:-}" ] || why+=("standard error does not say '$4'")
@@ -69,6 +69,8 @@ expect() {
 for example in "$top"/examples/*/; do
   mkdir -p -- "$room/examples/$(basename -- "$example")"
   cp -- "$example"* "$room/examples/$(basename -- "$example")" 2>/dev/null
+  # The mesh of one example is what another one checks.
+  cp -r -- "${example}expected" "$room/examples/$(basename -- "$example")"
 done
 
 # Of the meshes out*.obj, as many are wanted as the report has lines of frames; expected/ has some of them, or all.
@@ -85,7 +87,7 @@ for example in "$top"/examples/*/; do
     [ -f "$mesh" ] || continue
     cmp -s -- "$mesh" "${mesh##*/}" || why+=("${mesh##*/} differs")
   done
-  [ "$(find . -name 'out*.obj' | wc -l)" -eq "$(grep -cE '^(frame|strip) ' "$example/expected/report")" ] ||
+  [ "$(find . -maxdepth 1 -name 'out*.obj' | wc -l)" -eq "$(grep -cE '^(frame|strip) ' "$example/expected/report")" ] ||
     why+=("not as many meshes as wanted")
   decide "$name" ${why[0]+"${why[@]}"}
 done
@@ -371,6 +373,77 @@ start try_of_level_9
 run try 9 1
 expect 0 0 'try 9 1 frames 50 triangles 999963 worst 4223 blocked 50\n'
 
+# --- Certificates: nine points, of which the middle is 10 high, and the mesh of the two base triangles. ---
+
+hill() {
+  { printf 'P5\n3 3\n65535\n'; head -c 9 /dev/zero; printf '\012'; head -c 8 /dev/zero; } >g
+  flat_mesh 2 >o
+}
+
+# NAME, the certificate's lines (as printf's %b), budget, status, report
+while IFS='|' read -r name lines budget wanted report; do
+  start "$name"
+  hill
+  printf '%b' "$lines" >c
+  run certify check g o c "$budget" 1
+  expect "$wanted" 0 "$report\n"
+done <<'TABLE'
+a_certificate_of_one_reason|camera 0 0 0\nleaf 2\nleaf 3\nwant 2\n|2|0|certified camera 0 0 0 triangles 2 worst 1310720
+a_certificate_with_cr_and_no_last_lf|camera 0 0 0\r\nleaf 2\r\n\tleaf  3 \r\nwant 2|2|0|certified camera 0 0 0 triangles 2 worst 1310720
+a_reason_too_few|camera 0 0 0\nleaf 2\nleaf 3\nwant 2\n|3|7|rejected: too few reasons
+a_mate_as_a_reason|camera 0 0 0\nleaf 2\nleaf 3\nwant 2\nmate 3\n|3|0|certified camera 0 0 0 triangles 2 worst 1310720
+a_mate_named_twice|camera 0 0 0\nleaf 2\nleaf 3\nwant 2\nmate 3\nmate 3\n|3|7|rejected: bad reason 3
+a_reason_of_priority_0|camera 0 0 0\nleaf 2\nleaf 3\nwant 4\n|2|7|rejected: bad reason 1
+a_leaf_left_out|camera 0 0 0\nleaf 2\nwant 2\n|2|7|rejected: not conforming
+a_camera_alone|camera 0 0 0\n|2|7|rejected: not conforming
+a_leaf_behind_a_reason|camera 0 0 0\nleaf 2\nwant 2\nleaf 3\n|2|7|rejected: bad line 4
+a_certificate_without_bytes||2|7|rejected: bad line 1
+a_blank_line_of_a_certificate|camera 0 0 0\n\nleaf 2\n|2|7|rejected: bad line 2
+leaves_in_another_order|camera 0 0 0\nleaf 3\nleaf 2\nwant 2\n|2|7|rejected: mesh differs at 34
+TABLE
+
+start a_mesh_that_ends_early
+hill
+head -c 20 o >cut && mv cut o
+printf 'camera 0 0 0\nleaf 2\nleaf 3\nwant 2\n' >c
+run certify check g o c 2 1
+expect 7 0 'rejected: mesh differs at 20\n'
+
+start a_mesh_that_goes_on
+hill
+size=$(wc -c <o)
+echo >>o
+printf 'camera 0 0 0\nleaf 2\nleaf 3\nwant 2\n' >c
+run certify check g o c 2 1
+expect 7 0 "rejected: mesh differs at $size\n"
+
+start a_certificate_that_is_not_there
+hill
+run certify check g o c 2 1
+expect 5 0 ''
+
+start a_mesh_that_is_not_there
+hill
+rm o
+printf 'camera 0 0 0\nleaf 2\nleaf 3\nwant 2\n' >c
+run certify check g o c 2 1
+expect 5 0 ''
+
+start a_mesh_that_no_test_needs
+hill
+rm o
+printf 'camera 0 0 0\nleaf 2\n' >c
+run certify check g o c 2 1
+expect 7 0 'rejected: not conforming\n'
+
+# Which reasons are made is left open; that they are right ones is not.
+start a_certificate_that_is_made_and_checked
+hill
+run certify make g -1 2 -3 2 1
+cp "$room/report" c
+run certify check g o c 2 1
+expect 0 0 'certified camera -1 2 -3 triangles 2 worst 327680\n'
+
 # --- Words. ---
 
 long=$(printf '%0200d' 0)
@@ -406,6 +479,16 @@ usage a_spacing_that_is_no_number mesh g s out 2 one
 usage an_empty_spacing mesh g s out 2 ''
 usage an_empty_prefix mesh g s '' 2 1
 usage a_prefix_of_201_bytes mesh g s "${long}0" 2 1
+usage a_tolerance_beyond_the_greatest least g s out 1000000000000 1
+usage a_tolerance_that_is_no_number least g s out -1 1
+usage least_with_an_empty_prefix least g s '' 2 1
+usage least_without_a_tolerance least g s out 1
+usage certify_alone certify
+usage certify_with_another_word certify see g o c 2 1
+usage a_check_without_a_spacing certify check g o c 2
+usage a_camera_beyond_the_greatest certify make g 0 0 1073741825 2 1
+usage a_camera_that_is_no_number certify make g 0 +1 0 2 1
+usage a_certificate_of_budget_1 certify make g 0 0 0 1 1
 
 start a_budget_of_19_digits_and_the_greatest_spacing
 printf 'v 0 0 0\nv 2048 0 0\nv 0 2048 0\nv 2048 2048 0\nf 1 2 3\nf 4 3 2\n' >"$room/mesh"
