@@ -1,11 +1,10 @@
 -- An engine that follows a walk: where it begins, and what a line does to it.
-use Rattle.std.proofs.Common.{◌≡◌, ◌≢◌, ℕ, zero, suc, ◌+◌, ◌*◌, ◌^◌, ◌≤◌, Bool, false, IsTrue, List, [], ◌∷◌, ◌++◌, length, sum_by, refl, sym, ◌∙◌, ap, subst, arith, append-nil, length-append}
+use Rattle.std.proofs.Common.{◌≡◌, ◌≢◌, ℕ, ◌+◌, ◌*◌, ◌^◌, Bool, false, IsTrue, List, [], ◌∷◌, ◌++◌, length, sum_by, refl, sym, ◌∙◌, ap, subst, arith, append-nil, length-append}
 use Rattle.std.proofs.lemmas.List.Sums.{sum_by_push}
 use Rattle.std.specs.List.{filter, range_with_len}
 use Rattle.mesh_defs.specs.GridSet.{IsAscending}
 use Rattle.mesh_defs.specs.HeightField.{HeightField}
-use Rattle.mesh_defs.specs.ClosedSet.{leaves_of, among}
-use Rattle.mesh_defs.specs.MeshText.{vertices_of}
+use Rattle.mesh_defs.specs.ClosedSet.{among}
 use Rattle.mesh_defs.specs.State.{State, start_state, priority_in}
 use Rattle.closure_laws.specs.Frame.{IsFrame}
 use Rattle.closure_laws.proofs.SetListLemmas.{ascending-filter, ascending-range}

@@ -1,5 +1,5 @@
 -- Frames as strips and as measures: what is written is what the picture says.
-use Rattle.std.proofs.Common.{◌≡◌, ℕ, ◌^◌, Bool, true, List, [], ◌∷◌, ◌++◌, length, Option, Some, refl, sym, ◌∙◌, ap, subst}
+use Rattle.std.proofs.Common.{◌≡◌, ℕ, true, List, [], ◌∷◌, ◌++◌, length, Option, Some, ◌∙◌, ap, subst}
 use Rattle.mesh_defs.specs.HeightField.{HeightField}
 use Rattle.mesh_defs.specs.View.{ViewPlane}
 use Rattle.mesh_defs.specs.State.{text_in}
@@ -14,15 +14,13 @@ use Rattle.strip_laws.specs.Strip.{strip_of}
 use Rattle.roam_mesh.specs.Mesh.{members_of}
 use Rattle.frame_loop.specs.Engine.{EngineState}
 use Rattle.frame_loop.specs.declared.note.FrameNote.{FrameNote}
-use Rattle.run_laws.specs.Words.{AsStrips, AsMeasures}
 use Rattle.run_laws.specs.Turns.{left_turns, right_turns}
 use Rattle.run_laws.specs.Act.{Act, ReportText, WholeMesh, told, Stands, IsCutShort}
-use Rattle.run_laws.specs.Picture.{Picture, strip_triangles}
-use Rattle.run_laws.specs.ReportText.{strip_line, measure_line}
-use Rattle.run_laws.specs.Outcome.{picture_acts}
-use Rattle.run_laws.proofs.ActLemmas.{cut-mesh, cut-line, cut-only-line, stands-text, stands-append}
+use Rattle.run_laws.specs.Picture.{strip_triangles}
+use Rattle.run_laws.specs.ReportText.{strip_line}
+use Rattle.run_laws.proofs.ActLemmas.{cut-mesh, cut-line, cut-only-line, stands-text}
 use Rattle.roam_run.specs.NoteSeen.{picture_seen}
-use Rattle.roam_run.specs.ShowView.{strip_numbers, measure_numbers}
+use Rattle.roam_run.specs.ShowView.{strip_numbers}
 
 -- the text of an engine's mesh in the order of its strip is that of the picture
 pub strip-text : (engine : EngineState) (note : FrameNote) (view : MeshView) → view.wedges.now ≡ engine.state.grid → view.planes.now ≡ engine.state.view.planes

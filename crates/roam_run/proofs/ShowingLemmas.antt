@@ -1,31 +1,22 @@
 -- The ways in which the frames of an engine are shown: an engine makes them, and nothing but the frames is told.
-use Rattle.std.proofs.Common.{◌≡◌, ◌≢◌, ℕ, ◌+◌, ◌*◌, ◌^◌, ◌<◌, ◌≤◌, min, ◌↔◌, ◌&&◌, true, IsTrue, IsSome, List, [], length, Option, Some, None, Result, OnOk, OnErr, refl, sym, ◌∙◌, ap, subst, arith}
-use Rattle.mesh_defs.specs.HeightField.{HeightField}
-use Rattle.mesh_defs.specs.State.{State, start_state}
+use Rattle.std.proofs.Common.{◌≡◌, ℕ, ◌+◌, ◌*◌, ◌^◌, ◌≤◌, true, IsTrue, List, [], length, Some, None, Result, OnOk, OnErr, refl, sym, ◌∙◌, ap, subst, arith}
+use Rattle.mesh_defs.specs.State.{State}
 use Rattle.mesh_defs.specs.ClosedSet.{leaves_of, among}
-use Rattle.view_priority.specs.Camera.{IsCamera}
 use Rattle.closure_laws.proofs.LeafLemmas.{leaves-most}
 use Rattle.roam_mesh.specs.Mesh.{members_of}
 use Rattle.frame_loop.specs.Engine.{EngineState, IsFrameDone}
 use Rattle.frame_loop.specs.declared.note.FrameNote.{FrameNote}
-use Rattle.roam_script.specs.declared.limits.Limits.{Limits}
-use Rattle.roam_script.specs.declared.limits.TheConstants.{MOST_FRAMES}
-use Rattle.roam_script.specs.declared.line.Line.{Line}
-use Rattle.roam_script.specs.declared.line.Line.TheVariants.{Blank, Camera, Set, Plane, NoPlanes, Budget, Raise, Frame}
-use Rattle.roam_script.specs.Laws.{LiesInRange}
-use Rattle.run_laws.specs.Walk.{Walk, limits_of, state_after}
-use Rattle.run_laws.specs.declared.status.Status.{Status}
+use Rattle.run_laws.specs.Walk.{Walk}
 use Rattle.run_laws.specs.Words.{Show, AsLeast, is_of_engine}
-use Rattle.run_laws.specs.Promise.{ends_script}
 use Rattle.run_laws.specs.Picture.{Picture, IsPicture, last_members}
 use Rattle.run_laws.specs.Act.{Told, Stands, IsCutShort}
 use Rattle.run_laws.specs.Outcome.{Outcome, picture_acts, sum_acts, engine_for, engine_end}
 use Rattle.roam_run.specs.declared.showing.Showing.{Showing}
 use Rattle.roam_run.specs.declared.showing.Showing.TheVariants.{Meshes, Strips, Measures}
-use Rattle.roam_run.specs.EngineSeen.{engine_seen, IsUnder, IsCarriedOut, HasFollowed}
-use Rattle.roam_run.specs.EngineFrames.{EngineFollows, IsUnderEngine, IsEngineReady}
+use Rattle.roam_run.specs.EngineSeen.{engine_seen}
+use Rattle.roam_run.specs.EngineFrames.{EngineFollows, IsEngineReady}
 use Rattle.roam_run.specs.NoteSeen.{picture_seen, leaves_seen}
-use Rattle.roam_run.specs.ShowView.{show_seen, IsShowing, is_strip}
+use Rattle.roam_run.specs.ShowView.{show_seen, is_strip}
 use Rattle.roam_run.specs.Taking.{TakesFrame, Leaves}
 use Rattle.roam_run.proofs.EngineLemmas.{followed-frame, picture-shown, followed-end}
 

@@ -1,5 +1,5 @@
 -- A generated run: its lines lie in their ranges, each leads one step along the walk, and the sums are those of the pictures.
-use Rattle.std.proofs.Common.{◌≡◌, ◌≢◌, ℕ, suc, ◌+◌, ◌*◌, ◌^◌, ◌≤◌, ◌++◌, max, is_some, if◌then◌else◌, List, [], ◌∷◌, length, get_or, drop, drop-cons, drop_of_length-le, cond, Option, Some, None, refl, sym, ◌∙◌, ap, subst, arith, append-nil, length-append, slice_get}
+use Rattle.std.proofs.Common.{◌≡◌, ◌≢◌, ℕ, suc, ◌+◌, ◌^◌, ◌≤◌, ◌++◌, max, is_some, if◌then◌else◌, List, [], ◌∷◌, length, get_or, drop, drop-cons, drop_of_length-le, cond, Option, Some, None, refl, sym, ◌∙◌, ap, subst, arith, append-nil, length-append, slice_get}
 use Rattle.std.proofs.lemmas.List.Sums.{sum_by_push}
 use Rattle.std.proofs.lemmas.Option.{slice_get_within, get_or_from_slice_get}
 use Rattle.mesh_defs.specs.ClosedSet.{leaves_of, among}
@@ -16,17 +16,17 @@ use Rattle.roam_script.specs.declared.line.Line.TheVariants.{Blank, Camera, Set,
 use Rattle.roam_script.specs.Laws.{LiesInRange}
 use Rattle.roam_gen.specs.Generated.{made_grid, made_lines}
 use Rattle.roam_gen.specs.Laws.{IsMadeLine}
-use Rattle.run_laws.specs.Walk.{Walk, start_walk, state_after, shown_by, after_line, walk_along}
+use Rattle.run_laws.specs.Walk.{Walk, start_walk, state_after, after_line, walk_along}
 use Rattle.run_laws.specs.Words.{AsSums}
-use Rattle.run_laws.specs.Picture.{Picture, triangles_of, ArePictures, last_members}
+use Rattle.run_laws.specs.Picture.{Picture, triangles_of, ArePictures}
 use Rattle.run_laws.specs.ReportText.{all_triangles, worst_in, count_blocked}
-use Rattle.run_laws.specs.Outcome.{made_budget, made_spacing, made_walk}
+use Rattle.run_laws.specs.Outcome.{made_walk}
 use Rattle.run_laws.proofs.WalkLemmas.{ArePictures-append}
 use Rattle.roam_run.specs.declared.generated.Sums.{Sums}
 use Rattle.roam_run.specs.EngineSeen.{IsUnder, IsCarriedOut, HasFollowed}
 use Rattle.roam_run.specs.NoteSeen.{picture_seen}
-use Rattle.roam_run.specs.SumView.{made_start, IsSumOf, AreFew, HasGone, SumsUp}
-use Rattle.roam_run.proofs.EngineLemmas.{followed-begins, followed-line, followed-frame, picture-shown}
+use Rattle.roam_run.specs.SumView.{made_start, IsSumOf, HasGone, SumsUp}
+use Rattle.roam_run.proofs.EngineLemmas.{followed-line, followed-frame, picture-shown}
 
 -- sums of one picture more
 

@@ -1,5 +1,5 @@
 -- What words do whose command is known: the promises of a run from those of its command.
-use Rattle.std.proofs.Common.{◌≡◌, ◌≢◌, ℕ, ◌-◌, ◌^◌, ◌<◌, ◌⊎◌, ◌↔◌, IsTrue, IsSome, false, ap, List, [], ◌∷◌, Option, option_map, Some, None, refl, sym, ◌∙◌, subst, inl, inr, arith}
+use Rattle.std.proofs.Common.{◌≡◌, ◌≢◌, ℕ, ◌-◌, ◌^◌, ◌<◌, ◌⊎◌, ◌↔◌, IsTrue, IsSome, ap, List, [], ◌∷◌, Option, option_map, Some, None, refl, sym, ◌∙◌, subst, inl, inr, arith}
 use Rattle.roam_edge.specs.Shelf.{NamedFile}
 use Rattle.roam_edge.specs.Fault.{Rose}
 use Rattle.run_laws.specs.declared.status.Status.{Status}

@@ -9,7 +9,7 @@ use Rattle.run_laws.specs.declared.status.Status.TheVariants as ends
 use Rattle.run_laws.specs.Walk.{Refusal}
 use Rattle.run_laws.specs.Words.{AsSums, Generated}
 use Rattle.run_laws.specs.Picture.{Picture}
-use Rattle.run_laws.specs.ReportText.{all_triangles, worst_in, count_blocked, sums_line, try_line}
+use Rattle.run_laws.specs.ReportText.{all_triangles, worst_in, sums_line, try_line}
 use Rattle.run_laws.specs.Act.{Act, ReportText, Told, Stands, IsCutShort}
 use Rattle.run_laws.specs.Outcome.{Outcome, text_outcome, shown_acts, sum_acts, stop_acts, stop_status, frames_outcome, engine_end, made_walk}
 use Rattle.run_laws.specs.Promise.{Seen, is_complete, ends_script}

@@ -1,8 +1,7 @@
 -- An engine in the words of a run: what is seen of it at the end, what a line does to it, and how it follows a walk.
 -- All of it is this project's own.
 -- Words: engine_seen, IsUnder, IsCarriedOut, HasFollowed.
-use Rattle.std.specs.Prelude.{◌≡◌, ℕ, ◌+◌, ◌^◌, ◌≤◌, List, [], length, sum_by}
-use Rattle.mesh_defs.specs.State.{State}
+use Rattle.std.specs.Prelude.{◌≡◌, ◌+◌, ◌^◌, ◌≤◌, List, [], length, sum_by}
 use Rattle.view_priority.specs.Camera.{IsCamera}
 use Rattle.roam_mesh.specs.Mesh.{members_of}
 use Rattle.frame_loop.specs.Engine.{EngineState}

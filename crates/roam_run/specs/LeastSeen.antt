@@ -1,6 +1,6 @@
 -- The least meshes of a tolerance, as what makes the frames of a script. This project's own.
 -- Words: state_seen, LeastFollows, IsUnderLeast, IsLeastReady, IsLeastNoted, least_acts.
-use Rattle.std.specs.Prelude.{◌≡◌, ℕ, ◌≤◌, List, [], ◌∷◌, length}
+use Rattle.std.specs.Prelude.{◌≡◌, ◌≤◌, List, [], ◌∷◌, length}
 use Rattle.mesh_defs.specs.MeshText.{vertices_of}
 use Rattle.mesh_defs.specs.State.{State, text_in}
 use Rattle.view_priority.specs.Camera.{view_from}

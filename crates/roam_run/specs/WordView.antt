@@ -1,6 +1,6 @@
 -- The commands of the code in the words of a run, and what the code knows of them.
 -- Words: show_for, IsMaking, scripted_seen, command_seen, IsFrameCommand, IsAccepted.
-use Rattle.std.specs.Prelude.{ℕ, ◌≤◌}
+use Rattle.std.specs.Prelude.{◌≤◌}
 use Rattle.wedgie_tree.specs.declared.wedges.TheConstants.{GREATEST_SPACING}
 use Rattle.roam_run.specs.declared.words.FrameWords.{FrameWords}
 use Rattle.roam_run.specs.declared.words.Command.{Command}

@@ -1,9 +1,9 @@
-use Rattle.std.proofs.Common.{◌≡◌, ◌++◌, ℕ, List, Some, take, rules, arith, ap, ◌∙◌}
+use Rattle.std.proofs.Common.{◌≡◌, take, rules, arith, ap, ◌∙◌}
 use Rattle.std.proofs.lemmas.Grind.{common_steps}
 use Rattle.std.proofs.lemmas.Result.{err_from_is_err_and}
 use Rattle.roam_run.specs.declared.cert_file.CertStop.TheVariants.{BadLine}
 use Rattle.roam_run.proofs.ReadingLemmas.{front-read}
-use Rattle.roam_run.proofs.CertStageLemmas.{cert-more, cert-refused, cert-ok, cert-bad, cert-not_opened, lines-bound}
+use Rattle.roam_run.proofs.CertStageLemmas.{cert-more, cert-refused, cert-ok, cert-bad, cert-not_opened}
 use Rattle.roam_run.proofs.cert_file.read_cert.Goals as goal
 
 pub returns-in_default-clause-undecided : goal.returns-in_default-clause-undecided

@@ -1,4 +1,4 @@
-use Rattle.std.proofs.Common.{Global, ℕ, List, string_bytes, sym, ◌∙◌, arith}
+use Rattle.std.proofs.Common.{string_bytes, sym, ◌∙◌, arith}
 use Rattle.roam_run.proofs.WordLemmas.{eight-words, make-of}
 use Rattle.roam_run.proofs.certify_words.make_words.Goals as goal
 

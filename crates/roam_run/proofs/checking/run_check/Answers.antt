@@ -1,4 +1,4 @@
-use Rattle.std.proofs.Common.{Err, Some, sym, ◌∙◌, ap}
+use Rattle.std.proofs.Common.{Err, ◌∙◌, ap}
 use Rattle.run_laws.specs.Words.{Job, Check, Checking}
 use Rattle.run_laws.specs.ReportText.{grid_refusal}
 use Rattle.roam_run.specs.CertifyView.{checking_seen}

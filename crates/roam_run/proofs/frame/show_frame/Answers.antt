@@ -1,4 +1,3 @@
-use Rattle.std.proofs.Common.{arith}
 use Rattle.roam_run.proofs.frame.show_frame.Goals as goal
 
 pub returns-in-Strips-clause-ok : goal.returns-in-Strips-clause-ok

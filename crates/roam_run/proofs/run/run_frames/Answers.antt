@@ -1,4 +1,4 @@
-use Rattle.std.proofs.Common.{◌≡◌, ℕ, List, [], Err, None, option_map, refl, sym, ◌∙◌, ap, subst}
+use Rattle.std.proofs.Common.{◌≡◌, [], Err, option_map, refl, sym, ◌∙◌, ap, subst}
 use Rattle.run_laws.specs.Words.{Show, Frames, Scripted, AsLeast}
 use Rattle.run_laws.specs.ReportText.{grid_refusal}
 use Rattle.roam_run.specs.EngineSeen.{engine_seen}

@@ -1,4 +1,4 @@
-use Rattle.std.proofs.Common.{◌≡◌, ◌≢◌, ◌<◌, Ok, Err, [], ℕ, List, refl, sym, ap, ◌∙◌, rules, arith}
+use Rattle.std.proofs.Common.{◌≡◌, ◌≢◌, ◌<◌, Ok, Err, [], sym, ap, ◌∙◌, arith}
 use Rattle.std.proofs.lemmas.Grind.{common_steps}
 use Rattle.roam_script.specs.declared.limits.TheConstants.{MOST_LINES}
 use Rattle.roam_script.specs.declared.line.Line.{Line}

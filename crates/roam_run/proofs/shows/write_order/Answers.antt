@@ -1,7 +1,6 @@
 use Rattle.std.proofs.Common.{◌≡◌, List, ℕ, refl, ◌∙◌}
 use Rattle.std.proofs.lemmas.Result.{err_from_is_err_and, on_err_weaker, on_ok_weaker}
 use Rattle.mesh_defs.specs.State.{text_in}
-use Rattle.frame_loop.specs.declared.note.FrameNote.{FrameNote}
 use Rattle.obj_write.specs.MeshView.{view_text}
 use Rattle.run_laws.specs.Picture.{strip_triangles}
 use Rattle.run_laws.specs.ReportText.{strip_line}

@@ -1,4 +1,3 @@
-use Rattle.std.proofs.Common.{List, ℕ, length, ap, subst, sym}
 use Rattle.roam_run.proofs.FrameLemmas.{done-noted}
 use Rattle.roam_run.proofs.ShowingLemmas.{frame-room, engine-takes}
 use Rattle.roam_run.proofs.engine_frames.EngineFramesFrameMaker.take_frame.Goals as goal
