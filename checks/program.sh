@@ -402,6 +402,45 @@ a_blank_line_of_a_certificate|camera 0 0 0\n\nleaf 2\n|2|7|rejected: bad line 2
 leaves_in_another_order|camera 0 0 0\nleaf 3\nleaf 2\nwant 2\n|2|7|rejected: mesh differs at 34
 TABLE
 
+start leaves_and_faces_in_another_order
+hill
+printf 'v 0 0 0\nv 2 0 0\nv 0 2 0\nv 2 2 0\nf 4 3 2\nf 1 2 3\n' >o
+printf 'camera 0 0 0\nleaf 3\nleaf 2\nwant 2\n' >c
+run certify check g o c 2 1
+expect 0 0 'certified camera 0 0 0 triangles 2 worst 1310720\n'
+
+start a_bad_reason_where_the_worst_is_0
+printf 'camera 0 0 0\nleaf 2\nleaf 3\nwant 2\nwant 2\n' >c
+run certify check g "$room/mesh" c 2 1
+expect 7 0 'rejected: bad reason 2\n'
+
+start a_mesh_with_a_plane_in_force
+hill
+printf 'plane 1 0 0 0\nframe\n' >s
+run mesh g s with 2 1
+printf 'camera 0 0 0\nleaf 2\nleaf 3\nwant 2\n' >c
+run certify check g with000001.obj c 2 1
+expect 7 0 'rejected: mesh differs at 32\n'
+
+start more_triangles_than_the_budget
+hill
+printf 'camera 0 0 0\nleaf 4\nleaf 5\nleaf 6\nleaf 7\n' >c
+run certify check g o c 3 1
+expect 7 0 'rejected: over budget\n'
+
+# A line of 200 bytes with its CR, and one of 201.
+start a_certificate_with_a_line_of_200_bytes
+hill
+printf 'camera 0 0 0%187s\r\nleaf 2\nleaf 3\nwant 2\n' '' >c
+run certify check g o c 2 1
+expect 0 0 'certified camera 0 0 0 triangles 2 worst 1310720\n'
+
+start a_certificate_with_a_line_of_201_bytes
+hill
+printf 'camera 0 0 0\nleaf 2\nleaf 3%194s\r\nwant 2\n' '' >c
+run certify check g o c 2 1
+expect 7 0 'rejected: bad line 3\n'
+
 start a_mesh_that_ends_early
 hill
 head -c 20 o >cut && mv cut o
