@@ -56,7 +56,7 @@ none lemmas_are_cited_of_law_crates_alone "$(
       { split($1, at, "/"); split($NF, of, "."); if (own[of[2]] && of[2] != at[2] && !law[of[2]]) print $1 ": " of[2] }'
 )"
 
-none README_is_short "$(awk '{ n += NF } END { if (n > 1800) print n " words" }' README.md)"
+none README_is_short "$(awk '{ n += NF } END { if (n > 1400) print n " words" }' README.md)"
 
 none each_page_of_docs_says_whom_it_is_for \
   "$(for page in docs/*.md; do head -n 1 "$page" | grep -q '^# .*, for ' || echo "$page"; done)"
