@@ -1,7 +1,7 @@
 -- A test of lists of addresses that computes whether they are closed sets, and that what passes it is one.
 use Rattle.std.proofs.Common.{◌≡◌, ◌≢◌, ℕ, zero, suc, ◌+◌, ◌*◌, ◌/◌, ◌^◌, ◌<◌, ◌≤◌, inl, inr, Bool, true, false, ◌&&◌, ◌||◌, not, List, [], ◌∷◌, refl, sym, subst, arith}
 use Rattle.std.specs.Prelude.{nat_eq, nat_lt, nat_le}
-use Rattle.std.proofs.lemmas.Bool.{eqb-true, eq-eqb, leb-true, le-leb, ltb-true}
+use Rattle.std.proofs.lemmas.Bool.{and_from, and_parts, both_ways, not-true, or_left, or_right, eqb-true, eq-eqb, leb-true, le-leb, ltb-true}
 use Rattle.std.proofs.lemmas.Bool.Decides.{eqb_tells}
 use Rattle.mesh_defs.specs.declared.point.Corners.{Corners}
 use Rattle.mesh_defs.specs.Triangle.{level_of, corners_of, SameEnds, IsSplittable, IsMate}
@@ -10,17 +10,6 @@ use Rattle.mesh_defs.specs.MeshText.{is_same_point}
 use Rattle.mesh_defs.proofs.PointLemmas.{eq-same_point}
 
 -- Tests
-
-pub both : (p q : Bool) → p ≡ true → q ≡ true → (p && q) ≡ true
-both p q h k = rw (h, k) refl
-
-and-left : (p q : Bool) → (p && q) ≡ true → p ≡ true
-and-left true q h = refl
-and-left false q h = h
-
-and-right : (p q : Bool) → (p && q) ≡ true → q ≡ true
-and-right true q h = h
-and-right false q h = absurd (cc)
 
 pub implied : (p q : Bool) → (not p || q) ≡ true → p ≡ true → q ≡ true
 implied true q h k = h
@@ -34,9 +23,9 @@ all_below p (suc k) = p k && all_below p k
 pub all_below-at : (p : ℕ → Bool) (k b : ℕ) → all_below p k ≡ true → b < k → p b ≡ true
 all_below-at p zero b h lt = absurd (omega arith)
 all_below-at p (suc k) b h lt = elim (eqb_tells b k) [
-  | inl e ↦ subst (λ (i : ℕ). p i ≡ true) (sym (e.1)) (and-left (p k) (all_below p k) h)
+  | inl e ↦ subst (λ (i : ℕ). p i ≡ true) (sym (e.1)) ((and_parts (p k) (all_below p k) h).0)
   | inr e ↦ let ne : b ≢ k = e.1 in
-      all_below-at p k b (and-right (p k) (all_below p k) h) (omega arith)
+      all_below-at p k b ((and_parts (p k) (all_below p k) h).1) (omega arith)
 ]
 
 -- Points and mates
@@ -46,17 +35,10 @@ abbrev pub same_ends : Corners → Corners → Bool
 same_ends c d =
     (is_same_point c.v0 d.v0 && is_same_point c.v1 d.v1) || (is_same_point c.v0 d.v1 && is_same_point c.v1 d.v0)
 
-left_of-or : (p q : Bool) → p ≡ true → (p || q) ≡ true
-left_of-or p q h = rw h refl
-
-right_of-or : (p q : Bool) → q ≡ true → (p || q) ≡ true
-right_of-or true q h = refl
-right_of-or false q h = h
-
 same_ends-test : (c d : Corners) → SameEnds c d → same_ends c d ≡ true
 same_ends-test c d h = elim h [
-  | inl e ↦ left_of-or _ _ (both _ _ (eq-same_point c.v0 d.v0 (e.0)) (eq-same_point c.v1 d.v1 (e.1)))
-  | inr e ↦ right_of-or _ _ (both _ _ (eq-same_point c.v0 d.v1 (e.0)) (eq-same_point c.v1 d.v0 (e.1)))
+  | inl e ↦ or_left _ _ (and_from _ _ (eq-same_point c.v0 d.v0 (e.0)) (eq-same_point c.v1 d.v1 (e.1)))
+  | inr e ↦ or_right _ _ (and_from _ _ (eq-same_point c.v0 d.v1 (e.0)) (eq-same_point c.v1 d.v0 (e.1)))
 ]
 
 -- b could be the mate of a
@@ -73,8 +55,8 @@ unequal b a ne = elim (eqb_tells b a) [
 
 is_mate-test : (n a b : ℕ) → IsMate n a b → is_mate n a b ≡ true
 is_mate-test n a b m =
-    both _ _ (both _ _ (le-leb 2 b m.address.low) (unequal b a m.other))
-    (both _ _ (eq-eqb (level_of b) (level_of a) m.level) (same_ends-test (corners_of n a) (corners_of n b) m.base))
+    and_from _ _ (and_from _ _ (le-leb 2 b m.address.low) (unequal b a m.other))
+    (and_from _ _ (eq-eqb (level_of b) (level_of a) m.level) (same_ends-test (corners_of n a) (corners_of n b) m.base))
 
 -- Closed lists
 
@@ -99,19 +81,19 @@ entry_fits n xs a =
 
 splittable-at : (n : ℕ) (xs : List ℕ) (a : ℕ) → entry_fits n xs a ≡ true → IsSplittable n a
 splittable-at n xs a h =
-    let first : (nat_le 2 a && nat_lt (level_of a) (2 * n)) ≡ true = and-left _ _ h in
+    let first : (nat_le 2 a && nat_lt (level_of a) (2 * n)) ≡ true = (and_parts _ _ h).0 in
     record {
-      low = leb-true 2 a (and-left _ _ first);
-      coarse = ltb-true (level_of a) (2 * n) (and-right _ _ first);
+      low = leb-true 2 a ((and_parts _ _ first).0);
+      coarse = ltb-true (level_of a) (2 * n) ((and_parts _ _ first).1);
     }
 
 parent-at : (n : ℕ) (xs : List ℕ) (a : ℕ) → entry_fits n xs a ≡ true → 4 ≤ a → among xs (a / 2) ≡ true
 parent-at n xs a h low =
-    implied _ _ (and-left _ _ (and-right _ _ h)) (le-leb 4 a low)
+    implied _ _ ((and_parts _ _ ((and_parts _ _ h).1)).0) (le-leb 4 a low)
 
 mate-at : (n : ℕ) (xs : List ℕ) (a b : ℕ) → entry_fits n xs a ≡ true → IsMate n a b → among xs b ≡ true
 mate-at n xs a b h m =
-    implied _ _ (all_below-at (λ i. not (is_mate n a i) || among xs i) (2 ^ (2 * n + 2)) b (and-right _ _ (and-right _ _ h)) m.address.high)
+    implied _ _ (all_below-at (λ i. not (is_mate n a i) || among xs i) (2 ^ (2 * n + 2)) b ((and_parts _ _ ((and_parts _ _ h).1)).1) m.address.high)
     (is_mate-test n a b m)
 
 -- a list each of whose entries fits is a closed set
@@ -126,14 +108,11 @@ closed-list n xs each =
 
 -- Mates of one triangle
 
-not-both : (p : Bool) → not p ≡ true → p ≡ true → ⊥
-not-both true h k = absurd (cc)
-not-both false h k = absurd (cc)
-
 -- no address passes the test, so there is no mate
 pub no_mate : (n a b : ℕ) → all_below (λ i. not (is_mate n a i)) (2 ^ (2 * n + 2)) ≡ true → IsMate n a b → ⊥
 no_mate n a b h m =
-    not-both (is_mate n a b) (all_below-at (λ i. not (is_mate n a i)) (2 ^ (2 * n + 2)) b h m.address.high)
+    both_ways (is_mate n a b)
+    (not-true (is_mate n a b) (all_below-at (λ i. not (is_mate n a i)) (2 ^ (2 * n + 2)) b h m.address.high))
     (is_mate-test n a b m)
 
 -- m alone passes the test

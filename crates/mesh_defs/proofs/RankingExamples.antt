@@ -1,7 +1,7 @@
 -- What shows that a short list is a ranking, and that two least closed sets have the same leaves.
 use Rattle.std.proofs.Common.{◌≡◌, ℕ, zero, suc, ◌+◌, ◌-◌, ◌*◌, ◌/◌, ◌^◌, ◌<◌, ◌≤◌, inl, inr, Bool, true, false, ◌&&◌, ◌||◌, not, List, [], ◌∷◌, ◌++◌, refl, ◌∙◌, ap, subst, arith}
 use Rattle.std.specs.Prelude.{All, AllPairs, Contains, nat_le, nat_lt}
-use Rattle.std.proofs.lemmas.Bool.{le-leb, lt-ltb}
+use Rattle.std.proofs.lemmas.Bool.{and_from, le-leb, lt-ltb}
 use Rattle.std.proofs.lemmas.List.Elements.{All-cons}
 use Rattle.std.proofs.lemmas.List.Kept.{AllPairs-cons}
 use Rattle.std.proofs.lemmas.Nat.{pow_pos}
@@ -11,7 +11,7 @@ use Rattle.mesh_defs.specs.Triangle.{halvings, level_of, IsSplittable}
 use Rattle.mesh_defs.specs.ClosedSet.{IsLeastClosed, leaves_under, leaves_of, among}
 use Rattle.mesh_defs.specs.Ranking.{RanksBefore, IsRanking}
 use Rattle.mesh_defs.proofs.TestLemmas.{same_tests}
-use Rattle.mesh_defs.proofs.ClosedLists.{Each, each-among, all_below, all_below-at, both, implied}
+use Rattle.mesh_defs.proofs.ClosedLists.{Each, each-among, all_below, all_below-at, implied}
 
 -- an entry of a list whose entries all have P has P
 pub each-contains : (P : ℕ → Type 0) (xs : List ℕ) → Each P xs → (a : ℕ) → Contains xs a → P a
@@ -95,6 +95,6 @@ ranking-list n priority ranking low pairs entries there all = record {
     λ h. let within : a < 4 * 2 ^ (2 * n - 1) = splittable-bound n a low (h.0) in
         each-among (Contains ranking) ranking there a
         (implied _ _ (all_below-at (is_ranked priority ranking) (4 * 2 ^ (2 * n - 1)) a all within)
-        (both _ _ (le-leb 2 a (h.0.low)) (lt-ltb 0 (priority a) (h.1)))),
+        (and_from _ _ (le-leb 2 a (h.0.low)) (lt-ltb 0 (priority a) (h.1)))),
   );
 }
