@@ -1,6 +1,7 @@
 # shellcheck shell=bash disable=SC2154
 # Runs over small grids against a plain program that goes by the definitions and shares nothing with this one
-# (greedy.py): the exit status, each line of the report and each byte of the meshes. Sourced by checks/run; wants python3.
+# (greedy.py): the exit status, each line of the report and each byte of the meshes. Sourced by checks/run behind program.sh, whose
+# start and run it uses; wants python3.
 
 # The commands whose random runs are compared.
 compared=(mesh strip measure least certify)
@@ -89,6 +90,31 @@ done <<'TABLE'
 3 4294967295
 5 7
 TABLE
+
+# The generated grid and script of level 9 as files: 50 whole meshes, each with a triangle that blocks, and the sums of `try 9 1`.
+start the_generated_run_of_level_9_from_files
+"$python" "$checks/generated.py" 9 1 g s
+run mesh g s out 20000 30
+why=()
+[ "$status" -eq 0 ] || why+=("exit status $status")
+sums=$(awk '{ frames++; all += $4; if ($4 > most) most = $4; if ($8 > worst) worst = $8; if ($14 != "none") blocked++ }
+  END { print frames, all, worst, blocked, (most <= 20000) }' "$room/report")
+[ "$sums" = '50 999963 4223 50 1' ] || why+=("frames, triangles, worst, how many are blocked, and whether all are within the budget: $sums")
+[ "$(find . -name 'out*.obj' | wc -l)" -eq 50 ] || why+=('not 50 meshes')
+decide "$name" ${why[0]+"${why[@]}"}
+
+start the_generated_run_of_level_9_with_a_folder_under_the_name_of_mesh_3
+ln -f -- ../the_generated_run_of_level_9_from_files/[gs] .
+mkdir out000003.obj
+run mesh g s out 20000 30
+why=()
+[ "$status" -eq 6 ] || why+=("exit status $status, not 6")
+[ "$(wc -l <"$room/report")" -eq 2 ] || why+=('not two lines in the report')
+for mesh in out000001.obj out000002.obj; do
+  cmp -s "$mesh" "../the_generated_run_of_level_9_from_files/$mesh" || why+=("$mesh differs")
+done
+[ "$(find . -type f -name 'out*.obj' | wc -l)" -eq 2 ] || why+=('not two meshes')
+decide "$name" ${why[0]+"${why[@]}"}
 
 # --- Random runs (random_run.py) by their seeds: 100 of each command, or as many as RANDOM_RUNS says. ---
 

@@ -13,6 +13,19 @@ flat_grid() {
   head -c "$((2 * $1 * $1))" /dev/zero
 }
 
+# spots SIDE X,Y,H..: a height field of that many samples a row, 0 but for these points, each at most 255 high.
+spots() {
+  local side=$1 x y spot high
+  printf 'P5\n%d %d\n65535\n' "$side" "$side"
+  for ((y = side - 1; y >= 0; y--)); do
+    for ((x = 0; x < side; x++)); do
+      high=0
+      for spot in "${@:2}"; do [ "${spot%,*}" != "$x,$y" ] || high=${spot##*,}; done
+      printf '%b' "\\0\\x$(printf %02x "$high")"
+    done
+  done
+}
+
 # lines N [WORST BLOCKED]: the report of N frames of two triangles, each line ended by the two characters \n.
 lines() {
   local k
@@ -340,6 +353,98 @@ else
 fi
 rm -f g
 
+# --- Worked runs: reports and last meshes that were worked by hand. ---
+
+# Meshes as printf's %b, by their names in the table below.
+# shellcheck disable=SC2034 # read by their names
+{
+  halves='v 0 0 0\nv 2 0 0\nv 0 2 0\nv 2 2 0\nf 1 2 3\nf 4 3 2\n'
+  wide_halves='v 0 0 0\nv 60 0 0\nv 0 60 0\nv 60 60 0\nf 1 2 3\nf 4 3 2\n'
+  high_halves='v 0 0 65535\nv 2 0 65535\nv 0 2 65535\nv 2 2 65535\nf 1 2 3\nf 4 3 2\n'
+  quarters='v 0 0 0\nv 2 0 0\nv 1 1 10\nv 0 2 0\nv 2 2 0\nf 3 1 2\nf 3 4 1\nf 3 5 4\nf 3 2 5\n'
+  marked_quarters='v 0 0 0\nv 2 0 0\nv 1 1 10\nv 0 2 0\nv 2 2 0\ng cut\nf 3 1 2\ng outside\nf 3 4 1\ng cut\nf 3 5 4\nf 3 2 5\n'
+  nine='v 0 0 0\nv 1 0 10\nv 2 0 0\nv 4 0 0\nv 1 1 0\nv 0 2 0\nv 2 2 0\nv 0 4 0\nv 4 4 0\nf 5 3 7\nf 2 5 1\nf 2 3 5\nf 3 4 7\nf 6 7 8\nf 5 6 1\nf 5 7 6\nf 7 9 8\nf 7 4 9\n'
+  nine_in_a_strip='v 0 0 0\nv 1 0 10\nv 2 0 0\nv 4 0 0\nv 1 1 0\nv 0 2 0\nv 2 2 0\nv 0 4 0\nv 4 4 0\nf 3 4 7\nf 5 3 7\nf 2 3 5\nf 2 5 1\nf 5 6 1\nf 5 7 6\nf 6 7 8\nf 7 9 8\nf 7 4 9\n'
+}
+
+# expect_last STATUS REPORT [MESH]: how the program ended, what the report has (as printf's %b), that it left a mesh for each line of
+# a frame, and which mesh the last one is.
+expect_last() {
+  local why=() meshes=()
+  [ "$status" = "$1" ] || why+=("exit status $status, not $1")
+  printf '%b' "$2" | cmp -s - "$room/report" || why+=("the report is '$(head -c 300 "$room/report" | tr '\n' '/')'")
+  mapfile -t meshes < <(find . -name 'out*.obj' | sort)
+  [ "${#meshes[@]}" -eq "$(grep -cE '^(frame|strip) ' "$room/report")" ] || why+=("${#meshes[@]} meshes")
+  [ -z "${3:-}" ] || { [ "${#meshes[@]}" -gt 0 ] && printf '%b' "${!3}" | cmp -s - "${meshes[-1]}"; } || why+=("the last mesh is not $3")
+  decide "$name" ${why[0]+"${why[@]}"}
+}
+
+# NAME, the words, the spots of the grid, the script (as printf's %b), status, report, the last mesh where it is compared.
+while IFS='|' read -r name words heights script wanted report mesh; do
+  start "worked_$name"
+  # shellcheck disable=SC2086 # words and spots have no blanks of their own
+  spots $heights >g
+  printf '%b' "$script" >s
+  # shellcheck disable=SC2086
+  run $words
+  expect_last "$wanted" "$report" "$mesh"
+done <<'TABLE'
+flat_ground|mesh g s out 8 1|3|frame\n|0|frame 1 triangles 2 vertices 4 worst 0 splits 0 merges 0 blocked none\n|halves
+middle_at_4|mesh g s out 4 1|3 1,1,10|frame\n|0|frame 1 triangles 4 vertices 5 worst 0 splits 2 merges 0 blocked none\n|quarters
+middle_at_3|mesh g s out 3 1|3 1,1,10|frame\n|0|frame 1 triangles 2 vertices 4 worst 1310720 splits 0 merges 0 blocked 2 needs 4\n|halves
+middle_at_2|mesh g s out 2 1|3 1,1,10|frame\n|0|frame 1 triangles 2 vertices 4 worst 1310720 splits 0 merges 0 blocked 2 needs 4\n|halves
+border_at_4|mesh g s out 4 1|3 1,0,10|frame\n|0|frame 1 triangles 4 vertices 5 worst 1310720 splits 2 merges 0 blocked 4 needs 5\n|
+corner_at_9|mesh g s out 9 1|5 1,0,10|frame\n|0|frame 1 triangles 9 vertices 9 worst 0 splits 7 merges 0 blocked none\n|nine
+corner_at_8|mesh g s out 8 1|5 1,0,10|frame\n|0|frame 1 triangles 8 vertices 8 worst 1310720 splits 6 merges 0 blocked 17 needs 9\n|
+corner_at_7|mesh g s out 7 1|5 1,0,10|frame\n|0|frame 1 triangles 5 vertices 6 worst 1310720 splits 3 merges 0 blocked 8 needs 8\n|
+height_that_goes|mesh g s out 9 1|5 1,0,10|frame\nset 1 0 0\nframe\n|0|frame 1 triangles 9 vertices 9 worst 0 splits 7 merges 0 blocked none\nframe 2 triangles 2 vertices 4 worst 0 splits 0 merges 7 blocked none\n|
+camera_a_step_too_far|mesh g s out 8 1|3 0,0,1|camera -65536 0 0\nframe\n|0|frame 1 triangles 2 vertices 4 worst 0 splits 0 merges 0 blocked none\n|
+camera_a_step_nearer|mesh g s out 8 1|3 0,0,1|camera -65535 0 0\nframe\n|0|frame 1 triangles 6 vertices 7 worst 0 splits 4 merges 0 blocked none\n|
+spacing_of_30|mesh g s out 3 30|3 1,1,10|camera -29 0 0\nframe\n|0|frame 1 triangles 2 vertices 4 worst 43690 splits 0 merges 0 blocked 2 needs 4\n|wide_halves
+distance_of_5|mesh g s out 2 1|3 1,1,10|camera -3 -4 0\nframe\n|0|frame 1 triangles 2 vertices 4 worst 218453 splits 0 merges 0 blocked 2 needs 4\n|halves
+distance_of_13|mesh g s out 2 1|3 1,1,10|camera -3 -4 -12\nframe\n|0|frame 1 triangles 2 vertices 4 worst 93622 splits 0 merges 0 blocked 2 needs 4\n|halves
+plane_that_cuts|mesh g s out 4 1|3 1,1,10|plane 1 0 0 -2\nframe\n|0|frame 1 triangles 4 vertices 5 worst 0 splits 2 merges 0 blocked none inside 0 cut 3 outside 1\n|marked_quarters
+plane_with_all_outside|mesh g s out 4 1|3 1,1,10|plane 1 0 0 -3\nframe\n|0|frame 1 triangles 2 vertices 4 worst 0 splits 0 merges 0 blocked none inside 0 cut 0 outside 2\n|
+plane_with_a_quarter_outside|mesh g s out 8 1|3 1,0,10|plane 0 1 0 -2\nframe\n|0|frame 1 triangles 4 vertices 5 worst 0 splits 2 merges 0 blocked none inside 0 cut 3 outside 1\n|
+planes_that_are_dropped|mesh g s out 8 1|3|plane 1 0 0 -2\nnoplanes\nframe\n|0|frame 1 triangles 2 vertices 4 worst 0 splits 0 merges 0 blocked none\n|halves
+budget_that_falls_and_comes_back|mesh g s out 9 1|5 1,0,10|frame\nbudget 7\nframe\nbudget 9\nframe\n|0|frame 1 triangles 9 vertices 9 worst 0 splits 7 merges 0 blocked none\nframe 2 triangles 5 vertices 6 worst 1310720 splits 0 merges 4 blocked 8 needs 8\nframe 3 triangles 9 vertices 9 worst 0 splits 4 merges 0 blocked none\n|nine
+budget_above_that_of_the_words|mesh g s out 9 1|5 1,0,10|frame\nbudget 10\nframe\n|4|frame 1 triangles 9 vertices 9 worst 0 splits 7 merges 0 blocked none\nline 2 refused: out of range in field 1\n|nine
+raised_middle|mesh g s out 4 1|3|raise 1 1 1 1 10\nframe\n|0|frame 1 triangles 4 vertices 5 worst 0 splits 2 merges 0 blocked none\n|quarters
+raised_to_the_maxval|mesh g s out 4 1|3|raise 0 0 2 2 65535\nraise 1 1 1 1 1\nframe\n|0|frame 1 triangles 2 vertices 4 worst 0 splits 0 merges 0 blocked none\n|high_halves
+least_below_the_worst|least g s out 1310719 1|3 1,1,10|frame\n|0|frame 1 least 4 vertices 5 worst 0\n|quarters
+least_at_the_worst|least g s out 1310720 1|3 1,1,10|frame\n|0|frame 1 least 2 vertices 4 worst 1310720\n|halves
+least_at_0|least g s out 0 1|5 1,0,10|frame\n|0|frame 1 least 9 vertices 9 worst 0\n|nine
+strip_of_2|strip g s out 8 1|3|frame\n|0|strip 1 triangles 2 left 0 right 0\n|halves
+strip_of_4|strip g s out 4 1|3 1,1,10|frame\n|0|strip 1 triangles 4 left 0 right 2\n|quarters
+strip_of_9|strip g s out 9 1|5 1,0,10|frame\n|0|strip 1 triangles 9 left 2 right 5\n|nine_in_a_strip
+measure_of_2|measure g s 3 1|3 1,1,10|frame\n|0|measure 1 deviation 20 over 2 thickness 20\n|
+measure_of_4|measure g s 4 1|3 1,1,10|frame\n|0|measure 1 deviation 0 over 2 thickness 0\n|
+measure_over_4|measure g s 2 1|5 0,0,1|frame\n|0|measure 1 deviation 3 over 4 thickness 3\n|
+thickness_that_adds_up|info g|5 1,0,10 2,2,10|frame\n|0|side 5 maxval 65535 low 0 high 10 thickness 50\n|
+TABLE
+
+start worked_frame_that_changes_nothing
+spots 5 1,0,10 3,4,10 >g
+printf 'frame\ncamera 4 4 0\nframe\nframe\n' >s
+run mesh g s out 9 1
+cp out000002.obj "$room/second"
+cmp -s out000003.obj "$room/second" || rm -f out000003.obj
+expect_last 0 'frame 1 triangles 9 vertices 9 worst 436906 splits 7 merges 0 blocked 6 needs 10\nframe 2 triangles 9 vertices 9 worst 436906 splits 5 merges 5 blocked 4 needs 10\nframe 3 triangles 9 vertices 9 worst 436906 splits 0 merges 0 blocked 4 needs 10\n'
+
+# Grids in other forms: NAME, the bytes of the file (as printf's %b), budget, report, mesh.
+# shellcheck disable=SC2034 # read by its name
+corner_of_5='v 0 0 0\nv 2 0 0\nv 0 2 5\nv 2 2 0\nf 1 2 3\nf 4 3 2\n'
+while IFS='|' read -r name bytes budget report mesh; do
+  start "worked_$name"
+  printf '%b' "$bytes" >g
+  run mesh g s out "$budget" 1
+  expect_last 0 "$report" "$mesh"
+done <<'TABLE'
+grid_made_by_hand|P5\n# made by hand\n3 3\n255\n\0000\0000\0000\0000\0012\0000\0000\0000\0000|4|frame 1 triangles 4 vertices 5 worst 0 splits 2 merges 0 blocked none\n|quarters
+grid_with_a_comment_behind_the_width|P5\n3 # x\n3\n255\n\0000\0000\0000\0000\0012\0000\0000\0000\0000|4|frame 1 triangles 4 vertices 5 worst 0 splits 2 merges 0 blocked none\n|quarters
+plain_grid_begins_at_the_upper_left|P2 3 3 9\n5 0 0 0 0 0 0 0 0\n|2|frame 1 triangles 2 vertices 4 worst 655360 splits 0 merges 0 blocked 2 needs 4\n|corner_of_5
+TABLE
+
 # --- Info. ---
 
 start info_on_a_flat_grid
@@ -366,6 +471,17 @@ expect 5 0 ''
 start try_of_the_least_level
 run try 01 1
 expect 0 0 'try 1 1 frames 50 triangles 400 worst 0 blocked 0\n'
+
+# 512, 2,048 and 8,192 triangles are the finest meshes of these levels, and each fits the budget of 20,000.
+while read -r level seed triangles; do
+  start "try_of_level_$level"
+  run try "$level" "$seed"
+  expect 0 0 "try $level $seed frames 50 triangles $triangles worst 0 blocked 0\n"
+done <<'TABLE'
+4 5 25600
+5 4294967295 102400
+6 0 409600
+TABLE
 
 # The sums of the 50 frames that greedy.py makes from scratch of the generated grid and script, in some minutes. All of its
 # meshes were those of the program too.
@@ -441,6 +557,13 @@ printf 'camera 0 0 0\nleaf 2\nleaf 3%194s\r\nwant 2\n' '' >c
 run certify check g o c 2 1
 expect 7 0 'rejected: bad line 3\n'
 
+start a_mesh_of_a_greater_budget
+hill
+run mesh g s out 4 1
+printf 'camera 0 0 0\nleaf 2\nleaf 3\nwant 2\n' >c
+run certify check g out000001.obj c 2 1
+expect 7 0 'rejected: mesh differs at 18\n'
+
 start a_mesh_that_ends_early
 hill
 head -c 20 o >cut && mv cut o
@@ -483,6 +606,14 @@ cp "$room/report" c
 run certify check g o c 2 1
 expect 0 0 'certified camera -1 2 -3 triangles 2 worst 327680\n'
 
+start a_certificate_of_nine_triangles
+spots 5 1,0,10 3,4,10 >g
+run mesh g s out 9 1
+run certify make g 0 0 0 9 1
+cp "$room/report" c
+run certify check g out000001.obj c 9 1
+expect 0 0 'certified camera 0 0 0 triangles 9 worst 436906\n'
+
 # --- Words. ---
 
 long=$(printf '%0200d' 0)
@@ -518,6 +649,7 @@ usage a_spacing_that_is_no_number mesh g s out 2 one
 usage an_empty_spacing mesh g s out 2 ''
 usage an_empty_prefix mesh g s '' 2 1
 usage a_prefix_of_201_bytes mesh g s "${long}0" 2 1
+usage a_strip_of_budget_1 strip g s out 1 1
 usage a_tolerance_beyond_the_greatest least g s out 1000000000000 1
 usage a_tolerance_that_is_no_number least g s out -1 1
 usage least_with_an_empty_prefix least g s '' 2 1
