@@ -472,7 +472,8 @@ start try_of_the_least_level
 run try 01 1
 expect 0 0 'try 1 1 frames 50 triangles 400 worst 0 blocked 0\n'
 
-# 512, 2,048 and 8,192 triangles are the finest meshes of these levels, and each fits the budget of 20,000.
+# Meshes that all fit the budget of 20,000: the finest ones of 512 and 2,048 triangles, and those that greedy.py makes of level 6,
+# where some ground is flat.
 while read -r level seed triangles; do
   start "try_of_level_$level"
   run try "$level" "$seed"
@@ -480,7 +481,7 @@ while read -r level seed triangles; do
 done <<'TABLE'
 4 5 25600
 5 4294967295 102400
-6 0 409600
+6 0 409300
 TABLE
 
 # The sums of the 50 frames that greedy.py makes from scratch of the generated grid and script, in some minutes. All of its
