@@ -99,13 +99,14 @@ fn a_first_field_that_is_no_command_is_refused(rt: HostRuntime) {
 
 #[test]
 fn missing_and_further_fields_are_refused(rt: HostRuntime) {
-    let cases: [&[u8]; 15] = [
+    let cases: [&[u8]; 17] = [
         b"frame 1",
         b"frame # x",
         b"camera",
         b"camera 1 2",
         b"camera 1 2 3 4",
         b"camera a b",
+        b"set",
         b"set 9 9",
         b"set 0 0 0 0",
         b"plane 1 0 0",
@@ -114,6 +115,7 @@ fn missing_and_further_fields_are_refused(rt: HostRuntime) {
         b"budget",
         b"budget 2 3",
         b"raise 0 0 1 1",
+        b"raise 0 0 1 1 1 1",
         b"raise 0 0 1 1 1 # up",
     ];
     for text in cases {
@@ -123,7 +125,7 @@ fn missing_and_further_fields_are_refused(rt: HostRuntime) {
 
 #[test]
 fn the_first_field_that_is_no_number_is_told(rt: HostRuntime) {
-    let cases: [(&[u8], u32); 12] = [
+    let cases: [(&[u8], u32); 14] = [
         (b"camera 1 two 3", 2),
         (b"camera - 2 3", 1),
         (b"camera +1 2 3", 1),
@@ -134,8 +136,10 @@ fn the_first_field_that_is_no_number_is_told(rt: HostRuntime) {
         (b"camera 1 -0000000000000000001 3", 2),
         (b"set 0 x 999", 2),
         (b"plane 0 0 0 d", 4),
+        (b"budget +2", 1),
         (b"budget 2\r\r", 1),
         (b"raise 0 0 0 0 #", 5),
+        (b"raise 0 0 0 0 --1", 5),
     ];
     for (text, field) in cases {
         assert_eq!(rt; read(text), Err(ScriptFault::BadNumber { field }));
@@ -144,7 +148,7 @@ fn the_first_field_that_is_no_number_is_told(rt: HostRuntime) {
 
 #[test]
 fn each_range_ends_where_the_format_says(rt: HostRuntime) {
-    let inside: [&[u8]; 16] = [
+    let inside: [&[u8]; 17] = [
         b"camera -1073741824 1073741824 0",
         b"camera 1073741824 -1073741824 1073741824",
         b"camera 0 0 -1073741824",
@@ -157,6 +161,7 @@ fn each_range_ends_where_the_format_says(rt: HostRuntime) {
         b"budget 2",
         b"budget 8",
         b"raise 0 0 0 0 65535",
+        b"raise -0 -0 -0 -0 -0",
         b"raise 4 4 4 4 -65535",
         b"raise 0 0 4 4 0",
         b"raise 3 1 3 1 1",
@@ -165,12 +170,13 @@ fn each_range_ends_where_the_format_says(rt: HostRuntime) {
     for text in inside {
         assert!(rt; read(text).is_ok());
     }
-    let outside: [(&[u8], u32); 30] = [
+    let outside: [(&[u8], u32); 36] = [
         (b"camera -1073741825 0 0", 1),
         (b"camera 1073741825 0 0", 1),
         (b"camera 0 -1073741825 0", 2),
         (b"camera 0 1073741825 0", 2),
         (b"camera 0 0 -1073741825", 3),
+        (b"camera 0 0 1073741825", 3),
         (b"camera 0 0 999999999999999999", 3),
         (b"set -1 0 0", 1),
         (b"set 5 0 0", 1),
@@ -188,10 +194,15 @@ fn each_range_ends_where_the_format_says(rt: HostRuntime) {
         (b"plane 0 0 0 1125899906842625", 4),
         (b"budget 1", 1),
         (b"budget 9", 1),
+        (b"budget -0", 1),
         (b"raise -1 0 4 4 0", 1),
+        (b"raise 5 0 4 4 0", 1),
+        (b"raise 0 -1 4 4 0", 2),
         (b"raise 0 5 4 4 0", 2),
+        (b"raise 0 0 -1 4 0", 3),
         (b"raise 2 0 1 4 0", 3),
         (b"raise 2 0 5 4 0", 3),
+        (b"raise 0 0 4 -1 0", 4),
         (b"raise 0 2 4 1 0", 4),
         (b"raise 0 2 4 5 0", 4),
         (b"raise 0 0 4 4 -65536", 5),
@@ -238,8 +249,17 @@ fn a_line_has_at_most_200_bytes(rt: HostRuntime) {
     assert_eq!(rt; read(&line), Err(ScriptFault::LineTooLong));
     line[199] = b'\r';
     assert_eq!(rt; read(&line[..200]), Ok(Line::Blank));
-    let blank = [b' '; 201];
-    assert_eq!(rt; read(&blank), Err(ScriptFault::LineTooLong));
+    let mut frame = [b' '; 201];
+    assert_eq!(rt; read(&frame), Err(ScriptFault::LineTooLong));
+    frame[194..199].copy_from_slice(b"frame");
+    assert_eq!(rt; read(&frame[..200]), Ok(Line::Frame));
+    assert_eq!(rt; read(&frame), Err(ScriptFault::LineTooLong));
+    frame[199] = b'\r';
+    assert_eq!(rt; read(&frame[..200]), Ok(Line::Frame));
+    frame[199] = b's';
+    assert_eq!(rt; read(&frame[..200]), Err(ScriptFault::UnknownCommand));
+    frame[200] = b'\r';
+    assert_eq!(rt; read(&frame), Err(ScriptFault::LineTooLong));
 }
 
 #[test]
