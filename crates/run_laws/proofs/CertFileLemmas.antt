@@ -1,7 +1,7 @@
 -- How far a certificate was read, byte by byte: what one byte more does to the place that was reached, and what the whole file is.
 use Rattle.std.proofs.Common.{◌≡◌, ◌≢◌, ℕ, ◌+◌, ◌<◌, ◌≤◌, Bool, List, [], ◌∷◌, ◌++◌, length, Option, Some, None, Result, Ok, Err, if◌then◌else◌, refl, sym, ◌∙◌, ap, subst, inl, inr, arith, append_assoc, append-nil, length-append}
 use Rattle.std.proofs.lemmas.Bool.{lt-ltb}
-use Rattle.std.proofs.lemmas.List.Elements.{recursion_from_All, All-from_recursion}
+use Rattle.std.proofs.lemmas.List.Elements.{All-from_recursion}
 use Rattle.roam_script.specs.declared.limits.TheConstants.{MOST_LINE_BYTES}
 use Rattle.text_laws.specs.Fields.{fields_of, without_last_cr}
 use Rattle.mesh_defs.specs.BoundingBox.{CameraAt}
@@ -12,7 +12,7 @@ use Rattle.cert_text.specs.declared.fault.CertFault.{CertFault}
 use Rattle.cert_text.specs.Laws.{line_count, LinesAreCounted}
 use Rattle.run_laws.specs.Walk.{lines_of, AreWhole}
 use Rattle.run_laws.specs.CertFile.{said_behind, said_in, cert_of, cert_in, CertPlace, HasCertCome}
-use Rattle.run_laws.proofs.LineLemmas.{NoEnd, lines_of-ends, lines_of-last, lines_of-begins, BeginsWith}
+use Rattle.run_laws.proofs.LineLemmas.{NoEnd, no_end, no_end-append, lines_of-ends, lines_of-last, lines_of-begins, BeginsWith}
 use Rattle.run_laws.proofs.WalkLemmas.{lines_of-ended}
 
 -- what lines say
@@ -85,9 +85,9 @@ cert_of-refused said fault is = elim-camera said.camera is
 
 -- how many lines were accepted
 
-lines-count : LinesAreCounted → (n number : ℕ) (said last : ReadSoFar) (lines : List (List ℕ)) → said_behind n number said lines ≡ Ok last → line_count last ≡ line_count said + length lines
-lines-count one n number said last [] is = sym (ap (λ (s : ReadSoFar). line_count s) (same-said said last is)) ∙ omega arith
-lines-count one n number said last (bytes ∷ lines) is = go (cert_line_in n said bytes) refl (λ next e. lines-count one n (number + 1) next last lines e) is
+said-count : LinesAreCounted → (n number : ℕ) (said last : ReadSoFar) (lines : List (List ℕ)) → said_behind n number said lines ≡ Ok last → line_count last ≡ line_count said + length lines
+said-count one n number said last [] is = sym (ap (λ (s : ReadSoFar). line_count s) (same-said said last is)) ∙ omega arith
+said-count one n number said last (bytes ∷ lines) is = go (cert_line_in n said bytes) refl (λ next e. said-count one n (number + 1) next last lines e) is
   where
     go : (answer : Option ReadSoFar) → cert_line_in n said bytes ≡ answer
         → ((next : ReadSoFar) → said_behind n (number + 1) next lines ≡ Ok last → line_count last ≡ line_count next + length lines)
@@ -96,10 +96,6 @@ lines-count one n number said last (bytes ∷ lines) is = go (cert_line_in n sai
     go (Some next) at rest e = (let more = rest next e in let first = one n said next bytes at in omega (arith, more, first))
 
 -- the place that was reached
-
-no_end-byte : (part : List ℕ) (byte : ℕ) → NoEnd part → byte ≢ 10 → NoEnd (part ++ byte ∷ [])
-no_end-byte [] byte one other = (other, tt)
-no_end-byte (x ∷ part) byte one other = (one.0, no_end-byte part byte one.1 other)
 
 abbrev pub cert_place : ReadSoFar → ℕ → List ℕ → CertPlace
 cert_place all count part = record { said = all; lines = count; begun = part }
@@ -125,11 +121,11 @@ long-line n said bytes long =
 
 module _ (n : ℕ) (read : List ℕ) (here : CertPlace) (come : HasCertCome n read here) where
   begun-ends : NoEnd here.begun
-  begun-ends = recursion_from_All (λ byte. byte ≢ 10) here.begun come.one_line
+  begun-ends = no_end here.begun come.one_line
 
   -- so many lines were accepted
   pub come-count : LinesAreCounted → here.lines ≡ line_count here.said
-  come-count one = sym come.counted ∙ sym (lines-count one n 1 nothing_read here.said (lines_of come.whole) come.accepted ∙ omega arith)
+  come-count one = sym come.counted ∙ sym (said-count one n 1 nothing_read here.said (lines_of come.whole) come.accepted ∙ omega arith)
 
   -- what was read, and more, leads on from the place
   said-come : (more : List ℕ) → said_in n (read ++ more) ≡ said_behind n (here.lines + 1) here.said (lines_of (here.begun ++ more))
@@ -154,7 +150,7 @@ module _ (n : ℕ) (read : List ℕ) (here : CertPlace) (come : HasCertCome n re
     ended = come.ended;
     accepted = come.accepted;
     counted = come.counted;
-    one_line = All-from_recursion (λ b. b ≢ 10) (here.begun ++ byte ∷ []) (no_end-byte here.begun byte begun-ends other);
+    one_line = All-from_recursion (λ b. b ≢ 10) (here.begun ++ byte ∷ []) (no_end-append here.begun byte begun-ends other);
     short = (let e = length-append here.begun (byte ∷ []) in omega (arith, e, short));
   }
 
@@ -192,7 +188,7 @@ module _ (n : ℕ) (read : List ℕ) (here : CertPlace) (come : HasCertCome n re
       (ap (said_in n) (append_assoc read (byte ∷ []) more)
       ∙ (said-come (byte ∷ more)
       ∙ (ap (λ (l : List ℕ). said_behind n (here.lines + 1) here.said (lines_of l)) (sym (append_assoc here.begun (byte ∷ []) more))
-      ∙ begins (here.begun ++ byte ∷ []) (no_end-byte here.begun byte begun-ends other) (let e = length-append here.begun (byte ∷ []) in omega (arith, e, long)))))
+      ∙ begins (here.begun ++ byte ∷ []) (no_end-append here.begun byte begun-ends other) (let e = length-append here.begun (byte ∷ []) in omega (arith, e, long)))))
     where
       begins : (part : List ℕ) → NoEnd part → MOST_LINE_BYTES < length part → said_behind n (here.lines + 1) here.said (lines_of (part ++ more)) ≡ Err (here.lines + 1)
       begins [] one short = absurd (omega (arith, short))

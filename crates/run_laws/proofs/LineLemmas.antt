@@ -1,12 +1,22 @@
 -- The lines of a text that is known up to some byte.
-use Rattle.std.proofs.Common.{◌≡◌, ◌≢◌, ℕ, List, [], ◌∷◌, ◌++◌, refl, ◌∙◌, ap}
+use Rattle.std.proofs.Common.{◌≡◌, ◌≢◌, ℕ, List, [], ◌∷◌, ◌++◌, All, refl, ◌∙◌, ap}
 use Rattle.std.specs.List.{AllByRecursion, onto_first}
 use Rattle.std.proofs.lemmas.Bool.{ne_eqb, cond-false}
+use Rattle.std.proofs.lemmas.List.Elements.{recursion_from_All}
 use Rattle.run_laws.specs.Walk.{lines_of}
 
 -- no byte is an LF, by recursion
 abbrev pub NoEnd : List ℕ → Type 0
 NoEnd part = AllByRecursion (λ byte. byte ≢ 10) part
+
+-- so of a list whose entries are no LF
+pub no_end : (part : List ℕ) → All (λ byte. byte ≢ 10) part → NoEnd part
+no_end part one = recursion_from_All (λ byte. byte ≢ 10) part one
+
+-- and of one byte more that is none
+pub no_end-append : (part : List ℕ) (byte : ℕ) → NoEnd part → byte ≢ 10 → NoEnd (part ++ byte ∷ [])
+no_end-append [] byte one other = (other, tt)
+no_end-append (x ∷ part) byte one other = (one.0, no_end-append part byte one.1 other)
 
 -- a byte other than LF goes onto the first line
 pub lines_of-byte : (byte : ℕ) (bytes : List ℕ) → byte ≢ 10 → lines_of (byte ∷ bytes) ≡ onto_first byte (lines_of bytes)

@@ -19,7 +19,7 @@ use Rattle.cert_text.specs.Certificate.{Certificate}
 use Rattle.roam_gen.specs.Generated.{made_grid, made_lines}
 use Rattle.run_laws.specs.declared.status.Status.TheVariants.{Done, Usage, GridRefused}
 use Rattle.run_laws.specs.Walk.{Walk, start_walk}
-use Rattle.run_laws.specs.Words.{Show, AsMeshes, AsStrips, AsLeast, AsMeasures, AsSums, is_of_engine, Scripted, Making, Job, Frames, Facts, Make, Check, Command, OnGrid, Generated, greatest_level, greatest_seed, number_word, try_command, within, greatest_budget, budget_word, spacing_word, tolerance_word, is_prefix, in_reach, coordinate_word, camera_word, frames_command, least_command, meshes_command, make_command, check_command, command_of}
+use Rattle.run_laws.specs.Words.{Show, AsMeshes, AsStrips, AsLeast, AsMeasures, AsSums, is_of_engine, Scripted, Making, Job, Frames, Facts, Make, Check, Command, OnGrid, Generated, greatest_level, greatest_seed, number_word, try_command, within, least_budget, greatest_budget, budget_word, spacing_word, tolerance_word, is_prefix, in_reach, coordinate_word, camera_word, frames_command, least_command, meshes_command, make_command, check_command, command_of}
 use Rattle.run_laws.specs.CertFile.{cert_in}
 use Rattle.run_laws.specs.Picture.{Picture, ArePictures, IsCertified}
 use Rattle.run_laws.specs.ReportText.{info_line, grid_refusal}
@@ -159,8 +159,8 @@ within-range low high number (Some found) is =
 
 -- a certificate is made for a budget within its bounds, and for a camera within its reach
 pub record IsWithinReach (m : Making) : Type 0 where
-  pub low : 2 ≤ m.budget
-  pub high : m.budget ≤ 1048576
+  pub low : least_budget ≤ m.budget
+  pub high : m.budget ≤ greatest_budget
   pub x_near : unsigned_abs m.camera.x ≤ 2 ^ 30
   pub y_near : unsigned_abs m.camera.y ≤ 2 ^ 30
   pub z_near : unsigned_abs m.camera.z ≤ 2 ^ 30
@@ -186,7 +186,7 @@ frames_command-budget i j show (Some budget) (Some spacing) command low is =
 
 -- a word's budget is at least 2
 budget_word-low : (word : List ℕ) (number : ℕ) → budget_word word ≡ Some number → 2 ≤ number
-budget_word-low word number found = within-low 2 1048576 number (number_in 19 word) found
+budget_word-low word number found = within-low least_budget greatest_budget number (number_in 19 word) found
 
 least_command-budget : (i j k : List ℕ) (tolerance spacing : Option ℕ) (command : Command) → least_command i j k tolerance spacing ≡ Some command → CommandHasBudget command
 least_command-budget i j k None spacing command is = absurd (none-some command is)
@@ -246,7 +246,7 @@ abbrev IsNear : Option ℤ → Type 0
 IsNear coordinate = (v : ℤ) → coordinate ≡ Some v → unsigned_abs v ≤ 2 ^ 30
 
 make_command-budget : (i : List ℕ) (x y z : Option ℤ) (budget spacing : Option ℕ) (command : Command) → IsNear x → IsNear y → IsNear z
-    → ((number : ℕ) → budget ≡ Some number → (2 ≤ number) × (number ≤ 1048576))
+    → ((number : ℕ) → budget ≡ Some number → (least_budget ≤ number) × (number ≤ greatest_budget))
     → make_command i (camera_word x y z) budget spacing ≡ Some command → CommandHasBudget command
 make_command-budget i None y z budget spacing command nx ny nz low is = absurd (none-some command is)
 make_command-budget i (Some x) None z budget spacing command nx ny nz low is = absurd (none-some command is)
@@ -287,7 +287,7 @@ words-budget (word ∷ (i ∷ (j ∷ (k ∷ (l ∷ (m ∷ (o ∷ []))))))) comma
 words-budget (word ∷ (i ∷ (j ∷ (k ∷ (l ∷ (m ∷ (o ∷ (p ∷ [])))))))) command is =
     let place : Option CameraAt = camera_word (coordinate_word k) (coordinate_word l) (coordinate_word m) in
     make_command-budget j (coordinate_word k) (coordinate_word l) (coordinate_word m) (budget_word o) (spacing_word p) command
-    (in_reach-near (signed_in k)) (in_reach-near (signed_in l)) (in_reach-near (signed_in m)) (λ number found. within-range 2 1048576 number (number_in 19 o) found)
+    (in_reach-near (signed_in k)) (in_reach-near (signed_in l)) (in_reach-near (signed_in m)) (λ number found. within-range least_budget greatest_budget number (number_in 19 o) found)
     (met (bytes_eq word (codes "certify") && bytes_eq i (codes "make")) (make_command j place (budget_word o) (spacing_word p)) command is)
 words-budget (word ∷ (i ∷ (j ∷ (k ∷ (l ∷ (m ∷ (o ∷ (p ∷ (more ∷ words))))))))) command is = absurd (none-some command is)
 
@@ -302,14 +302,19 @@ script-states two s grid script low =
     (walk_of-states two grid.n (start_walk s.budget (start_state grid s.spacing s.budget)) script (record { level = refl; low = low; frames = tt })).frames
 
 -- a generated script has 105 lines
-pub lines-count : (n seed : ℕ) → length (made_lines n seed) ≡ 105
+pub made_lines-count : (n seed : ℕ) → length (made_lines n seed) ≡ 105
 unfolding made_lines
-lines-count n seed = refl
+made_lines-count n seed = refl
 
 -- the level of a generated grid
-pub made_level : (n seed : ℕ) → (made_grid n seed).n ≡ n
+pub made_grid-level : (n seed : ℕ) → (made_grid n seed).n ≡ n
 unfolding made_grid
-made_level n seed = refl
+made_grid-level n seed = refl
+
+-- and its maxval
+pub made_grid-maxval : (n seed : ℕ) → (made_grid n seed).maxval ≡ 65535
+unfolding made_grid
+made_grid-maxval n seed = refl
 
 -- the walk of a generated run
 made_walk-states : (n seed : ℕ) → AreStates (made_grid n seed).n (made_walk n seed).frames
@@ -330,7 +335,7 @@ pub made_outcome-exists : FramesExist → (n seed : ℕ) → (1 ≤ n) × (n ≤
 made_outcome-exists frames n seed range =
     let P : ℕ → Type 0 = λ k. (1 ≤ k) × (k ≤ 11) in
     let grid : HeightField = made_grid n seed in
-    let ps = pictures_of frames (AsSums n seed) grid.n [] (made_walk n seed).frames (no-members grid.n (subst P (sym (made_level n seed)) range)) (made_walk-states n seed) in
+    let ps = pictures_of frames (AsSums n seed) grid.n [] (made_walk n seed).frames (no-members grid.n (subst P (sym (made_grid-level n seed)) range)) (made_walk-states n seed) in
     (frames_outcome (AsSums n seed) 0 (made_walk n seed) ps.0, (ps.0, ps.1, refl))
 
 job-exists : BudgetsAreTwo → FramesExist → CertificatesExist → (job : Job) (r : Result HeightField PgmFault) (files : List NamedFile) → HasBudget job

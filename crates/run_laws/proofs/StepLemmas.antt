@@ -1,8 +1,6 @@
 -- How far a script was carried out, byte by byte: what one byte more does to the place that was reached.
-use Rattle.std.proofs.Common.{◌≡◌, ◌≢◌, ℕ, ◌+◌, ◌<◌, ◌≤◌, List, [], ◌∷◌, ◌++◌, length, take, None, IsSome, Result, Ok, Err, refl, sym, ◌∙◌, ap, subst, inl, inr, arith, append_assoc, append-nil, length-append}
-use Rattle.std.proofs.Math.Seq.{take-append_seam}
-use Rattle.std.proofs.lemmas.List.Elements.{recursion_from_All, All-from_recursion}
-use Rattle.std.specs.List.{All}
+use Rattle.std.proofs.Common.{◌≡◌, ◌≢◌, ℕ, ◌+◌, ◌<◌, ◌≤◌, List, [], ◌∷◌, ◌++◌, length, None, IsSome, Result, Ok, Err, refl, sym, ◌∙◌, ap, subst, inl, inr, arith, append_assoc, append-nil, length-append}
+use Rattle.std.proofs.lemmas.List.Elements.{All-from_recursion}
 use Rattle.mesh_defs.specs.HeightField.{HeightField}
 use Rattle.mesh_defs.specs.State.{State}
 use Rattle.roam_script.specs.declared.limits.TheConstants.{MOST_LINES, MOST_LINE_BYTES}
@@ -20,7 +18,7 @@ use Rattle.run_laws.specs.Step.{Place, HasCome, Refuses, Cuts}
 use Rattle.mesh_defs.specs.GridSet.{IsGridSet}
 use Rattle.run_laws.specs.Laws.{AreStates, KeepsStates, BudgetsAreTwo, FramesExist, SetsStayClosed}
 use Rattle.run_laws.proofs.ActLemmas.{stands-nothing, stands-append, cut-append, cut-longer}
-use Rattle.run_laws.proofs.LineLemmas.{NoEnd, lines_of-ends, lines_of-last, lines_of-begins, BeginsWith}
+use Rattle.run_laws.proofs.LineLemmas.{NoEnd, no_end, no_end-append, lines_of-ends, lines_of-last, lines_of-begins, BeginsWith}
 use Rattle.run_laws.proofs.PictureLemmas.{pictures_of, picture-set, last_members-set, no-members}
 use Rattle.run_laws.proofs.WalkLemmas.{walk_of-append, ArePictures-append, walk_of-states, walk_of-grows, walk_lines-stopped, read_text, stopped_text}
 
@@ -28,9 +26,6 @@ abbrev pub place : Walk → List Picture → List ℕ → Place
 place at shown part = record { walk = at; pictures = shown; begun = part }
 
 -- walks over one line
-
-no_end : (part : List ℕ) → All (λ byte. byte ≢ 10) part → NoEnd part
-no_end part one = recursion_from_All (λ byte. byte ≢ 10) part one
 
 -- a line, and then more lines
 walk_of-line : (walk : Walk) (part more : List ℕ) → NoEnd part → walk_of walk (part ++ 10 ∷ more) ≡ walk_of (after_text walk part) more
@@ -141,10 +136,6 @@ module _ (before now : Told) (show : Show) (start : Walk) (read : List ℕ) (her
     shown = come.shown;
     stands = come.stands;
   }
-    where
-      no_end-append : (part : List ℕ) (b : ℕ) → NoEnd part → b ≢ 10 → NoEnd (part ++ b ∷ [])
-      no_end-append [] b one differs = (differs, tt)
-      no_end-append (x ∷ part) b one differs = (one.0, no_end-append part b one.1 differs)
 
   -- what the line and its LF lead to
   walk_of-ended : (more : List ℕ) → walk_of start ((read ++ 10 ∷ []) ++ more) ≡ walk_of (after_text here.walk here.begun) more
@@ -263,10 +254,6 @@ module _ (before now : Told) (show : Show) (start : Walk) (read : List ℕ) (her
           → walk_of here.walk ((part ++ byte ∷ []) ++ more) ≡ refused_walk why here.walk
       begun [] one is = walk_of-begun here.walk why byte [] more come.accepted (other, tt) is
       begun (b ∷ part) one is = walk_of-begun here.walk why b (part ++ byte ∷ []) more come.accepted (one.0, no_end-append part byte one.1 other) is
-        where
-          no_end-append : (xs : List ℕ) (last : ℕ) → NoEnd xs → last ≢ 10 → NoEnd (xs ++ last ∷ [])
-          no_end-append [] last none differs = (differs, tt)
-          no_end-append (x ∷ xs) last none differs = (none.0, no_end-append xs last none.1 differs)
 
   -- the refusal was written
   pub refuses : (now' : Told) (bytes : List ℕ) (why : ScriptFault) → Settles bytes why → Stands now now' (refusal_acts why) → Refuses before now' show start bytes
@@ -319,16 +306,3 @@ module _ (before now : Told) (show : Show) (start : Walk) (read : List ℕ) (her
         shown = subst S at (subst P same come.shown);
         done = refl;
       }
-
-  -- the frames that were made are the first of the whole script
-  pub come-first : (more : List ℕ) → take (length here.walk.frames) (walk_of start (read ++ more)).frames ≡ here.walk.frames
-  come-first more =
-      let grown = walk_of-grows here.walk (here.begun ++ more) in
-      ap (take (length here.walk.frames)) (ap (λ (w : Walk). w.frames) (walk_of-come more) ∙ grown.1)
-      ∙ take-append_seam here.walk.frames grown.0
-
-  -- and the others come behind them
-  pub come-others : (more : List ℕ) → (later : List State) × ((walk_of start (read ++ more)).frames ≡ here.walk.frames ++ later)
-  come-others more =
-      let grown = walk_of-grows here.walk (here.begun ++ more) in
-      (grown.0, ap (λ (w : Walk). w.frames) (walk_of-come more) ∙ grown.1)

@@ -17,9 +17,6 @@ pub walk_lines-append : (walk : Walk) (xs ys : List (List ℕ)) → walk_lines w
 walk_lines-append walk [] ys = refl
 walk_lines-append walk (x ∷ xs) ys = walk_lines-append (after_text walk x) xs ys
 
-onto-append : (byte : ℕ) (x : List ℕ) (xs ys : List (List ℕ)) → onto_first byte ((x ∷ xs) ++ ys) ≡ onto_first byte (x ∷ xs) ++ ys
-onto-append byte x xs ys = refl
-
 -- there is a first line
 abbrev HasFirst : List (List ℕ) → Type 0
 HasFirst lines = (x : List ℕ) × (xs : List (List ℕ)) × (lines ≡ x ∷ xs)
