@@ -3,6 +3,7 @@ use Rattle.std.proofs.Common.{◌≡◌, ◌≢◌, ℕ, ◌+◌, ◌<◌, ◌�
 use Rattle.mesh_defs.specs.BoundingBox.{CameraAt}
 use Rattle.roam_edge.specs.Shelf.{NamedFile, bytes_of}
 use Rattle.roam_script.specs.declared.limits.TheConstants.{MOST_LINE_BYTES}
+use Rattle.cert_text.specs.declared.limits.TheConstants.{MOST_LEAVES, MOST_REASONS}
 use Rattle.cert_text.specs.Certificate.{Certificate}
 use Rattle.cert_text.specs.CertReader.{ReadSoFar, Reading, nothing_read, cert_line_in}
 use Rattle.run_laws.specs.CertFile.{CertPlace, HasCertCome, cert_of, cert_in}
@@ -11,7 +12,7 @@ use Rattle.roam_run.specs.declared.cert_file.CertStage.{CertStage}
 use Rattle.roam_run.specs.declared.cert_file.CertStop.{CertStop}
 use Rattle.roam_run.specs.declared.cert_file.CertStop.TheVariants.{BadLine}
 use Rattle.roam_run.specs.CertStage.{place_seen, IsCounted, TakesCert, EndsCert, StopsCert}
-use Rattle.roam_run.proofs.EndLemmas.{file-cut}
+use Rattle.roam_run.proofs.FileLemmas.{HasRead, read-nothing, file-cut, read-more, read-all, not_at_end}
 
 -- the refusal of a line, as an answer
 abbrev refused : ℕ → Result Certificate ℕ
@@ -94,26 +95,24 @@ camera-once : (camera : Option CameraAt) → (elim camera as (λ _. ℕ) [ None 
 camera-once None = omega arith
 camera-once (Some seen_from) = omega arith
 
--- a certificate has no more lines than this
-pub lines-bound : (stage : CertStage) → IsCounted stage → stage.lines ≤ 2148577
+-- a certificate has no more lines than a camera, leaves and reasons
+pub lines-bound : (stage : CertStage) → IsCounted stage → stage.lines ≤ 1 + MOST_LEAVES + MOST_REASONS
 lines-bound stage counted =
     let one = camera-once stage.reader.read.camera in
     omega (arith, one, counted.counted, counted.few_leaves, counted.few_reasons)
 
--- Some bytes of a certificate were read; where the shelf tells its files, they are the first of the named file, whose other bytes
--- are unread.
+-- Some bytes of a certificate were read of the named file.
 pub record IsReadingCert (n : ℕ) (files : Option (List NamedFile)) (rest : Option (List ℕ)) (name : List ℕ) (stage : CertStage) : Type 0 where
   pub bytes : List ℕ
   pub come : HasCertCome n bytes (place_seen stage)
-  pub told : (all : List NamedFile) → files ≡ Some all →
-      (unread : List ℕ) × (rest ≡ Some unread) × (bytes_of all name ≡ bytes ++ unread)
+  pub in_file : HasRead files rest name bytes
 
 -- nothing was read of a file that was just opened
 pub cert-starts : (n : ℕ) (files : Option (List NamedFile)) (rest : Option (List ℕ)) (name : List ℕ) (stage : CertStage) → place_seen stage ≡ cert_place nothing_read 0 []
     → ((all : List NamedFile) → files ≡ Some all → rest ≡ Some (bytes_of all name)) → IsReadingCert n files rest name stage
 cert-starts n files rest name stage is chosen =
     let P : CertPlace → Type 0 = λ p. HasCertCome n [] p in
-    record { bytes = []; come = subst P (sym is) (cert-begin n); told = λ all told. (bytes_of all name, chosen all told, refl) }
+    record { bytes = []; come = subst P (sym is) (cert-begin n); in_file = read-nothing files rest name chosen }
 
 module _ (n : ℕ) (files : Option (List NamedFile)) (rest : Option (List ℕ)) (name : List ℕ) (stage : CertStage) (reading : IsReadingCert n files rest name stage) where
   -- a piece was read and taken
@@ -123,23 +122,19 @@ module _ (n : ℕ) (files : Option (List NamedFile)) (rest : Option (List ℕ)) 
   cert-more rest' piece count next come takes gives = record {
     bytes = reading.bytes ++ piece;
     come = come;
-    told = λ all told.
-        let here = reading.told all told in
-        (drop count here.0, takes here.0 here.1, file-cut (bytes_of all name) reading.bytes piece here.0 count here.2 (gives here.0 here.1));
+    in_file = read-more files rest rest' name reading.bytes piece count reading.in_file takes gives;
   }
 
   -- a piece was read that has a line that is refused
   pub cert-refused : (piece : List ℕ) (count : ℕ) (new : CertStage) (stop : CertStop) (line : ℕ) → TakesCert {T = Unit {0}} n (reading.bytes ++ piece) new (Err stop) → stop ≡ BadLine line
       → ((unread : List ℕ) → rest ≡ Some unread → piece ≡ take count unread) → (all : List NamedFile) → files ≡ Some all → cert_in n (bytes_of all name) ≡ Err line
   cert-refused piece count new stop line takes is gives all told =
-      let here = reading.told all told in
+      let here = reading.in_file all told in
       ap (cert_in n) (file-cut (bytes_of all name) reading.bytes piece here.0 count here.2 (gives here.0 here.1)) ∙ takes.bad line (ap stopped is) (drop count here.0)
 
   -- the whole file was read
   pub cert-whole : ((unread : List ℕ) → rest ≡ Some unread → unread ≡ []) → (all : List NamedFile) → files ≡ Some all → bytes_of all name ≡ reading.bytes
-  cert-whole nothing all told =
-      let here = reading.told all told in
-      here.2 ∙ (ap (λ m. reading.bytes ++ m) (nothing here.0 here.1) ∙ append-nil reading.bytes)
+  cert-whole = read-all files rest name reading.bytes reading.in_file
 
   -- what the end of the file comes to is what the file is
   pub cert-ok : (answer : Result Certificate CertStop) → ((unread : List ℕ) → rest ≡ Some unread → unread ≡ []) → EndsCert n reading.bytes answer
@@ -155,18 +150,15 @@ module _ (n : ℕ) (files : Option (List NamedFile)) (rest : Option (List ℕ)) 
   pub cert-failed : (rest' : Option (List ℕ)) (ended' : Bool) → rest' ≡ rest → ended' ≡ false → (all : List NamedFile) → files ≡ Some all
       → StopsCert n (bytes_of all name) rest' ended'
   cert-failed rest' ended' kept open_file all told =
-      let here = reading.told all told in
+      let here = reading.in_file all told in
       record {
         read = reading.bytes;
         unread = here.0;
         cut = here.2;
-        not_opened = λ e. absurd (both (sym open_file ∙ e));
+        not_opened = λ e. absurd (not_at_end ended' open_file e);
         left = λ e. kept ∙ here.1;
         come = (place_seen stage, reading.come);
       }
-    where
-      both : false ≡ true → ⊥
-      both e = cc
 
 -- nothing was read of a file that could not be opened
 pub cert-not_opened : (n : ℕ) (file : List ℕ) (rest : Option (List ℕ)) (ended : Bool) → ended ≡ true → StopsCert n file rest ended
@@ -175,9 +167,6 @@ cert-not_opened n file rest ended at_end = record {
   unread = file;
   cut = refl;
   not_opened = λ e. refl;
-  left = λ e. absurd (both (sym e ∙ at_end));
+  left = λ e. absurd (not_at_end ended e at_end);
   come = (cert_place nothing_read 0 [], cert-begin n);
 }
-  where
-    both : false ≡ true → ⊥
-    both e = cc

@@ -1,6 +1,5 @@
 -- The end of a script, and a script that is read from a shelf, piece by piece.
 use Rattle.std.proofs.Common.{◌≡◌, ◌≢◌, ℕ, Bool, true, false, List, [], ◌∷◌, ◌++◌, take, drop, IsTrue, Option, Some, None, IsSome, Err, refl, sym, ◌∙◌, ap, subst, append_assoc, append-nil}
-use Rattle.std.proofs.lemmas.List.{take-append-drop}
 use Rattle.roam_edge.specs.Shelf.{NamedFile, bytes_of}
 use Rattle.run_laws.specs.declared.status.Status.{Status}
 use Rattle.run_laws.specs.declared.status.Status.TheVariants as ends
@@ -16,6 +15,7 @@ use Rattle.roam_run.specs.declared.stage.Stage.{Stage}
 use Rattle.roam_run.specs.declared.script.Stop.{Stop}
 use Rattle.roam_run.specs.declared.script.Stop.TheVariants.{Refused, Failed}
 use Rattle.roam_run.specs.StageView.{TellsFrames, IsAt, Begins}
+use Rattle.roam_run.proofs.FileLemmas.{HasRead, file-cut, read-all}
 use Rattle.roam_run.specs.Taking.{status_for, TakesBytes, DoesAs, Leaves, EndsScript, StopsReading}
 
 -- a walk that was stopped ends as refused
@@ -96,12 +96,10 @@ pub last-line : (before now : Told) (show : Show) (follows : Show → Walk → L
 last-line before now show follows start read stage at some =
     walk_of-end before now show start read at.here at.come (λ e. some (at.shows.begun ∙ e))
 
--- Some bytes of the script were read and carried out; where the shelf tells its files, they are the first of
--- the named file, whose other bytes are unread.
+-- Some bytes of the script were read of the named file, and carried out.
 pub record IsCarried (before now : Told) (show : Show) (follows : Show → Walk → List Picture → Type 0) (start : Walk) (stage : Stage) (files : Option (List NamedFile)) (rest : Option (List ℕ)) (name bytes : List ℕ) : Type 0 where
   pub place : IsAt before now show follows start bytes stage
-  pub told_script : (all : List NamedFile) → files ≡ Some all →
-      (unread : List ℕ) × (rest ≡ Some unread) × (bytes_of all name ≡ bytes ++ unread)
+  pub in_file : HasRead files rest name bytes
 
 -- a walk that begins is at its first place
 pub begins-at : (before : Told) (show : Show) (follows : Show → Walk → List Picture → Type 0) (start : Walk) (stage : Stage) → Begins show follows start → stage.lines ≡ 0 → stage.part.items ≡ []
@@ -112,11 +110,6 @@ begins-at before show follows start stage begins lines part = record {
   shows = record { followed = begins.followed; lines = lines ∙ sym begins.first; begun = part };
   alone = begins.alone;
 }
-
--- the named file is what was read, this piece, and what is left then
-pub file-cut : (file bytes piece unread : List ℕ) (count : ℕ) → file ≡ bytes ++ unread → piece ≡ take count unread → file ≡ (bytes ++ piece) ++ drop count unread
-file-cut file bytes piece unread count cut gives =
-    cut ∙ ap (λ m. bytes ++ m) (sym (take-append-drop count unread) ∙ ap (λ m. m ++ drop count unread) (sym gives)) ∙ sym (append_assoc bytes piece (drop count unread))
 
 -- a read failed: what was carried out stands
 pub stops-reading : (before now : Told) (show : Show) (start : Walk) (read file unread : List ℕ) (rest : Option (List ℕ)) (ended : Bool) (at : Place)
@@ -129,14 +122,12 @@ stops-reading before now show start read file unread rest ended at come cut not_
 pub ended-file : (before now : Told) (show : Show) (follows : Show → Walk → List Picture → Type 0) (start : Walk) (stage : Stage) (files : Option (List NamedFile)) (rest : Option (List ℕ)) (name bytes : List ℕ)
     → IsCarried before now show follows start stage files rest name bytes → ((unread : List ℕ) → rest ≡ Some unread → unread ≡ [])
     → (all : List NamedFile) → files ≡ Some all → bytes_of all name ≡ bytes
-ended-file before now show follows start stage files rest name bytes carried nothing all told =
-    let here = carried.told_script all told in
-    here.2 ∙ (ap (λ m. bytes ++ m) (nothing here.0 here.1) ∙ append-nil bytes)
+ended-file before now show follows start stage files rest name bytes carried = read-all files rest name bytes carried.in_file
 
 -- the same file, cut behind a piece
 pub piece-file : (before now : Told) (show : Show) (follows : Show → Walk → List Picture → Type 0) (start : Walk) (stage : Stage) (files : Option (List NamedFile)) (rest : Option (List ℕ)) (name bytes piece : List ℕ) (count : ℕ)
     → IsCarried before now show follows start stage files rest name bytes → ((unread : List ℕ) → rest ≡ Some unread → piece ≡ take count unread)
     → (all : List NamedFile) → files ≡ Some all → (more : List ℕ) × (bytes_of all name ≡ (bytes ++ piece) ++ more)
 piece-file before now show follows start stage files rest name bytes piece count carried gives all told =
-    let here = carried.told_script all told in
+    let here = carried.in_file all told in
     (drop count here.0, file-cut (bytes_of all name) bytes piece here.0 count here.2 (gives here.0 here.1))

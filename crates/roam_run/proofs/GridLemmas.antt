@@ -1,5 +1,5 @@
 -- How a command on a grid ends: at its grid, at its line of facts, and at its script.
-use Rattle.std.proofs.Common.{◌≡◌, ◌≢◌, ◌⊎◌, inl, inr, ℕ, ◌+◌, ◌^◌, ◌≤◌, Bool, false, IsTrue, if◌then◌else◌, List, [], ◌++◌, Option, None, Some, option_map, Result, Ok, Err, refl, sym, ◌∙◌, ap, subst, arith}
+use Rattle.std.proofs.Common.{◌≡◌, ◌≢◌, ◌⊎◌, inl, inr, ℕ, ◌+◌, ◌^◌, ◌≤◌, false, true, IsTrue, if◌then◌else◌, List, [], ◌++◌, Option, None, Some, option_map, Result, Ok, Err, refl, sym, ◌∙◌, ap, subst, arith}
 use Rattle.std.proofs.Math.Nat.{min-eq_left}
 use Rattle.mesh_defs.specs.HeightField.{HeightField}
 use Rattle.mesh_defs.specs.State.{start_state}
@@ -11,14 +11,15 @@ use Rattle.pgm_grid.specs.declared.fault.PgmFault.{PgmFault}
 use Rattle.pgm_grid.specs.Progress.{grid_of}
 use Rattle.run_laws.specs.declared.status.Status.{Status}
 use Rattle.run_laws.specs.declared.status.Status.TheVariants as ends
-use Rattle.run_laws.specs.Walk.{Walk, start_walk, HasBegun}
+use Rattle.run_laws.specs.Walk.{Walk, start_walk}
 use Rattle.run_laws.specs.Words.{Show, Scripted, Job, Frames, Facts, OnGrid, Make, Check}
-use Rattle.run_laws.specs.Picture.{Picture, ArePictures}
+use Rattle.run_laws.specs.Picture.{Picture}
 use Rattle.run_laws.specs.Act.{Told, told}
 use Rattle.run_laws.specs.ReportText.{info_line, grid_refusal}
 use Rattle.run_laws.specs.Outcome.{Outcome, text_outcome, shown_acts, IsGridOutcome}
-use Rattle.run_laws.specs.Promise.{Seen, ScriptHasRead, HasReadHeader, most_open_job, is_complete, ends_script}
+use Rattle.run_laws.specs.Promise.{Seen, HasReadHeader, most_open_job, is_complete, ends_script}
 use Rattle.run_laws.proofs.ActLemmas.{stands-nothing, cut-only-line}
+use Rattle.run_laws.proofs.StepLemmas.{come-read}
 use Rattle.frame_loop.specs.Engine.{EngineState}
 use Rattle.roam_run.specs.EngineSeen.{engine_seen}
 use Rattle.roam_run.specs.StageView.{TellsFrames, Begins}
@@ -27,8 +28,11 @@ use Rattle.roam_run.specs.Taking.{IsScriptEnd, DoesAs, Leaves, EndsScript, Stops
 use Rattle.roam_run.specs.Leaving.{CommandEnds, CommandReadFault, CommandNoMemory}
 
 -- a count that is far from its greatest value goes up by one
+pub next-one : (before now : ℕ) → before ≤ 2 ^ 63 + 2 → now ≡ next_count before → now ≡ before + 1
+next-one before now low is = is ∙ min-eq_left (omega (arith, low))
+
 pub next_count-one : (before now : ℕ) → before ≤ 2 ^ 63 → now ≡ next_count before → now ≡ before + 1
-next_count-one before now low is = is ∙ min-eq_left (omega (arith, low))
+next_count-one before now low is = next-one before now (omega (arith, low)) is
 
 -- and by two where one more follows
 pub next_count-two : (before middle now : ℕ) → before ≤ 2 ^ 63 → middle ≡ next_count before → now ≡ next_count middle → now ≡ before + 2
@@ -93,8 +97,8 @@ grid-fault before old new name job opened stops = record {
       };
 }
 
--- commands are the same
-same-name : (name other : List ℕ) (job job' : Job) → OnGrid name job ≡ OnGrid other job' → name ≡ other
+-- commands on grids are the same
+pub same-name : (name other : List ℕ) (job job' : Job) → OnGrid name job ≡ OnGrid other job' → name ≡ other
 same-name name other job job' e = cc
 
 -- the grid is open where memory runs out
@@ -120,44 +124,20 @@ grid-memory before old new name job opened header = record {
   in_order = λ other c files e told_files two. absurd (omega (arith, two));
 }
 
+-- a run is complete only by a status that is
+pub not-complete : (status end : Status) → is_complete end ≡ false → IsTrue (is_complete status) → status ≢ end
+not-complete status end is_not is same = no (sym is_not ∙ ap is_complete (sym same) ∙ is)
+  where
+    no : false ≡ true → ⊥
+    no e = cc
+
 -- a script that was carried out to its end or its refusal leaves its engine
 pub left-some : (status : Status) (engine : EngineState) → (status ≡ ends.ReadFault) ⊎ IsScriptEnd status → IsTrue (is_complete status)
     → (if ends_script status then Some engine else None) ≡ Some engine
-left-some ends.Done engine how is = refl
-left-some ends.NoMemory engine how is = absurd (not_true is)
-  where
-    not_true : IsTrue false → ⊥
-    not_true e = cc
-left-some ends.Usage engine how is = absurd (not_so how)
-  where
-    not_so : (ends.Usage ≡ ends.ReadFault) ⊎ IsScriptEnd ends.Usage → ⊥
-    not_so (inl e) = cc
-    not_so (inr (inl e)) = cc
-    not_so (inr (inr (inl e))) = cc
-    not_so (inr (inr (inr e))) = cc
-left-some ends.GridRefused engine how is = absurd (not_so how)
-  where
-    not_so : (ends.GridRefused ≡ ends.ReadFault) ⊎ IsScriptEnd ends.GridRefused → ⊥
-    not_so (inl e) = cc
-    not_so (inr (inl e)) = cc
-    not_so (inr (inr (inl e))) = cc
-    not_so (inr (inr (inr e))) = cc
-left-some ends.ScriptRefused engine how is = refl
-left-some ends.ReadFault engine how is = absurd (not_true is)
-  where
-    not_true : IsTrue false → ⊥
-    not_true e = cc
-left-some ends.WriteFault engine how is = absurd (not_true is)
-  where
-    not_true : IsTrue false → ⊥
-    not_true e = cc
-left-some ends.Rejected engine how is = absurd (not_so how)
-  where
-    not_so : (ends.Rejected ≡ ends.ReadFault) ⊎ IsScriptEnd ends.Rejected → ⊥
-    not_so (inl e) = cc
-    not_so (inr (inl e)) = cc
-    not_so (inr (inr (inl e))) = cc
-    not_so (inr (inr (inr e))) = cc
+left-some status engine (inl fault) is = absurd (not-complete status ends.ReadFault refl is fault)
+left-some status engine (inr (inl done)) is = ap (λ (s : Status). if ends_script s then Some engine else None) done
+left-some status engine (inr (inr (inl refused))) is = ap (λ (s : Status). if ends_script s then Some engine else None) refused
+left-some status engine (inr (inr (inr failed))) is = absurd (not-complete status ends.WriteFault refl is failed)
 
 module _ (s : Scripted) (grid : HeightField) where
   -- the walk before the first line
@@ -189,25 +169,6 @@ module _ (s : Scripted) (grid : HeightField) where
           (λ complete. leaves did.0 complete (did.3 complete))).ends memory fault;
     }
 
-    -- what was carried out of a script that was read in part
-    stopped-read : (file : List ℕ) (rest : Option (List ℕ)) (ended : Bool) (stops : StopsReading before now s.show first_walk file rest ended)
-        → ScriptHasRead s grid stops.read (shown_acts s.show 1 stops.here.pictures)
-    stopped-read file rest ended stops =
-        let come = stops.come in
-        let P : Walk → Type 0 = λ w. HasBegun w.lines stops.here.begun in
-        let Q : Walk → Type 0 = λ w. ArePictures s.show [] w.frames stops.here.pictures in
-        record {
-          lines = come.lines;
-          begun = stops.here.begun;
-          pictures = stops.here.pictures;
-          cut = come.cut;
-          whole = come.whole;
-          accepted = ap (λ (w : Walk). w.stop) come.walked ∙ come.accepted;
-          undecided = subst P (sym come.walked) come.undecided;
-          shown = subst Q (sym come.walked) come.shown;
-          done = refl;
-        }
-
     -- a read of the script failed
     pub script-fault : ((files : List NamedFile) → old.files ≡ Some files → grid_of (bytes_of files name) ≡ Ok grid)
         → ((files : List NamedFile) → old.files ≡ Some files → StopsReading before now s.show first_walk (bytes_of files s.script) new.rest new.ended)
@@ -227,7 +188,7 @@ module _ (s : Scripted) (grid : HeightField) where
             cut = at.cut;
             not_opened = at.not_opened;
             left = at.left;
-            has_read = (grid, found files told_files, stopped-read (bytes_of files s.script) new.rest new.ended at);
+            has_read = (grid, found files told_files, come-read before now s.show first_walk at.read at.here at.come s grid refl (λ bytes. refl));
             stands = at.come.stands;
           };
     }

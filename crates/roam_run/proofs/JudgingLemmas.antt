@@ -1,12 +1,10 @@
 -- A certificate and a mesh are judged: what the calls of a check come to.
 use Rattle.std.proofs.Common.{◌≡◌, ◌≢◌, ℕ, ◌+◌, ◌*◌, ◌^◌, ◌≤◌, ◌⊎◌, inl, inr, Bool, true, false, List, [], ◌∷◌, take, slice_get, Option, Some, None, Result, Ok, Err, IfOk, All, refl, sym, ◌∙◌, subst, arith}
 use Rattle.std.specs.List.{AllByRecursion}
-use Rattle.std.proofs.Math.Nat.{min-eq_left}
 use Rattle.std.proofs.lemmas.List.Elements.{recursion_from_All, All-from_recursion}
 use Rattle.mesh_defs.specs.HeightField.{HeightField}
 use Rattle.mesh_defs.specs.Triangle.{level_of, IsAddress}
 use Rattle.bintree_laws.proofs.LevelLemmas.{level-le}
-use Rattle.roam_edge.specs.Fault.{next_count}
 use Rattle.roam_edge.specs.Shelf.{NamedFile, bytes_of}
 use Rattle.pgm_grid.specs.Progress.{grid_of}
 use Rattle.mesh_compare.specs.Differs.{IsCutShort}
@@ -30,7 +28,8 @@ use Rattle.roam_run.specs.declared.verdict_report.Judgement.TheVariants.{Certifi
 use Rattle.roam_run.specs.Taking.{DoesAs}
 use Rattle.roam_run.specs.Leaving.{CommandEnds, CommandReadFault, CommandNoMemory}
 use Rattle.roam_run.specs.Judging.{judged_text, judged_status, opened_for, judged_outcome, mesh_seen, IsJudged, IsFaultlessFile, JudgesNoMemory, StopsComparing, JudgesFault}
-use Rattle.roam_run.proofs.GridLemmas.{ends-as}
+use Rattle.roam_run.proofs.FileLemmas.{not_at_end}
+use Rattle.roam_run.proofs.GridLemmas.{ends-as, same-name}
 
 -- triangles of the grid have levels of the grid
 levels-recursion : (n : ℕ) (leaves : List ℕ) → AllByRecursion (IsAddress n) leaves → AllByRecursion (λ a. level_of a ≤ 2 * n) leaves
@@ -60,12 +59,9 @@ compare-not_opened text file rest ended at_end = record {
   unread = file;
   cut = refl;
   not_opened = λ e. refl;
-  left = λ e. absurd (both (sym e ∙ at_end));
+  left = λ e. absurd (not_at_end ended e at_end);
   of_text = record { back = text; joined = refl };
 }
-  where
-    both : false ≡ true → ⊥
-    both e = cc
 
 -- a read of a mesh failed
 pub compare-stops : (text file : List ℕ) (rest rest' : Option (List ℕ)) (ended' : Bool) → IsCutShort text rest rest' → rest ≡ Some file → ended' ≡ false → StopsComparing text file rest' ended'
@@ -75,13 +71,10 @@ compare-stops text file rest rest' ended' cut is goes_on =
       read = cut.read;
       unread = there.0;
       cut = there.2;
-      not_opened = λ e. absurd (both (sym goes_on ∙ e));
+      not_opened = λ e. absurd (not_at_end ended' goes_on e);
       left = λ e. there.1;
       of_text = cut.of_text;
     }
-  where
-    both : false ≡ true → ⊥
-    both e = cc
 
 -- an answer of a check of a certificate, as one of its file
 module _ (c : Checking) (grid : HeightField) (cert : Certificate) (told told' : Option (List NamedFile)) (same : told' ≡ told)
@@ -121,10 +114,6 @@ judged-line c grid files line is =
     let P : Result Certificate ℕ → Type 0 = λ r. IsCheckOutcome c grid r (bytes_of files c.mesh) (judged_outcome (Rejected (BadLine line))) in
     subst P (sym is) refl
 
--- a count that is far from its greatest value goes up by one
-pub next-one : (before now : ℕ) → before ≤ 2 ^ 63 + 2 → now ≡ next_count before → now ≡ before + 1
-next-one before now low is = is ∙ min-eq_left (omega (arith, low))
-
 -- the end of a check
 
 -- a judgement is a whole answer
@@ -132,23 +121,15 @@ pub judged-complete : (judgement : Judgement) → is_complete (judged_status jud
 judged-complete (Certified camera triangles worst) = refl
 judged-complete (Rejected why) = refl
 
-two-least : (judgement : Judgement) → 2 ≤ opened_for judgement
-two-least (Certified camera triangles worst) = omega arith
-two-least (Rejected (BadLine line)) = omega arith
-two-least (Rejected NotConforming) = omega arith
-two-least (Rejected OverBudget) = omega arith
-two-least (Rejected (BadReason index)) = omega arith
-two-least (Rejected TooFewReasons) = omega arith
-two-least (Rejected (MeshDiffers place)) = omega arith
-
-three-most : (judgement : Judgement) → opened_for judgement ≤ 3
-three-most (Certified camera triangles worst) = omega arith
-three-most (Rejected (BadLine line)) = omega arith
-three-most (Rejected NotConforming) = omega arith
-three-most (Rejected OverBudget) = omega arith
-three-most (Rejected (BadReason index)) = omega arith
-three-most (Rejected TooFewReasons) = omega arith
-three-most (Rejected (MeshDiffers place)) = omega arith
+-- two or three files were opened for it
+two-or-three : (judgement : Judgement) → (2 ≤ opened_for judgement) × (opened_for judgement ≤ 3)
+two-or-three (Certified camera triangles worst) = (omega arith, omega arith)
+two-or-three (Rejected (BadLine line)) = (omega arith, omega arith)
+two-or-three (Rejected NotConforming) = (omega arith, omega arith)
+two-or-three (Rejected OverBudget) = (omega arith, omega arith)
+two-or-three (Rejected (BadReason index)) = (omega arith, omega arith)
+two-or-three (Rejected TooFewReasons) = (omega arith, omega arith)
+two-or-three (Rejected (MeshDiffers place)) = (omega arith, omega arith)
 
 module _ (judgement : Judgement) (status : Status) (how : (status ≡ judged_status judgement) ⊎ (status ≡ ends.WriteFault)) where
   -- only a mesh that is certified ends with Done
@@ -180,8 +161,9 @@ module _ (judgement : Judgement) (status : Status) (how : (status ≡ judged_sta
   -- how often files were opened
   pub judged-count : (before middle now : ℕ) → middle ≡ before + 1 → now + 1 ≡ middle + opened_for judgement → OpensForStatus before now 3 status
   judged-count before middle now one more =
-      let low = two-least judgement in
-      let high = three-most judgement in
+      let range = two-or-three judgement in
+      let low = range.0 in
+      let high = range.1 in
       record {
         done = λ e. (let three = done-three e in omega (arith, one, more, three));
         script_refused = λ e. absurd (judged-ends.1 e);
@@ -204,12 +186,16 @@ check-ends before now old new name c files grid judgement text middle end status
     ends-as before now old new name (Check c) files (Ok grid) (judged_outcome judgement) status found judged (omega (arith, one, more))
     (subst Q is_end (subst P is_text does)) None (λ e. refl)
 
--- commands are the same
-same-grid : (name other : List ℕ) (c check : Checking) → OnGrid name (Check c) ≡ OnGrid other (Check check) → name ≡ other
-same-grid name other c check e = cc
-
+-- commands that check are the same
 same-check : (name other : List ℕ) (c check : Checking) → OnGrid name (Check c) ≡ OnGrid other (Check check) → c ≡ check
 same-check name other c check e = cc
+
+-- the grid of one is that of the other
+same-found : (name other : List ℕ) (c check : Checking) (grid : HeightField) (files : List NamedFile) → OnGrid name (Check c) ≡ OnGrid other (Check check)
+    → grid_of (bytes_of files name) ≡ Ok grid → grid_of (bytes_of files other) ≡ Ok grid
+same-found name other c check grid files e found =
+    let P : List ℕ → Type 0 = λ l. grid_of (bytes_of files l) ≡ Ok grid in
+    subst P (same-name name other (Check c) (Check check) e) found
 
 -- memory ran out behind the grid
 pub check-memory : (before : Told) (old new : Seen) (name : List ℕ) (c : Checking) (grid : HeightField) (middle : ℕ) → middle ≡ old.opens + 1
@@ -224,7 +210,7 @@ check-memory before old new name c grid middle one found (inl first) = record {
   header = λ other job files e told two. absurd (omega (arith, two));
   in_order = λ other check files e told two. (
     grid,
-    (let P : List ℕ → Type 0 = λ l. grid_of (bytes_of files l) ≡ Ok grid in subst P (same-grid name other c check e) (found files told)),
+    same-found name other c check grid files e (found files told),
     λ three. absurd (omega (arith, three)),
   );
 }
@@ -237,7 +223,7 @@ check-memory before old new name c grid middle one found (inr (second, faultless
   header = λ other job files e told three. absurd (omega (arith, three));
   in_order = λ other check files e told two. (
     grid,
-    (let P : List ℕ → Type 0 = λ l. grid_of (bytes_of files l) ≡ Ok grid in subst P (same-grid name other c check e) (found files told)),
+    same-found name other c check grid files e (found files told),
     λ three. (let P : Checking → Type 0 = λ d. IsFaultlessFile d grid files in subst P (same-check name other c check e) (faultless files told)),
   );
 }

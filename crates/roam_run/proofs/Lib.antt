@@ -6,6 +6,7 @@ pub mod FrameLemmas
 pub mod ShowLemmas
 pub mod StageLemmas
 pub mod LeastLemmas
+pub mod FileLemmas
 pub mod ReadingLemmas
 pub mod EndLemmas
 pub mod GridLemmas

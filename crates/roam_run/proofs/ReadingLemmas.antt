@@ -1,7 +1,7 @@
 -- A grid that is read from a shelf, piece by piece.
 use Rattle.std.proofs.Common.{arith, ◌+◌, length-append, Result, OnOk, IfOk, Bool, true, ◌≡◌, ◌≢◌, ℕ, ◌≤◌, List, [], ◌++◌, length, take, drop, Option, Some, Ok, Err, refl, sym, ◌∙◌, ap, append_assoc, append-nil, false, ◌∷◌}
 use Rattle.std.proofs.Math.Seq.{take-append_seam}
-use Rattle.std.proofs.lemmas.List.{take-append-drop, length-take-le}
+use Rattle.std.proofs.lemmas.List.{length-take-le}
 use Rattle.mesh_defs.specs.HeightField.{HeightField}
 use Rattle.roam_edge.specs.Shelf.{NamedFile, bytes_of}
 use Rattle.pgm_grid.specs.declared.fault.PgmFault.{PgmFault}
@@ -14,15 +14,14 @@ use Rattle.run_laws.specs.Promise.{seen, HasEnded, HasReadHeader, IsUndecided}
 use Rattle.roam_run.specs.declared.grid_file.GridStop.{GridStop}
 use Rattle.roam_run.specs.declared.grid_file.GridStop.TheVariants as stop
 use Rattle.roam_run.specs.GridStop.{stop_for, StopsUndecided}
+use Rattle.roam_run.proofs.FileLemmas.{HasRead, read-nothing, file-split, file-cut, read-more, same-unread, not_at_end}
 
--- The reader has taken some bytes, and where the shelf tells its files, these are a prefix of the named
--- file, whose other bytes are unread.
+-- The reader has taken some bytes, which were read of the named file.
 pub record IsReading (files : Option (List NamedFile)) (rest : Option (List ℕ)) (name : List ℕ) (reader : Progress) : Type 0 where
   pub bytes : List ℕ
   pub means : (more : List ℕ) → resume reader more ≡ grid_of (bytes ++ more)
   pub counted : taken reader ≡ length bytes
-  pub told : (all : List NamedFile) → files ≡ Some all →
-      (unread : List ℕ) × (rest ≡ Some unread) × (bytes_of all name ≡ bytes ++ unread)
+  pub in_file : HasRead files rest name bytes
 
 -- nothing was taken of a file that was just opened
 pub reading-begin : (files : Option (List NamedFile)) (rest : Option (List ℕ)) (name : List ℕ) (reader : Progress)
@@ -33,7 +32,7 @@ reading-begin files rest name reader means none chosen = record {
   bytes = [];
   means = means;
   counted = none;
-  told = λ all is. (bytes_of all name, chosen all is, refl);
+  in_file = read-nothing files rest name chosen;
 }
 
 -- the start of a buffer into which a read put the first unread bytes
@@ -54,13 +53,7 @@ reading-more files rest rest' name piece count reader next reading takes gives g
   bytes = reading.bytes ++ piece;
   counted = omega (arith, counted, reading.counted, length-append reading.bytes piece);
   means = λ more. sym (goes_on more) ∙ reading.means (piece ++ more) ∙ ap grid_of (sym (append_assoc reading.bytes piece more));
-  told = λ all is.
-      let here = reading.told all is in (
-        drop count here.0,
-        takes here.0 here.1,
-        here.2 ∙ ap (λ m. reading.bytes ++ m) (sym (take-append-drop count here.0) ∙ ap (λ m. m ++ drop count here.0) (sym (gives here.0 here.1)))
-            ∙ sym (append_assoc reading.bytes piece (drop count here.0)),
-      );
+  in_file = read-more files rest rest' name reading.bytes piece count reading.in_file takes gives;
 }
 
 -- a piece was read, and the reader refuses it
@@ -70,8 +63,8 @@ pub reading-refused : (files : Option (List NamedFile)) (rest : Option (List ℕ
     → ((more : List ℕ) → resume reader (piece ++ more) ≡ Err fault)
     → (all : List NamedFile) → files ≡ Some all → grid_of (bytes_of all name) ≡ Err fault
 reading-refused files rest name piece count reader fault reading gives refusal all is =
-    let here = reading.told all is in
-    ap grid_of (here.2 ∙ ap (λ m. reading.bytes ++ m) (sym (take-append-drop count here.0) ∙ ap (λ m. m ++ drop count here.0) (sym (gives here.0 here.1))))
+    let here = reading.in_file all is in
+    ap grid_of (file-split (bytes_of all name) reading.bytes piece here.0 count here.2 (gives here.0 here.1))
     ∙ sym (reading.means (piece ++ drop count here.0))
     ∙ refusal (drop count here.0)
 
@@ -121,10 +114,9 @@ pub reading-header : (files : Option (List NamedFile)) (rest rest' : Option (Lis
     → EndsHeader reader piece
     → (all : List NamedFile) → files ≡ Some all → HasReadHeader (bytes_of all name) rest'
 reading-header files rest rest' name piece count reader reading takes gives ends all is =
-    let here = reading.told all is in
+    let here = reading.in_file all is in
     let header = ends.ends reading.bytes reading.means in
-    let split = sym (take-append-drop count here.0) ∙ ap (λ m. m ++ drop count here.0) (sym (gives here.0 here.1)) in
-    let whole = here.2 ∙ ap (λ m. reading.bytes ++ m) split ∙ sym (append_assoc reading.bytes piece (drop count here.0)) in (
+    let whole = file-cut (bytes_of all name) reading.bytes piece here.0 count here.2 (gives here.0 here.1) in (
       header.header,
       header.at,
       header.rest ++ drop count here.0,
@@ -137,11 +129,8 @@ reading-header files rest rest' name piece count reader reading takes gives ends
         cut = whole ∙ ap (λ m. m ++ drop count here.0) header.has.cut ∙ append_assoc header.has.text header.rest (drop count here.0);
         place = header.has.place;
       },
-      λ unread told. (header.rest, ap (λ m. header.rest ++ m) (same-some (drop count here.0) unread (sym (takes here.0 here.1) ∙ told))),
+      λ unread told. (header.rest, ap (λ m. header.rest ++ m) (same-unread (drop count here.0) unread (sym (takes here.0 here.1) ∙ told))),
     )
-  where
-    same-some : (xs ys : List ℕ) → Some xs ≡ Some ys → xs ≡ ys
-    same-some xs ys e = cc
 
 -- a read failed: no refusal of what was read is settled
 pub reading-failed : (files : Option (List NamedFile)) (rest rest' : Option (List ℕ)) (ended' : Bool) (name : List ℕ) (reader : Progress)
@@ -149,18 +138,15 @@ pub reading-failed : (files : Option (List NamedFile)) (rest rest' : Option (Lis
     → (all : List NamedFile) → files ≡ Some all → StopsUndecided (bytes_of all name) rest' ended'
 unfolding IsSettled
 reading-failed files rest rest' ended' name reader reading unsettled kept not_ended all is =
-    let here = reading.told all is in
+    let here = reading.in_file all is in
     record {
       read = reading.bytes;
       unread = here.0;
       cut = here.2;
-      not_opened = λ e. absurd (both (sym not_ended ∙ e));
+      not_opened = λ e. absurd (not_at_end ended' not_ended e);
       left = λ e. kept ∙ here.1;
       undecided = λ fault settled. unsettled fault (λ more. reading.means more ∙ settled more);
     }
-  where
-    both : false ≡ true → ⊥
-    both e = cc
 
 -- nothing is no grid, and a first byte of 0 has another refusal
 nothing-read : grid_of [] ≡ Err Truncated
@@ -193,7 +179,7 @@ module _ (files : Option (List NamedFile)) (rest : Option (List ℕ)) (name : Li
       → (rest' : Option (List ℕ)) (count : ℕ) → count ≡ 0 → ((unread : List ℕ) → rest ≡ Some unread → rest' ≡ Some (drop count unread))
       → OnOk answer ((all : List NamedFile) → files ≡ Some all → HasReadHeader (bytes_of all name) rest')
   grid-header answer headers value rest' count none takes = on-ok answer _ (λ grid is all told.
-      let here = reading.told all told in
+      let here = reading.in_file all told in
       let whole = here.2 ∙ ap (λ m. reading.bytes ++ m) (nothing here.0 here.1) in
       let read = ap grid_of whole ∙ sym (reading.means []) ∙ IfOk-at_ok _ is value in
       let found = headers grid (bytes_of all name) read in
@@ -202,11 +188,8 @@ module _ (files : Option (List NamedFile)) (rest : Option (List ℕ)) (name : Li
         found.1,
         found.2,
         found.3,
-        λ unread is_left. (found.2, sym (append-nil found.2) ∙ ap (λ m. found.2 ++ m) (same-rest [] unread (sym left ∙ is_left))),
+        λ unread is_left. (found.2, sym (append-nil found.2) ∙ ap (λ m. found.2 ++ m) (same-unread [] unread (sym left ∙ is_left))),
       ))
-    where
-      same-rest : (xs ys : List ℕ) → Some xs ≡ Some ys → xs ≡ ys
-      same-rest xs ys e = cc
 
   -- a read that gave no byte leaves nothing
   pub grid-ended : (ended : Bool) (rest' : Option (List ℕ)) (opens count : ℕ) (files' : Option (List NamedFile)) (answer : Result HeightField GridStop)
@@ -215,7 +198,7 @@ module _ (files : Option (List NamedFile)) (rest : Option (List ℕ)) (name : Li
   grid-ended ended rest' opens count files' answer same none at_end takes = on-ok answer _ (λ grid is. record {
     at_end = at_end;
     nothing_left = λ all told.
-        let here = reading.told all (sym same ∙ told) in
+        let here = reading.in_file all (sym same ∙ told) in
         takes here.0 here.1 ∙ ap (λ k. Some (drop k here.0)) none ∙ ap Some (nothing here.0 here.1);
   })
 
@@ -231,9 +214,6 @@ opening-failed file rest ended at_end = record {
   unread = file;
   cut = refl;
   not_opened = λ e. refl;
-  left = λ e. absurd (both (sym e ∙ at_end));
+  left = λ e. absurd (not_at_end ended e at_end);
   undecided = nothing-undecided;
 }
-  where
-    both : false ≡ true → ⊥
-    both e = cc

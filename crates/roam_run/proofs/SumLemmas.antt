@@ -20,9 +20,11 @@ use Rattle.run_laws.specs.Walk.{Walk, start_walk, state_after, after_line, walk_
 use Rattle.run_laws.specs.Words.{AsSums}
 use Rattle.run_laws.specs.Picture.{Picture, triangles_of, ArePictures}
 use Rattle.run_laws.specs.ReportText.{all_triangles, worst_in, count_blocked}
-use Rattle.run_laws.specs.Outcome.{made_walk}
+use Rattle.run_laws.specs.Outcome.{made_budget, made_spacing, made_walk}
+use Rattle.run_laws.proofs.OutcomeLemmas.{made_lines-count, made_grid-level, made_grid-maxval}
 use Rattle.run_laws.proofs.WalkLemmas.{ArePictures-append}
 use Rattle.roam_run.specs.declared.generated.Sums.{Sums}
+use Rattle.roam_run.specs.declared.generated.TheConstants.{LINES}
 use Rattle.roam_run.specs.EngineSeen.{IsUnder, IsCarriedOut, HasFollowed}
 use Rattle.roam_run.specs.NoteSeen.{picture_seen}
 use Rattle.roam_run.specs.SumView.{made_start, IsSumOf, HasGone, SumsUp}
@@ -58,19 +60,6 @@ pub no-sums : (sums : Sums) → sums.frames ≡ 0 → sums.triangles ≡ 0 → s
 no-sums sums frames triangles worst blocked = record { frames = frames; triangles = triangles; worst = worst; blocked = blocked }
 
 -- the lines
-
--- there are 105 of them
-lines-count : (n seed : ℕ) → length (made_lines n seed) ≡ 105
-unfolding made_lines
-lines-count n seed = refl
-
-grid-level : (n seed : ℕ) → (made_grid n seed).n ≡ n
-unfolding made_grid
-grid-level n seed = refl
-
-grid-heights : (n seed : ℕ) → (made_grid n seed).maxval ≡ 65535
-unfolding made_grid
-grid-heights n seed = refl
 
 abbrev limits_for : EngineState → Limits
 limits_for engine = record {
@@ -110,9 +99,9 @@ start-camera engine n seed is =
 
 -- it begins
 pub gone-begins : (n seed : ℕ) (grid : HeightField) (engine : EngineState) (sums : Sums) → grid ≡ made_grid n seed
-    → HasFollowed (start_walk 20000 (start_state grid 30 20000)) [] engine → IsSumOf [] sums → HasGone n seed 0 engine sums
+    → HasFollowed (start_walk made_budget (start_state grid made_spacing made_budget)) [] engine → IsSumOf [] sums → HasGone n seed 0 engine sums
 gone-begins n seed grid engine sums made began none =
-    let S : HeightField → Type 0 = λ g. HasFollowed (start_walk 20000 (start_state g 30 20000)) [] engine in
+    let S : HeightField → Type 0 = λ g. HasFollowed (start_walk made_budget (start_state g made_spacing made_budget)) [] engine in
     let followed : HasFollowed (made_start n seed) [] engine = subst S made began in
     record {
       walk = made_start n seed;
@@ -123,17 +112,17 @@ gone-begins n seed grid engine sums made began none =
       summed = none;
       few = (let f = none.frames in let t = none.triangles in let b = none.blocked in let m = followed.made in let o = followed.gone in
           record { frames = omega (arith, f); triangles = omega (arith, t); blocked = omega (arith, b); made = omega (arith, m); gone = omega (arith, o) });
-      level = ap (λ (s : State). s.grid.n) followed.at_state ∙ grid-level n seed;
-      heights = ap (λ (s : State). s.grid.maxval) followed.at_state ∙ grid-heights n seed;
+      level = ap (λ (s : State). s.grid.n) followed.at_state ∙ made_grid-level n seed;
+      heights = ap (λ (s : State). s.grid.maxval) followed.at_state ∙ made_grid-maxval n seed;
       camera = start-camera engine n seed followed.at_state;
     }
 
 -- it ends
-pub gone-ends : (n seed : ℕ) (engine : EngineState) (sums : Sums) → HasGone n seed 105 engine sums → SumsUp n seed sums engine
+pub gone-ends : (n seed : ℕ) (engine : EngineState) (sums : Sums) → HasGone n seed LINES engine sums → SumsUp n seed sums engine
 gone-ends n seed engine sums here =
-    let count = lines-count n seed in
-    let few : length (made_lines n seed) ≤ 105 = omega (arith, count) in
-    let none : drop 105 (made_lines n seed) ≡ [] = drop_of_length-le (made_lines n seed) few in
+    let count = made_lines-count n seed in
+    let few : length (made_lines n seed) ≤ LINES = omega (arith, count) in
+    let none : drop LINES (made_lines n seed) ≡ [] = drop_of_length-le (made_lines n seed) few in
     let there : here.walk ≡ made_walk n seed = sym (ap (walk_along here.walk) none) ∙ here.leads in
     let P : Walk → Type 0 = λ w. ArePictures (AsSums n seed) [] w.frames here.pictures in
     record {

@@ -15,6 +15,7 @@ use Rattle.run_laws.specs.Promise.{Seen, AreFiles, is_complete, leaves_engine, E
 use Rattle.run_laws.proofs.ActLemmas.{stands-nothing}
 use Rattle.roam_run.specs.EngineSeen.{engine_seen}
 use Rattle.roam_run.specs.Leaving.{CommandEnds, CommandReadFault, CommandNoMemory}
+use Rattle.roam_run.proofs.GridLemmas.{not-complete}
 
 -- words of a command name a file: so the shelf's files are told where an outcome is over them
 pub told-files : (told : Option (List NamedFile)) (words : List (List ℕ)) (files : List NamedFile) (name : List ℕ) (job : Job)
@@ -52,27 +53,6 @@ words-left words command engine status is left =
     let P : Option Command → Type 0 = λ c. IsSome engine ↔ IsTrue (leaves_engine c status) in
     subst P (sym is) left
 
--- a complete run did not run out of memory, and no read failed
-not-memory : (status : Status) → IsTrue (is_complete status) → status ≢ NoMemory
-not-memory Done is e = cc
-not-memory NoMemory is e = cc
-not-memory Usage is e = cc
-not-memory GridRefused is e = cc
-not-memory ScriptRefused is e = cc
-not-memory ReadFault is e = cc
-not-memory WriteFault is e = cc
-not-memory Rejected is e = cc
-
-not-fault : (status : Status) → IsTrue (is_complete status) → status ≢ ReadFault
-not-fault Done is e = cc
-not-fault NoMemory is e = cc
-not-fault Usage is e = cc
-not-fault GridRefused is e = cc
-not-fault ScriptRefused is e = cc
-not-fault ReadFault is e = cc
-not-fault WriteFault is e = cc
-not-fault Rejected is e = cc
-
 module _ (before now : Told) (old new : Seen) (words : List (List ℕ)) (command : Command) (is_command : command_of words ≡ Some command) where
   -- a command ends as its words
   pub words-end : (files : List NamedFile) (status : Status) (engine : Option EngineState) → CommandEnds before now old new command files status engine
@@ -91,7 +71,7 @@ module _ (before now : Told) (old new : Seen) (words : List (List ℕ)) (command
       → option_map engine_seen engine ≡ end.engine
   unfolding IsOutcome
   words-engine unique files status engine is end outcome complete =
-      let e = is.ends (not-memory status complete) (not-fault status complete) in
+      let e = is.ends (not-complete status NoMemory refl complete) (not-complete status ReadFault refl complete) in
       let P : Option Command → Type 0 = λ c. IsWordsOutcome c files e.0 in
       e.3 complete ∙ unique words files e.0 end (subst P (sym is_command) e.1) outcome
 
@@ -168,10 +148,10 @@ write-cause meshes report report' status low_meshes low_report cause = (
     only-write Rejected none = absurd (none (λ e. cc))
 
 -- where the outcome is one text, a failed write leaves a prefix of it
-pub text-cut : CutTextsStand → OutcomesAreUnique → (before now : Told) (old new : Seen) (words : List (List ℕ)) (files : List NamedFile) (status : Status)
+pub prefix-stands : CutTextsStand → OutcomesAreUnique → (before now : Told) (old new : Seen) (words : List (List ℕ)) (files : List NamedFile) (status : Status)
     → EndsRight before now old new words files status → status ≡ WriteFault → HasOneOutcome (command_of words) → (end : Outcome) (text : List ℕ)
     → IsOutcome words files end → end.acts ≡ ReportText text ∷ [] → StandsInText before now [] text
-text-cut texts unique before now old new words files status ends failed one end text outcome acts =
+prefix-stands texts unique before now old new words files status ends failed one end text outcome acts =
     let not_memory : status ≢ NoMemory = λ e. let clash : NoMemory ≡ WriteFault = sym e ∙ failed in cc in
     let not_read : status ≢ ReadFault = λ e. let clash : ReadFault ≡ WriteFault = sym e ∙ failed in cc in
     let e = ends.ends not_memory not_read in

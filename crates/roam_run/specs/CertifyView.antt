@@ -2,7 +2,7 @@
 -- Words: making_seen, checking_seen, AreInBounds.
 use Rattle.std.specs.Prelude.{ℕ, ◌≤◌}
 use Rattle.wedgie_tree.specs.declared.wedges.TheConstants.{GREATEST_SPACING}
-use Rattle.run_laws.specs.Words.{Making, Checking}
+use Rattle.run_laws.specs.Words.{Making, Checking, least_budget, greatest_budget}
 use Rattle.roam_run.specs.declared.certify_words.MakeWords.{MakeWords}
 use Rattle.roam_run.specs.declared.certify_words.CheckWords.{CheckWords}
 
@@ -16,7 +16,7 @@ checking_seen w = record { mesh = w.mesh.now; certificate = w.certificate.now; b
 
 -- a budget and a spacing lie within their bounds
 pub record AreInBounds (budget spacing : ℕ) : Type 0 where
-  pub budget_low : 2 ≤ budget
-  pub budget_high : budget ≤ 1048576
+  pub budget_low : least_budget ≤ budget
+  pub budget_high : budget ≤ greatest_budget
   pub spacing_low : 1 ≤ spacing
   pub spacing_high : spacing ≤ GREATEST_SPACING

@@ -40,8 +40,8 @@ command_seen (Check w) = words.OnGrid w.grid.now (words.Check (checking_seen w))
 -- budget and spacing lie within their bounds, and the prefix, where there is one, has an accepted length
 pub record IsFrameCommand (command : FrameWords) : Type 0 where
   pub shown : IsMaking command.making
-  pub budget_low : 2 ≤ command.budget
-  pub budget_high : command.budget ≤ 1048576
+  pub budget_low : words.least_budget ≤ command.budget
+  pub budget_high : command.budget ≤ words.greatest_budget
   pub spacing_low : 1 ≤ command.spacing
   pub spacing_high : command.spacing ≤ GREATEST_SPACING
 

@@ -4,6 +4,7 @@ ghost use Rattle.std.specs.Prelude.{◌≡◌, ◌*◌, ◌^◌, ◌≤◌, min,
 ghost use Rattle.mesh_defs.specs.State.{start_state};
 ghost use Rattle.wedgie_tree.specs.declared.wedges.TheConstants.{GREATEST_SPACING};
 ghost use Rattle.run_laws.specs.Walk.{start_walk};
+ghost use Rattle.run_laws.specs.Words.{least_budget, greatest_budget};
 ghost use Rattle.roam_run.specs.EngineFrames.{IsEngineReady, IsUnderEngine, EngineFollows};
 ghost use Rattle.roam_run.specs.ShowView.{show_seen, IsShowing, is_strip};
 
@@ -39,8 +40,8 @@ impl<'a> EngineFrames<'a> {
         spacing: u32,
     ) -> Result<EngineFrames<'a>, NoMemory>
         requires showing { IsShowing showing }
-        requires budget_low { 2 ≤ budget }
-        requires budget_high { budget ≤ 1048576 }
+        requires budget_low { least_budget ≤ budget }
+        requires budget_high { budget ≤ greatest_budget }
         requires spacing_low { 1 ≤ spacing }
         requires spacing_high { spacing ≤ GREATEST_SPACING }
         ensures begins { IfOk result (λ f. EngineFollows f.showing f.engine (show_seen showing.entry)

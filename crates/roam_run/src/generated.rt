@@ -1,6 +1,7 @@
 //! The frames of a generated run, and what they sum up to.
 
 ghost use Rattle.std.specs.Prelude.{◌≡◌, ◌+◌, ◌*◌, ◌^◌, ◌<◌, ◌≤◌, max, is_some, [], if◌then◌else◌, IfOk};
+ghost use Rattle.roam_run.specs.declared.generated.TheConstants.{LINES};
 ghost use Rattle.roam_run.specs.SumView.{IsSumOf, HasGone, SumsUp};
 
 use crate::carry::carry_out;
@@ -47,9 +48,9 @@ impl Sums {
 
     /// Adds a frame.
     fn add(&mut self, note: &FrameNote)
-        requires frames { self.old.frames < 105 }
-        requires triangles { self.old.triangles ≤ 105 * 2 ^ 33 }
-        requires blocked { self.old.blocked < 105 }
+        requires frames { self.old.frames < LINES }
+        requires triangles { self.old.triangles ≤ LINES * 2 ^ 33 }
+        requires blocked { self.old.blocked < LINES }
         ensures frames { self.new.frames ≡ self.old.frames + 1 }
         ensures triangles { self.new.triangles ≡ self.old.triangles + note.now.triangles }
         ensures few { self.new.triangles ≤ self.old.triangles + 2 ^ 33 }
@@ -85,7 +86,7 @@ pub(crate) fn sums_of(alloc: Global, n: u32, seed: u32) -> Result<(Sums, Engine)
 fn take_line(n: u32, seed: u32, k: u32, engine: &mut Engine, sums: &mut Sums)
     requires n_low { 1 ≤ n }
     requires n_high { n ≤ 11 }
-    requires k { k < 105 }
+    requires k { k < LINES }
     requires here { HasGone n seed k engine.old sums.old }
     ensures { HasGone n seed (k + 1) engine.new sums.new }
 {

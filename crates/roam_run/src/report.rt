@@ -2,6 +2,7 @@
 
 ghost use Rattle.std.specs.Prelude.{◌≡◌, ◌+◌, ◌≤◌, ◌++◌, length, decimal};
 ghost use Rattle.arrayvec.specs.ArrayVec.{array_vec_len};
+ghost use Rattle.roam_run.specs.declared.text.TheConstants.{TEXT_ROOM};
 ghost use Rattle.run_laws.specs.ReportText.{sums_line, blocked_text, grid_fault_text, grid_refusal, script_fault_text, line_refusal};
 ghost use Rattle.roam_run.specs.NoteSeen.{note_marks, note_line};
 ghost use Rattle.roam_run.specs.ShowView.{least_numbers};
@@ -37,7 +38,7 @@ pub(crate) fn frame_report(engine: &Engine, note: &FrameNote) -> Text
 
 /// Appends how many triangles have each mark, where a plane is in force.
 fn push_marks(text: &mut Text, engine: &Engine, note: &FrameNote)
-    requires room { array_vec_len text.old + 180 ≤ 640 }
+    requires room { array_vec_len text.old + 180 ≤ TEXT_ROOM }
     ensures items { text.new.items ≡ text.old.items ++ note_marks engine.now.state.view.planes note.now }
     ensures len { array_vec_len text.new ≤ array_vec_len text.old + 180 }
 {
@@ -51,7 +52,7 @@ fn push_marks(text: &mut Text, engine: &Engine, note: &FrameNote)
 
 /// Appends which triangle blocks, and how many triangles the mesh would have with it.
 fn push_blocked(text: &mut Text, blocked: &Option<Blocked>)
-    requires room { array_vec_len text.old + 80 ≤ 640 }
+    requires room { array_vec_len text.old + 80 ≤ TEXT_ROOM }
     ensures items { text.new.items ≡ text.old.items ++ blocked_text blocked.now }
     ensures len { array_vec_len text.new ≤ array_vec_len text.old + 80 }
 {
@@ -123,7 +124,7 @@ pub(crate) fn line_report(number: u32, fault: ScriptFault) -> Text
 
 /// Appends why a line is refused.
 fn push_script_fault(text: &mut Text, fault: ScriptFault)
-    requires room { array_vec_len text.old + 64 ≤ 640 }
+    requires room { array_vec_len text.old + 64 ≤ TEXT_ROOM }
     ensures items { text.new.items ≡ text.old.items ++ script_fault_text fault }
     ensures len { array_vec_len text.new ≤ array_vec_len text.old + 64 }
 {
@@ -145,7 +146,7 @@ fn push_script_fault(text: &mut Text, fault: ScriptFault)
 
 /// Appends why a grid is refused.
 fn push_grid_fault(text: &mut Text, fault: PgmFault)
-    requires room { array_vec_len text.old + 64 ≤ 640 }
+    requires room { array_vec_len text.old + 64 ≤ TEXT_ROOM }
     ensures items { text.new.items ≡ text.old.items ++ grid_fault_text fault }
     ensures len { array_vec_len text.new ≤ array_vec_len text.old + 64 }
 {
@@ -168,7 +169,7 @@ fn push_grid_fault(text: &mut Text, fault: PgmFault)
 /// Appends words, and the number of a place.
 pub(crate) fn push_placed(text: &mut Text, words: &[u8], place: u64)
     requires short { length words.now ≤ 40 }
-    requires room { array_vec_len text.old + 60 ≤ 640 }
+    requires room { array_vec_len text.old + 60 ≤ TEXT_ROOM }
     ensures items { text.new.items ≡ text.old.items ++ (words.now ++ decimal place) }
     ensures len { array_vec_len text.new ≤ array_vec_len text.old + 60 }
 {

@@ -6,6 +6,7 @@ ghost use Rattle.mesh_defs.specs.ClosedSet.{IsClosed, leaves_of, among};
 ghost use Rattle.roam_edge.specs.Fault.{HasCause};
 ghost use Rattle.roam_edge.specs.MeshSink.{Mesh};
 ghost use Rattle.roam_edge.specs.declared.mesh_sink.TheConstants.{LONGEST_PREFIX, GREATEST_NUMBER};
+ghost use Rattle.wedgie_tree.specs.declared.wedges.TheConstants.{GREATEST_SPACING};
 ghost use Rattle.obj_write.specs.Numbers.{numbers_of};
 ghost use Rattle.strip_laws.specs.Strip.{strip_of};
 ghost use Rattle.deviation_laws.specs.PlaneHeight.{deviation_of, thickest_of};
@@ -115,7 +116,7 @@ fn in_order<'a>(engine: &'a Engine, order: &'a [Tri]) -> MeshView<'a>
     ensures numbers { result.numbers.now ≡ numbers_of engine.now.state.grid.n order.now }
     ensures levels { All (λ a. level_of a ≤ 2 * engine.now.state.grid.n) order.now }
     ensures spacing_low { 1 ≤ result.spacing }
-    ensures spacing_high { result.spacing ≤ 1024 }
+    ensures spacing_high { result.spacing ≤ GREATEST_SPACING }
 {
     let view = engine.view();
     MeshView {

@@ -2,6 +2,7 @@
 
 ghost use Rattle.std.specs.Prelude.{◌≡◌, ◌+◌, ◌≤◌, ◌++◌};
 ghost use Rattle.arrayvec.specs.ArrayVec.{array_vec_len};
+ghost use Rattle.roam_run.specs.declared.text.TheConstants.{TEXT_ROOM};
 ghost use Rattle.cert_text.specs.CertText.{number_text};
 ghost use Rattle.run_laws.specs.ReportText.{certified_line, reject_text, rejection};
 ghost use Rattle.roam_run.specs.Judging.{judged_text, judged_status};
@@ -73,7 +74,7 @@ fn certified_report(camera: Camera, triangles: u32, worst: u64) -> Text
 
 /// Appends the coordinates of a camera, each behind a blank.
 fn push_camera(text: &mut Text, camera: Camera)
-    requires room { array_vec_len text.old + 63 ≤ 640 }
+    requires room { array_vec_len text.old + 63 ≤ TEXT_ROOM }
     ensures items { text.new.items ≡
         text.old.items ++ number_text camera.x ++ number_text camera.y ++ number_text camera.z }
     ensures len { array_vec_len text.new ≤ array_vec_len text.old + 63 }
@@ -85,7 +86,7 @@ fn push_camera(text: &mut Text, camera: Camera)
 
 /// Appends a blank and a coordinate.
 fn push_coordinate(text: &mut Text, value: i64)
-    requires room { array_vec_len text.old + 21 ≤ 640 }
+    requires room { array_vec_len text.old + 21 ≤ TEXT_ROOM }
     ensures items { text.new.items ≡ text.old.items ++ number_text value }
     ensures len { array_vec_len text.new ≤ array_vec_len text.old + 21 }
 {
@@ -106,7 +107,7 @@ fn rejected_report(why: Reject) -> Text
 
 /// Appends why a certificate or a mesh is rejected.
 fn push_reject(text: &mut Text, why: Reject)
-    requires room { array_vec_len text.old + 64 ≤ 640 }
+    requires room { array_vec_len text.old + 64 ≤ TEXT_ROOM }
     ensures items { text.new.items ≡ text.old.items ++ reject_text why }
     ensures len { array_vec_len text.new ≤ array_vec_len text.old + 64 }
 {

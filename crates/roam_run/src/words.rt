@@ -2,7 +2,7 @@
 
 ghost use Rattle.std.specs.Prelude.{◌≡◌, ◌≤◌, if◌then◌else◌, true, map, string_bytes, IfSome, ◌<◌, ◌&&◌, ◌==◌, length, codes, bytes_eq};
 ghost use Rattle.std.specs.Option.{option_map};
-ghost use Rattle.run_laws.specs.Words.{command_of, frames_command, least_command, meshes_command, number_word, spacing_word, tolerance_word};
+ghost use Rattle.run_laws.specs.Words.{command_of, frames_command, least_budget, greatest_budget, least_command, meshes_command, number_word, spacing_word, tolerance_word};
 ghost use Rattle.run_laws.specs.Words.{is_prefix as is_prefix_seen};
 ghost use Rattle.roam_run.specs.ShowView.{IsPrefixLength};
 ghost use Rattle.roam_run.specs.WordView.{command_seen, show_for, IsMaking, IsAccepted};
@@ -168,7 +168,7 @@ fn frames_in<'a>(
     spacing: &str,
 ) -> Option<Command<'a>>
     requires making { IsMaking making }
-    requires budget { IfSome budget (λ number. (2 ≤ number) × (number ≤ 1048576)) }
+    requires budget { IfSome budget (λ number. (least_budget ≤ number) × (number ≤ greatest_budget)) }
     ensures value { option_map command_seen result ≡
         frames_command grid.now script.now (show_for making.entry) budget (spacing_word spacing.now) }
     ensures accepted { IfSome result IsAccepted }

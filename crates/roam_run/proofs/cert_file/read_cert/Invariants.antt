@@ -1,5 +1,7 @@
 use Rattle.std.proofs.Common.{◌≡◌, ◌+◌, ◌-◌, ◌*◌, false, length}
 use Rattle.roam_edge.specs.Fault.{next_count}
+use Rattle.roam_script.specs.declared.limits.TheConstants.{MOST_LINE_BYTES}
+use Rattle.cert_text.specs.declared.limits.TheConstants.{MOST_LEAVES, MOST_REASONS}
 use Rattle.roam_run.specs.CertStage.{IsCounted}
 use Rattle.roam_run.proofs.CertStageLemmas.{IsReadingCert}
 use Rattle.roam_run.proofs.cert_file.read_cert.Given as goal
@@ -18,4 +20,4 @@ invariant-pieces g l = record {
 
 -- each byte makes a line longer, or is the last of an accepted line
 abbrev pub decreases-pieces : goal.decreases-pieces
-decreases-pieces g l = 201 * 2148578 - (201 * l.stage.lines + length l.stage.part.items)
+decreases-pieces g l = (MOST_LINE_BYTES + 1) * (2 + MOST_LEAVES + MOST_REASONS) - ((MOST_LINE_BYTES + 1) * l.stage.lines + length l.stage.part.items)

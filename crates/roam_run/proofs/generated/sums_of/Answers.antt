@@ -1,4 +1,6 @@
 use Rattle.std.proofs.Common.{◌≡◌, ℕ, subst, arith}
+use Rattle.run_laws.specs.Outcome.{made_budget, made_spacing}
+use Rattle.roam_run.specs.declared.generated.TheConstants.{LINES}
 use Rattle.roam_run.specs.SumView.{HasGone}
 use Rattle.roam_run.proofs.EngineLemmas.{followed-begins}
 use Rattle.roam_run.proofs.SumLemmas.{gone-begins, gone-ends}
@@ -8,11 +10,11 @@ pub loop-k-init : goal.loop-k-init
 loop-k-init c =
     let made = c.in_ok-engine.ensures in
     gone-begins c.args.n c.args.seed c.in_ok-grid.grid c.in_ok-engine.engine c.none-sums.result c.in_ok-grid.ensures.value
-    (followed-begins c.in_ok-grid.grid 30 20000 c.in_ok-engine.engine made.state made.most made.base made.odometer made.frames made.splits made.merges)
+    (followed-begins c.in_ok-grid.grid made_spacing made_budget c.in_ok-engine.engine made.state made.most made.base made.odometer made.frames made.splits made.merges)
     c.none-sums.ensures
 
 pub returns : goal.returns
 returns c =
-    let end : c.loop-k.k ≡ 105 = omega arith in
+    let end : c.loop-k.k ≡ LINES = omega arith in
     let P : ℕ → Type 0 = λ i. HasGone c.args.n c.args.seed i c.loop-k.engine c.loop-k.sums in
     gone-ends c.args.n c.args.seed c.loop-k.engine c.loop-k.sums (subst P end c.loop-k.invariant)

@@ -4,7 +4,7 @@ use Rattle.run_laws.specs.declared.status.Status.TheVariants.{Usage}
 use Rattle.run_laws.specs.Promise.{seen}
 use Rattle.roam_run.specs.CertifyView.{making_seen, checking_seen}
 use Rattle.roam_run.specs.WordView.{scripted_seen, command_seen}
-use Rattle.roam_run.proofs.TopLemmas.{told-files, usage-ends, usage-engine, words-end, words-engine, words-left, words-read_fault, words-no_memory, not-read, not-write, write-cause, accepted-done, text-cut}
+use Rattle.roam_run.proofs.TopLemmas.{told-files, usage-ends, usage-engine, words-end, words-engine, words-left, words-read_fault, words-no_memory, not-read, not-write, write-cause, accepted-done, prefix-stands}
 use Rattle.roam_run.proofs.run.roam.Goals as goal
 
 pub returns-in-None-clause-outcome : goal.returns-in-None-clause-outcome
@@ -322,7 +322,7 @@ returns-in-None-clause-write_fault g c files run grid prefix is_told failed is_r
 
 pub returns-in-None-clause-text_fault : goal.returns-in-None-clause-text_fault
 returns-in-None-clause-text_fault g c files end text are failed one outcome acts =
-    text-cut c.cut_short_laws.ensures.texts c.run_laws.ensures.one_outcome _ _ _ _ (map string_bytes c.args.words.now) files _
+    prefix-stands c.cut_short_laws.ensures.texts c.run_laws.ensures.one_outcome _ _ _ _ (map string_bytes c.args.words.now) files _
     (returns-in-None-clause-outcome g c files are) failed one end text outcome acts
 
 pub returns-in-Some-Frames-clause-write_fault : goal.returns-in-Some-Frames-clause-write_fault
@@ -332,7 +332,7 @@ returns-in-Some-Frames-clause-write_fault g c files run grid prefix is_told fail
 
 pub returns-in-Some-Frames-clause-text_fault : goal.returns-in-Some-Frames-clause-text_fault
 returns-in-Some-Frames-clause-text_fault g c files end text are failed one outcome acts =
-    text-cut c.cut_short_laws.ensures.texts c.run_laws.ensures.one_outcome _ _ _ _ (map string_bytes c.args.words.now) files _
+    prefix-stands c.cut_short_laws.ensures.texts c.run_laws.ensures.one_outcome _ _ _ _ (map string_bytes c.args.words.now) files _
     (returns-in-Some-Frames-clause-outcome g c files are) failed one end text outcome acts
 
 pub returns-in-Some-Info-clause-write_fault : goal.returns-in-Some-Info-clause-write_fault
@@ -342,7 +342,7 @@ returns-in-Some-Info-clause-write_fault g c files run grid prefix is_told failed
 
 pub returns-in-Some-Info-clause-text_fault : goal.returns-in-Some-Info-clause-text_fault
 returns-in-Some-Info-clause-text_fault g c files end text are failed one outcome acts =
-    text-cut c.cut_short_laws.ensures.texts c.run_laws.ensures.one_outcome _ _ _ _ (map string_bytes c.args.words.now) files _
+    prefix-stands c.cut_short_laws.ensures.texts c.run_laws.ensures.one_outcome _ _ _ _ (map string_bytes c.args.words.now) files _
     (returns-in-Some-Info-clause-outcome g c files are) failed one end text outcome acts
 
 pub returns-in-Some-Try-clause-write_fault : goal.returns-in-Some-Try-clause-write_fault
@@ -352,7 +352,7 @@ returns-in-Some-Try-clause-write_fault g c files run grid prefix is_told failed 
 
 pub returns-in-Some-Try-clause-text_fault : goal.returns-in-Some-Try-clause-text_fault
 returns-in-Some-Try-clause-text_fault g c files end text are failed one outcome acts =
-    text-cut c.cut_short_laws.ensures.texts c.run_laws.ensures.one_outcome _ _ _ _ (map string_bytes c.args.words.now) files _
+    prefix-stands c.cut_short_laws.ensures.texts c.run_laws.ensures.one_outcome _ _ _ _ (map string_bytes c.args.words.now) files _
     (returns-in-Some-Try-clause-outcome g c files are) failed one end text outcome acts
 
 pub returns-in-Some-Make-clause-write_fault : goal.returns-in-Some-Make-clause-write_fault
@@ -362,7 +362,7 @@ returns-in-Some-Make-clause-write_fault g c files run grid prefix is_told failed
 
 pub returns-in-Some-Make-clause-text_fault : goal.returns-in-Some-Make-clause-text_fault
 returns-in-Some-Make-clause-text_fault g c files end text are failed one outcome acts =
-    text-cut c.cut_short_laws.ensures.texts c.run_laws.ensures.one_outcome _ _ _ _ (map string_bytes c.args.words.now) files _
+    prefix-stands c.cut_short_laws.ensures.texts c.run_laws.ensures.one_outcome _ _ _ _ (map string_bytes c.args.words.now) files _
     (returns-in-Some-Make-clause-outcome g c files are) failed one end text outcome acts
 
 pub returns-in-Some-Check-clause-write_fault : goal.returns-in-Some-Check-clause-write_fault
@@ -372,5 +372,5 @@ returns-in-Some-Check-clause-write_fault g c files run grid prefix is_told faile
 
 pub returns-in-Some-Check-clause-text_fault : goal.returns-in-Some-Check-clause-text_fault
 returns-in-Some-Check-clause-text_fault g c files end text are failed one outcome acts =
-    text-cut c.cut_short_laws.ensures.texts c.run_laws.ensures.one_outcome _ _ _ _ (map string_bytes c.args.words.now) files _
+    prefix-stands c.cut_short_laws.ensures.texts c.run_laws.ensures.one_outcome _ _ _ _ (map string_bytes c.args.words.now) files _
     (returns-in-Some-Check-clause-outcome g c files are) failed one end text outcome acts

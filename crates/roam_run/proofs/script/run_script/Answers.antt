@@ -6,7 +6,8 @@ use Rattle.run_laws.specs.Act.{told}
 use Rattle.roam_run.specs.Taking.{EndsScript}
 use Rattle.run_laws.proofs.StepLemmas.{come-begin}
 use Rattle.roam_run.proofs.ReadingLemmas.{front-read}
-use Rattle.roam_run.proofs.EndLemmas.{begins-at, file-cut, stops-reading, ended-file, piece-file, ends-stop}
+use Rattle.roam_run.proofs.FileLemmas.{file-cut}
+use Rattle.roam_run.proofs.EndLemmas.{begins-at, stops-reading, ended-file, piece-file, ends-stop}
 use Rattle.roam_run.proofs.script.run_script.Goals as goal
 
 pub returns-in_default-clause-read_fault : goal.returns-in_default-clause-read_fault
@@ -21,7 +22,7 @@ pieces-init g c = record {
     [],
     record {
       place = begins-at _ show _ start c.new-stage.result begins c.new-stage.ensures.lines c.new-stage.ensures.part;
-      told_script = λ all is. (bytes_of all c.args.name.now, c.in-Ok.ensures.opened.chosen all is, refl);
+      in_file = λ all is. (bytes_of all c.args.name.now, c.in-Ok.ensures.opened.chosen all is, refl);
     },
   );
   told_rest = λ all is. (bytes_of all c.args.name.now, c.in-Ok.ensures.opened.chosen all is);
@@ -38,7 +39,7 @@ pieces-init g c = record {
 pub returns-in_default-read-clause-read_fault : goal.returns-in_default-read-clause-read_fault
 returns-in_default-read-clause-read_fault g c is show start begins all told_files =
     let old = c.pieces.invariant.carried show start begins in
-    let there = old.1.told_script all told_files in
+    let there = old.1.in_file all told_files in
     stops-reading _ _ show start old.0 (bytes_of all c.args.name.now) there.0 _ _ _ old.1.place.come there.2
     (λ e. absurd (let f : false ≡ true = sym (c.in_default-read.ensures.ends.failed ∙ c.pieces.invariant.open_file) ∙ e in cc))
     (λ e. c.in_default-read.ensures.bytes.kept ∙ there.1)
@@ -83,8 +84,8 @@ pieces-preserved g c = record {
         old.0 ++ take c.in-Ok-read.count c.read.new.buf,
         record {
           place = (c.in_default-take_piece.ensures.outcome _ show start old.0 begins.starts old.1.place).ok;
-          told_script = λ all is.
-              let there = old.1.told_script all is in (
+          in_file = λ all is.
+              let there = old.1.in_file all is in (
                 drop c.in-Ok-read.count there.0,
                 c.in-Ok-read.ensures.bytes.takes there.0 there.1,
                 file-cut (bytes_of all c.args.name.now) old.0 (take c.in-Ok-read.count c.read.new.buf) there.0 c.in-Ok-read.count there.2
