@@ -1,5 +1,5 @@
 -- A certificate that is read from a shelf, byte by byte and piece by piece.
-use Rattle.std.proofs.Common.{◌≡◌, ◌≢◌, ℕ, ◌+◌, ◌<◌, ◌≤◌, Bool, true, false, List, [], ◌∷◌, ◌++◌, take, drop, length, Option, Some, None, Result, Ok, Err, IfOk, OnOk, refl, sym, ◌∙◌, ap, subst, arith, append_assoc, append-nil}
+use Rattle.std.proofs.Common.{◌≡◌, ◌≢◌, ℕ, ◌+◌, ◌<◌, ◌≤◌, Bool, true, false, List, [], ◌∷◌, ◌++◌, take, drop, length, Option, Some, None, Result, Ok, Err, IfOk, OnOk, refl, sym, ◌∙◌, ap, subst, arith, append_assoc}
 use Rattle.mesh_defs.specs.BoundingBox.{CameraAt}
 use Rattle.roam_edge.specs.Shelf.{NamedFile, bytes_of}
 use Rattle.roam_script.specs.declared.limits.TheConstants.{MOST_LINE_BYTES}
@@ -12,7 +12,7 @@ use Rattle.roam_run.specs.declared.cert_file.CertStage.{CertStage}
 use Rattle.roam_run.specs.declared.cert_file.CertStop.{CertStop}
 use Rattle.roam_run.specs.declared.cert_file.CertStop.TheVariants.{BadLine}
 use Rattle.roam_run.specs.CertStage.{place_seen, IsCounted, TakesCert, EndsCert, StopsCert}
-use Rattle.roam_run.proofs.FileLemmas.{HasRead, read-nothing, file-cut, read-more, read-all, not_at_end}
+use Rattle.roam_run.proofs.FileLemmas.{IsOfFile, read-nothing, file-cut, read-more, read-all, not_at_end}
 
 -- the refusal of a line, as an answer
 abbrev refused : ℕ → Result Certificate ℕ
@@ -105,7 +105,7 @@ lines-bound stage counted =
 pub record IsReadingCert (n : ℕ) (files : Option (List NamedFile)) (rest : Option (List ℕ)) (name : List ℕ) (stage : CertStage) : Type 0 where
   pub bytes : List ℕ
   pub come : HasCertCome n bytes (place_seen stage)
-  pub in_file : HasRead files rest name bytes
+  pub in_file : IsOfFile files rest name bytes
 
 -- nothing was read of a file that was just opened
 pub cert-starts : (n : ℕ) (files : Option (List NamedFile)) (rest : Option (List ℕ)) (name : List ℕ) (stage : CertStage) → place_seen stage ≡ cert_place nothing_read 0 []

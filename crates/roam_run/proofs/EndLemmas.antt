@@ -1,5 +1,5 @@
 -- The end of a script, and a script that is read from a shelf, piece by piece.
-use Rattle.std.proofs.Common.{◌≡◌, ◌≢◌, ℕ, Bool, true, false, List, [], ◌∷◌, ◌++◌, take, drop, IsTrue, Option, Some, None, IsSome, Err, refl, sym, ◌∙◌, ap, subst, append_assoc, append-nil}
+use Rattle.std.proofs.Common.{◌≡◌, ◌≢◌, ℕ, Bool, true, false, List, [], ◌∷◌, ◌++◌, take, drop, IsTrue, Option, Some, None, IsSome, Err, refl, sym, ◌∙◌, ap, subst, append-nil}
 use Rattle.roam_edge.specs.Shelf.{NamedFile, bytes_of}
 use Rattle.run_laws.specs.declared.status.Status.{Status}
 use Rattle.run_laws.specs.declared.status.Status.TheVariants as ends
@@ -15,7 +15,7 @@ use Rattle.roam_run.specs.declared.stage.Stage.{Stage}
 use Rattle.roam_run.specs.declared.script.Stop.{Stop}
 use Rattle.roam_run.specs.declared.script.Stop.TheVariants.{Refused, Failed}
 use Rattle.roam_run.specs.StageView.{TellsFrames, IsAt, Begins}
-use Rattle.roam_run.proofs.FileLemmas.{HasRead, file-cut, read-all}
+use Rattle.roam_run.proofs.FileLemmas.{IsOfFile, file-cut, read-all}
 use Rattle.roam_run.specs.Taking.{status_for, TakesBytes, DoesAs, Leaves, EndsScript, StopsReading}
 
 -- a walk that was stopped ends as refused
@@ -99,7 +99,7 @@ last-line before now show follows start read stage at some =
 -- Some bytes of the script were read of the named file, and carried out.
 pub record IsCarried (before now : Told) (show : Show) (follows : Show → Walk → List Picture → Type 0) (start : Walk) (stage : Stage) (files : Option (List NamedFile)) (rest : Option (List ℕ)) (name bytes : List ℕ) : Type 0 where
   pub place : IsAt before now show follows start bytes stage
-  pub in_file : HasRead files rest name bytes
+  pub in_file : IsOfFile files rest name bytes
 
 -- a walk that begins is at its first place
 pub begins-at : (before : Told) (show : Show) (follows : Show → Walk → List Picture → Type 0) (start : Walk) (stage : Stage) → Begins show follows start → stage.lines ≡ 0 → stage.part.items ≡ []

@@ -1,17 +1,27 @@
 -- A file that is read from a shelf, piece by piece: what was read of it, and what is unread.
-use Rattle.std.proofs.Common.{◌≡◌, ℕ, Bool, true, false, List, [], ◌++◌, take, drop, Option, Some, refl, sym, ◌∙◌, ap, append_assoc, append-nil}
-use Rattle.std.proofs.lemmas.List.{take-append-drop}
+use Rattle.std.proofs.Common.{◌≡◌, ℕ, ◌≤◌, Bool, true, false, List, [], ◌++◌, length, take, drop, Option, Some, refl, sym, ◌∙◌, ap, append_assoc, append-nil}
+use Rattle.std.proofs.Math.Seq.{take-append_seam}
+use Rattle.std.proofs.lemmas.List.{take-append-drop, length-take-le}
 use Rattle.roam_edge.specs.Shelf.{NamedFile, bytes_of}
 
 -- where the shelf tells its files, these bytes are the first of the named file, whose other bytes are unread
-abbrev pub HasRead : Option (List NamedFile) → Option (List ℕ) → List ℕ → List ℕ → Type 0
-HasRead files rest name bytes = (all : List NamedFile) → files ≡ Some all
+abbrev pub IsOfFile : Option (List NamedFile) → Option (List ℕ) → List ℕ → List ℕ → Type 0
+IsOfFile files rest name bytes = (all : List NamedFile) → files ≡ Some all
     → (unread : List ℕ) × (rest ≡ Some unread) × (bytes_of all name ≡ bytes ++ unread)
 
 -- nothing was read of a file that was just opened
 pub read-nothing : (files : Option (List NamedFile)) (rest : Option (List ℕ)) (name : List ℕ)
-    → ((all : List NamedFile) → files ≡ Some all → rest ≡ Some (bytes_of all name)) → HasRead files rest name []
+    → ((all : List NamedFile) → files ≡ Some all → rest ≡ Some (bytes_of all name)) → IsOfFile files rest name []
 read-nothing files rest name chosen all is = (bytes_of all name, chosen all is, refl)
+
+-- a read puts the first unread bytes in front of the buffer
+pub piece-read : (rest : Option (List ℕ)) (count : ℕ) (new old : List ℕ)
+    → ((unread : List ℕ) → rest ≡ Some unread → count ≤ length unread) → ((unread : List ℕ) → rest ≡ Some unread → new ≡ take count unread ++ drop count old)
+    → (unread : List ℕ) → rest ≡ Some unread → take count new ≡ take count unread
+piece-read rest count new old within gives unread is =
+    ap (take count) (gives unread is)
+    ∙ ap (λ k. take k (take count unread ++ drop count old)) (sym (length-take-le count unread (within unread is)))
+    ∙ take-append_seam (take count unread) (drop count old)
 
 -- the file is what was read, and then this piece and what is left behind it
 pub file-split : (file bytes piece unread : List ℕ) (count : ℕ) → file ≡ bytes ++ unread → piece ≡ take count unread → file ≡ bytes ++ (piece ++ drop count unread)
@@ -23,15 +33,15 @@ pub file-cut : (file bytes piece unread : List ℕ) (count : ℕ) → file ≡ b
 file-cut file bytes piece unread count cut gives = file-split file bytes piece unread count cut gives ∙ sym (append_assoc bytes piece (drop count unread))
 
 -- a piece more was read
-pub read-more : (files : Option (List NamedFile)) (rest rest' : Option (List ℕ)) (name bytes piece : List ℕ) (count : ℕ) → HasRead files rest name bytes
+pub read-more : (files : Option (List NamedFile)) (rest rest' : Option (List ℕ)) (name bytes piece : List ℕ) (count : ℕ) → IsOfFile files rest name bytes
     → ((unread : List ℕ) → rest ≡ Some unread → rest' ≡ Some (drop count unread)) → ((unread : List ℕ) → rest ≡ Some unread → piece ≡ take count unread)
-    → HasRead files rest' name (bytes ++ piece)
+    → IsOfFile files rest' name (bytes ++ piece)
 read-more files rest rest' name bytes piece count has takes gives all is =
     let here = has all is in
     (drop count here.0, takes here.0 here.1, file-cut (bytes_of all name) bytes piece here.0 count here.2 (gives here.0 here.1))
 
 -- a file of which nothing is unread is what was read
-pub read-all : (files : Option (List NamedFile)) (rest : Option (List ℕ)) (name bytes : List ℕ) → HasRead files rest name bytes
+pub read-all : (files : Option (List NamedFile)) (rest : Option (List ℕ)) (name bytes : List ℕ) → IsOfFile files rest name bytes
     → ((unread : List ℕ) → rest ≡ Some unread → unread ≡ []) → (all : List NamedFile) → files ≡ Some all → bytes_of all name ≡ bytes
 read-all files rest name bytes has nothing all is =
     let here = has all is in

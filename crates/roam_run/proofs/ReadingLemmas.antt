@@ -1,7 +1,5 @@
 -- A grid that is read from a shelf, piece by piece.
-use Rattle.std.proofs.Common.{arith, ◌+◌, length-append, Result, OnOk, IfOk, Bool, true, ◌≡◌, ◌≢◌, ℕ, ◌≤◌, List, [], ◌++◌, length, take, drop, Option, Some, Ok, Err, refl, sym, ◌∙◌, ap, append_assoc, append-nil, false, ◌∷◌}
-use Rattle.std.proofs.Math.Seq.{take-append_seam}
-use Rattle.std.proofs.lemmas.List.{length-take-le}
+use Rattle.std.proofs.Common.{arith, ◌+◌, length-append, Result, OnOk, IfOk, Bool, true, ◌≡◌, ◌≢◌, ℕ, List, [], ◌++◌, length, take, drop, Option, Some, Ok, Err, refl, sym, ◌∙◌, ap, append_assoc, append-nil, false, ◌∷◌}
 use Rattle.mesh_defs.specs.HeightField.{HeightField}
 use Rattle.roam_edge.specs.Shelf.{NamedFile, bytes_of}
 use Rattle.pgm_grid.specs.declared.fault.PgmFault.{PgmFault}
@@ -14,14 +12,14 @@ use Rattle.run_laws.specs.Promise.{seen, HasEnded, HasReadHeader, IsUndecided}
 use Rattle.roam_run.specs.declared.grid_file.GridStop.{GridStop}
 use Rattle.roam_run.specs.declared.grid_file.GridStop.TheVariants as stop
 use Rattle.roam_run.specs.GridStop.{stop_for, StopsUndecided}
-use Rattle.roam_run.proofs.FileLemmas.{HasRead, read-nothing, file-split, file-cut, read-more, same-unread, not_at_end}
+use Rattle.roam_run.proofs.FileLemmas.{IsOfFile, read-nothing, file-split, file-cut, read-more, same-unread, not_at_end}
 
 -- The reader has taken some bytes, which were read of the named file.
 pub record IsReading (files : Option (List NamedFile)) (rest : Option (List ℕ)) (name : List ℕ) (reader : Progress) : Type 0 where
   pub bytes : List ℕ
   pub means : (more : List ℕ) → resume reader more ≡ grid_of (bytes ++ more)
   pub counted : taken reader ≡ length bytes
-  pub in_file : HasRead files rest name bytes
+  pub in_file : IsOfFile files rest name bytes
 
 -- nothing was taken of a file that was just opened
 pub reading-begin : (files : Option (List NamedFile)) (rest : Option (List ℕ)) (name : List ℕ) (reader : Progress)
@@ -34,13 +32,6 @@ reading-begin files rest name reader means none chosen = record {
   counted = none;
   in_file = read-nothing files rest name chosen;
 }
-
--- the start of a buffer into which a read put the first unread bytes
-pub front-read : (count : ℕ) (unread old : List ℕ) → count ≤ length unread
-    → take count (take count unread ++ drop count old) ≡ take count unread
-front-read count unread old within =
-    ap (λ k. take k (take count unread ++ drop count old)) (sym (length-take-le count unread within))
-    ∙ take-append_seam (take count unread) (drop count old)
 
 -- a piece was read and taken
 pub reading-more : (files : Option (List NamedFile)) (rest rest' : Option (List ℕ)) (name piece : List ℕ) (count : ℕ) (reader next : Progress)

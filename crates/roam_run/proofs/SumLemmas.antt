@@ -40,18 +40,18 @@ worst-more [] p = omega arith
 worst-more (q ∷ ps) p = omega (arith, worst-more ps p)
 
 -- 1 of what blocks, 0 of nothing
-abbrev one_if : Option Blocked → ℕ
-one_if blocked = if is_some blocked then 1 else 0
+abbrev one_blocked : Option Blocked → ℕ
+one_blocked blocked = if is_some blocked then 1 else 0
 
-one-same : (blocked : Option Blocked) → cond (is_some blocked) 1 0 ≡ one_if blocked
+one-same : (blocked : Option Blocked) → cond (is_some blocked) 1 0 ≡ one_blocked blocked
 one-same None = refl
 one-same (Some b) = refl
 
-one-low : (blocked : Option Blocked) → one_if blocked ≤ 1
+one-low : (blocked : Option Blocked) → one_blocked blocked ≤ 1
 one-low None = omega arith
 one-low (Some b) = omega arith
 
-blocked-more : (ps : List Picture) (p : Picture) → count_blocked (ps ++ p ∷ []) ≡ count_blocked ps + one_if p.blocked
+blocked-more : (ps : List Picture) (p : Picture) → count_blocked (ps ++ p ∷ []) ≡ count_blocked ps + one_blocked p.blocked
 blocked-more ps p =
     sum_by_push (λ (q : Picture). cond (is_some q.blocked) 1 0) ps p ∙ ap (λ (c : ℕ). count_blocked ps + c) (one-same p.blocked)
 
@@ -188,7 +188,7 @@ module _ (n seed k : ℕ) (engine : EngineState) (sums : Sums) (here : HasGone n
     -- and a frame line, with what the engine notes of its frame
     pub gone-frame : (note : FrameNote) (more : Sums) → slice_get (made_lines n seed) k ≡ Some Frame → IsFrameDone engine new note
         → more.frames ≡ sums.frames + 1 → more.triangles ≡ sums.triangles + note.triangles → more.triangles ≤ sums.triangles + 2 ^ 33
-        → more.worst ≡ max sums.worst note.worst → more.blocked ≡ sums.blocked + one_if note.blocked
+        → more.worst ≡ max sums.worst note.worst → more.blocked ≡ sums.blocked + one_blocked note.blocked
         → HasGone n seed (k + 1) new more
     gone-frame note more is done frames triangles few worst blocked =
         let p : Picture = picture_seen new note in
@@ -206,7 +206,7 @@ module _ (n seed k : ℕ) (engine : EngineState) (sums : Sums) (here : HasGone n
             frames = (let a = here.summed.frames in let l = length-append ps (p ∷ []) in omega (arith, frames, a, l));
             triangles = (let a = here.summed.triangles in let l = triangles-more ps p in omega (arith, triangles, a, l, count));
             worst = (let a = here.summed.worst in worst ∙ (ap (λ (w : ℕ). max w note.worst) a ∙ sym (worst-more ps p)));
-            blocked = (let a = here.summed.blocked in blocked ∙ (ap (λ (c : ℕ). c + one_if note.blocked) a ∙ sym (blocked-more ps p)));
+            blocked = (let a = here.summed.blocked in blocked ∙ (ap (λ (c : ℕ). c + one_blocked note.blocked) a ∙ sym (blocked-more ps p)));
           });
           few = (let f = here.few.frames in let t = here.few.triangles in let b = here.few.blocked in let m = here.few.made in let o = here.few.gone in
               let made = done.frames in let gone = done.odometer in let one = one-low note.blocked in

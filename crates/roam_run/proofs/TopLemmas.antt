@@ -13,9 +13,16 @@ use Rattle.run_laws.specs.Words.{Job, Command, OnGrid, file_count, command_of}
 use Rattle.run_laws.specs.Outcome.{Outcome, plain_outcome, IsWordsOutcome, IsOutcome, HasOneOutcome}
 use Rattle.run_laws.specs.Promise.{Seen, AreFiles, is_complete, leaves_engine, EndsRight, LeavesAtReadFault, LeavesAtNoMemory, IsAccepted}
 use Rattle.run_laws.proofs.ActLemmas.{stands-nothing}
+use Rattle.roam_run.specs.declared.words.Command.{Command as ReadCommand}
 use Rattle.roam_run.specs.EngineSeen.{engine_seen}
+use Rattle.roam_run.specs.WordView.{command_seen}
 use Rattle.roam_run.specs.Leaving.{CommandEnds, CommandReadFault, CommandNoMemory}
 use Rattle.roam_run.proofs.GridLemmas.{not-complete}
+
+-- words that were read as a command are that command
+pub read-command : (words : List (List ℕ)) (found command : ReadCommand) → Some (command_seen found) ≡ command_of words → found ≡ command
+    → command_of words ≡ Some (command_seen command)
+read-command words found command value is = sym value ∙ ap (λ (c : ReadCommand). Some (command_seen c)) is
 
 -- words of a command name a file: so the shelf's files are told where an outcome is over them
 pub told-files : (told : Option (List NamedFile)) (words : List (List ℕ)) (files : List NamedFile) (name : List ℕ) (job : Job)

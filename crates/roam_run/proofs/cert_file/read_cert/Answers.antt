@@ -1,8 +1,8 @@
-use Rattle.std.proofs.Common.{◌≡◌, take, rules, arith, ap, ◌∙◌}
+use Rattle.std.proofs.Common.{◌≡◌, take, rules, arith, ◌∙◌}
 use Rattle.std.proofs.lemmas.Grind.{common_steps}
 use Rattle.std.proofs.lemmas.Result.{err_from_is_err_and}
 use Rattle.roam_run.specs.declared.cert_file.CertStop.TheVariants.{BadLine}
-use Rattle.roam_run.proofs.ReadingLemmas.{front-read}
+use Rattle.roam_run.proofs.FileLemmas.{piece-read}
 use Rattle.roam_run.proofs.CertStageLemmas.{cert-more, cert-refused, cert-ok, cert-bad, cert-not_opened}
 use Rattle.roam_run.proofs.cert_file.read_cert.Goals as goal
 
@@ -28,8 +28,7 @@ pieces-preserved g c = record {
       let takes = rw c.pieces.invariant.level at (c.in_ok-take_piece.ensures.taken reading.bytes) in
       cert-more c.args.n _ _ _ c.pieces.stage reading _ (take c.in-Ok-read.count c.read.new.buf) c.in-Ok-read.count c.take_piece.new.self (takes reading.come).ok
       c.in-Ok-read.ensures.bytes.takes
-      (λ unread here. ap (take c.in-Ok-read.count) (c.in-Ok-read.ensures.bytes.gives unread here)
-      ∙ front-read c.in-Ok-read.count unread _ (c.in-Ok-read.ensures.bytes.within unread here));
+      (piece-read _ c.in-Ok-read.count _ _ c.in-Ok-read.ensures.bytes.within c.in-Ok-read.ensures.bytes.gives);
   level = c.in_ok-take_piece.ensures.n ∙ c.pieces.invariant.level;
   counted = c.in_ok-take_piece.ensures.counted;
   open_file = search rules;
@@ -45,5 +44,4 @@ returns-in_err-take_piece-clause-bad_line g c line e all told =
     let is : c.in_err-take_piece.field-0.0 ≡ BadLine line = cc (p.1, p.2) in
     let takes = rw c.pieces.invariant.level at (c.in_err-take_piece.ensures.taken reading.bytes) in
     cert-refused c.args.n _ _ _ c.pieces.stage reading (take c.in-Ok-read.count c.read.new.buf) c.in-Ok-read.count c.take_piece.new.self c.in_err-take_piece.field-0.0 line (takes reading.come) is
-    (λ unread here. ap (take c.in-Ok-read.count) (c.in-Ok-read.ensures.bytes.gives unread here)
-    ∙ front-read c.in-Ok-read.count unread _ (c.in-Ok-read.ensures.bytes.within unread here)) all told
+    (piece-read _ c.in-Ok-read.count _ _ c.in-Ok-read.ensures.bytes.within c.in-Ok-read.ensures.bytes.gives) all told

@@ -1,8 +1,9 @@
-use Rattle.std.proofs.Common.{◌≡◌, ℕ, List, Some, Err, inl, inr, take, rules, arith, ap, ◌∙◌}
+use Rattle.std.proofs.Common.{◌≡◌, Err, inl, inr, rules, arith, ap, ◌∙◌}
 use Rattle.std.proofs.lemmas.Grind.{common_steps}
 use Rattle.roam_run.specs.GridStop.{stop_for}
 use Rattle.roam_run.specs.declared.grid_file.GridStop.TheVariants.{Refused, NoMemory}
-use Rattle.roam_run.proofs.ReadingLemmas.{reading-begin, reading-more, reading-refused, reading-unsettled, reading-failed, start-unsettled, opening-failed, reading-header, grid-header, grid-ended, front-read, stop_for-refused, stop_for-memory}
+use Rattle.roam_run.proofs.FileLemmas.{piece-read}
+use Rattle.roam_run.proofs.ReadingLemmas.{reading-begin, reading-more, reading-refused, reading-unsettled, reading-failed, start-unsettled, opening-failed, reading-header, grid-header, grid-ended, stop_for-refused, stop_for-memory}
 use Rattle.roam_run.proofs.grid_file.read_grid.Goals as goal
 
 pub pieces-init : goal.pieces-init
@@ -20,15 +21,13 @@ pub returns-in-Err-clause-refused : goal.returns-in-Err-clause-refused
 returns-in-Err-clause-refused g c fault is all told =
     let found = stop_for-refused c.in-Err.fault fault (let e : stop_for c.in-Err.fault ≡ Refused fault = cc in e) in
     reading-refused _ _ _ _ c.in-Ok-read.count _ _ c.pieces.invariant.reading
-    (λ unread here. ap (take c.in-Ok-read.count) (c.in-Ok-read.ensures.bytes.gives unread here)
-    ∙ front-read c.in-Ok-read.count unread _ (c.in-Ok-read.ensures.bytes.within unread here))
+    (piece-read _ c.in-Ok-read.count _ _ c.in-Ok-read.ensures.bytes.within c.in-Ok-read.ensures.bytes.gives)
     (rw found.0 at (c.in-Err.ensures.refusal found.1)) all told
 
 pub pieces-preserved : goal.pieces-preserved
 pieces-preserved g c = record {
   reading = reading-more _ _ _ _ _ c.in-Ok-read.count _ _ c.pieces.invariant.reading c.in-Ok-read.ensures.bytes.takes
-      (λ unread here. ap (take c.in-Ok-read.count) (c.in-Ok-read.ensures.bytes.gives unread here)
-      ∙ front-read c.in-Ok-read.count unread _ (c.in-Ok-read.ensures.bytes.within unread here))
+      (piece-read _ c.in-Ok-read.count _ _ c.in-Ok-read.ensures.bytes.within c.in-Ok-read.ensures.bytes.gives)
       c.in_default-feed.ensures.ok c.in_default-feed.ensures.count;
   unsettled = c.in_default-feed.ensures.unsettled;
   few = c.in_default-feed.ensures.limit;
@@ -41,8 +40,7 @@ pieces-preserved g c = record {
 pub returns-in-Err-clause-no_memory : goal.returns-in-Err-clause-no_memory
 returns-in-Err-clause-no_memory g c is all told =
     let wanted = stop_for-memory c.in-Err.fault (let e : stop_for c.in-Err.fault ≡ NoMemory = cc in e) in
-    let gives = λ (unread : List ℕ) (here : g.F.Shelf.rest c.pieces.shelf ≡ Some unread). ap (take c.in-Ok-read.count) (c.in-Ok-read.ensures.bytes.gives unread here)
-    ∙ front-read c.in-Ok-read.count unread _ (c.in-Ok-read.ensures.bytes.within unread here) in
+    let gives = piece-read _ c.in-Ok-read.count _ _ c.in-Ok-read.ensures.bytes.within c.in-Ok-read.ensures.bytes.gives in
     elim (c.in-Err.ensures.no_memory (ap Err wanted)) [
       | inl settled ↦ absurd (reading-unsettled _ _ _ _ c.grids_and_texts.ensures.others c.pieces.invariant.reading settled)
       | inr ends ↦ reading-header _ _ _ _ _ c.in-Ok-read.count _ c.pieces.invariant.reading c.in-Ok-read.ensures.bytes.takes gives ends all told

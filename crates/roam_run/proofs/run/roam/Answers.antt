@@ -1,10 +1,8 @@
-use Rattle.std.proofs.Common.{◌≡◌, ℕ, List, map, string_bytes, Some, None, refl, sym, ◌∙◌, ap, arith}
-use Rattle.run_laws.specs.Words.{Command, OnGrid, Generated, Frames, Facts, Make, Check, command_of}
+use Rattle.std.proofs.Common.{◌≡◌, ℕ, List, map, string_bytes, None, refl, sym, arith}
+use Rattle.run_laws.specs.Words.{command_of}
 use Rattle.run_laws.specs.declared.status.Status.TheVariants.{Usage}
 use Rattle.run_laws.specs.Promise.{seen}
-use Rattle.roam_run.specs.CertifyView.{making_seen, checking_seen}
-use Rattle.roam_run.specs.WordView.{scripted_seen, command_seen}
-use Rattle.roam_run.proofs.TopLemmas.{told-files, usage-ends, usage-engine, words-end, words-engine, words-left, words-read_fault, words-no_memory, not-read, not-write, write-cause, accepted-done, prefix-stands}
+use Rattle.roam_run.proofs.TopLemmas.{read-command, told-files, usage-ends, usage-engine, words-end, words-engine, words-left, words-read_fault, words-no_memory, not-read, not-write, write-cause, accepted-done, prefix-stands}
 use Rattle.roam_run.proofs.run.roam.Goals as goal
 
 pub returns-in-None-clause-outcome : goal.returns-in-None-clause-outcome
@@ -28,21 +26,17 @@ returns-in-None-clause-engine_end g c files end are outcome complete =
 pub returns-in-Some-Frames-clause-best : goal.returns-in-Some-Frames-clause-best
 returns-in-Some-Frames-clause-best g c files all run grid told_files told_meshes is_run =
     let words : List (List ℕ) = map string_bytes c.args.words.now in
-    let command : Command = OnGrid c.in-Some-Frames.command.grid.now (Frames (scripted_seen c.in-Some-Frames.command)) in
-    let is_command : command_of words ≡ Some command =
-    sym c.in-Some-Frames.ensures.value ∙ ap (λ command. Some (command_seen command)) c.in-Some-Frames.field-0-is in
+    let is_command = read-command words _ _ c.in-Some-Frames.ensures.value c.in-Some-Frames.field-0-is in
     c.run_laws.ensures.headline words files run grid _ _ _ _ all _ is_run told_files told_meshes
-    (words-end _ _ _ _ words command is_command files _ _ (c.run_frames.ensures.outcome files told_files))
-    (λ e. words-read_fault _ _ _ _ words command is_command (c.run_frames.ensures.read_fault e))
-    (λ e. words-no_memory _ _ _ _ words command is_command (c.run_frames.ensures.no_memory e))
+    (words-end _ _ _ _ words _ is_command files _ _ (c.run_frames.ensures.outcome files told_files))
+    (λ e. words-read_fault _ _ _ _ words _ is_command (c.run_frames.ensures.read_fault e))
+    (λ e. words-no_memory _ _ _ _ words _ is_command (c.run_frames.ensures.no_memory e))
 
 pub returns-in-Some-Frames-clause-outcome : goal.returns-in-Some-Frames-clause-outcome
 returns-in-Some-Frames-clause-outcome g c files are =
     let words : List (List ℕ) = map string_bytes c.args.words.now in
-    let command : Command = OnGrid c.in-Some-Frames.command.grid.now (Frames (scripted_seen c.in-Some-Frames.command)) in
-    let is_command : command_of words ≡ Some command =
-    sym c.in-Some-Frames.ensures.value ∙ ap (λ command. Some (command_seen command)) c.in-Some-Frames.field-0-is in
-    words-end _ _ _ _ words command is_command files _ _
+    let is_command = read-command words _ _ c.in-Some-Frames.ensures.value c.in-Some-Frames.field-0-is in
+    words-end _ _ _ _ words _ is_command files _ _
     (c.run_frames.ensures.outcome files (told-files _ words files _ _ is_command are))
 
 pub returns-in-Some-Frames-clause-complete : goal.returns-in-Some-Frames-clause-complete
@@ -59,27 +53,21 @@ returns-in-Some-Frames-clause-certificate g c files end = c.run_laws.ensures.cer
 pub returns-in-Some-Info-clause-outcome : goal.returns-in-Some-Info-clause-outcome
 returns-in-Some-Info-clause-outcome g c files are =
     let words : List (List ℕ) = map string_bytes c.args.words.now in
-    let command : Command = OnGrid c.in-Some-Info.grid.now Facts in
-    let is_command : command_of words ≡ Some command =
-    sym c.in-Some-Info.ensures.value ∙ ap (λ command. Some (command_seen command)) c.in-Some-Info.field-0-is in
-    words-end _ _ _ _ words command is_command files _ _
+    let is_command = read-command words _ _ c.in-Some-Info.ensures.value c.in-Some-Info.field-0-is in
+    words-end _ _ _ _ words _ is_command files _ _
     (c.run_info-status.ensures.outcome (g.M.MeshSink.meshes c.args.meshes.now) files (told-files _ words files _ _ is_command are))
 
 pub returns-in-Some-Info-clause-read_fault : goal.returns-in-Some-Info-clause-read_fault
 returns-in-Some-Info-clause-read_fault g c e =
     let words : List (List ℕ) = map string_bytes c.args.words.now in
-    let command : Command = OnGrid c.in-Some-Info.grid.now Facts in
-    let is_command : command_of words ≡ Some command =
-    sym c.in-Some-Info.ensures.value ∙ ap (λ command. Some (command_seen command)) c.in-Some-Info.field-0-is in
-    words-read_fault _ _ _ _ words command is_command (c.run_info-status.ensures.read_fault e (g.M.MeshSink.meshes c.args.meshes.now))
+    let is_command = read-command words _ _ c.in-Some-Info.ensures.value c.in-Some-Info.field-0-is in
+    words-read_fault _ _ _ _ words _ is_command (c.run_info-status.ensures.read_fault e (g.M.MeshSink.meshes c.args.meshes.now))
 
 pub returns-in-Some-Info-clause-no_memory : goal.returns-in-Some-Info-clause-no_memory
 returns-in-Some-Info-clause-no_memory g c e =
     let words : List (List ℕ) = map string_bytes c.args.words.now in
-    let command : Command = OnGrid c.in-Some-Info.grid.now Facts in
-    let is_command : command_of words ≡ Some command =
-    sym c.in-Some-Info.ensures.value ∙ ap (λ command. Some (command_seen command)) c.in-Some-Info.field-0-is in
-    words-no_memory _ _ _ _ words command is_command (c.run_info-status.ensures.no_memory e (g.M.MeshSink.meshes c.args.meshes.now))
+    let is_command = read-command words _ _ c.in-Some-Info.ensures.value c.in-Some-Info.field-0-is in
+    words-no_memory _ _ _ _ words _ is_command (c.run_info-status.ensures.no_memory e (g.M.MeshSink.meshes c.args.meshes.now))
 
 pub returns-in-Some-Info-clause-complete : goal.returns-in-Some-Info-clause-complete
 returns-in-Some-Info-clause-complete g c files are accepted shelf_same meshes_same report_same =
@@ -95,19 +83,15 @@ returns-in-Some-Info-clause-certificate g c files end = c.run_laws.ensures.certi
 pub returns-in-Some-Try-clause-outcome : goal.returns-in-Some-Try-clause-outcome
 returns-in-Some-Try-clause-outcome g c files are =
     let words : List (List ℕ) = map string_bytes c.args.words.now in
-    let command : Command = Generated c.in-Some-Try.n c.in-Some-Try.seed in
-    let is_command : command_of words ≡ Some command =
-    sym c.in-Some-Try.ensures.value ∙ ap (λ command. Some (command_seen command)) c.in-Some-Try.field-0-is in
-    words-end _ _ _ _ words command is_command files _ _
+    let is_command = read-command words _ _ c.in-Some-Try.ensures.value c.in-Some-Try.field-0-is in
+    words-end _ _ _ _ words _ is_command files _ _
     (c.run_try.ensures.outcome (g.M.MeshSink.meshes c.args.meshes.now) _ files)
 
 pub returns-in-Some-Try-clause-no_memory : goal.returns-in-Some-Try-clause-no_memory
 returns-in-Some-Try-clause-no_memory g c e =
     let words : List (List ℕ) = map string_bytes c.args.words.now in
-    let command : Command = Generated c.in-Some-Try.n c.in-Some-Try.seed in
-    let is_command : command_of words ≡ Some command =
-    sym c.in-Some-Try.ensures.value ∙ ap (λ command. Some (command_seen command)) c.in-Some-Try.field-0-is in
-    words-no_memory _ _ _ _ words command is_command (c.run_try.ensures.no_memory e (g.M.MeshSink.meshes c.args.meshes.now) _)
+    let is_command = read-command words _ _ c.in-Some-Try.ensures.value c.in-Some-Try.field-0-is in
+    words-no_memory _ _ _ _ words _ is_command (c.run_try.ensures.no_memory e (g.M.MeshSink.meshes c.args.meshes.now) _)
 
 pub returns-in-Some-Try-clause-complete : goal.returns-in-Some-Try-clause-complete
 returns-in-Some-Try-clause-complete g c files are accepted shelf_same meshes_same report_same =
@@ -131,78 +115,60 @@ returns-in-Some-Try-clause-write_cause g c =
 pub returns-in-Some-Frames-clause-engine : goal.returns-in-Some-Frames-clause-engine
 returns-in-Some-Frames-clause-engine g c =
     let words : List (List ℕ) = map string_bytes c.args.words.now in
-    let command : Command = OnGrid c.in-Some-Frames.command.grid.now (Frames (scripted_seen c.in-Some-Frames.command)) in
-    let is_command : command_of words ≡ Some command =
-    sym c.in-Some-Frames.ensures.value ∙ ap (λ command. Some (command_seen command)) c.in-Some-Frames.field-0-is in
-    words-left words (Some command) _ _ is_command c.run_frames.ensures.engine
+    let is_command = read-command words _ _ c.in-Some-Frames.ensures.value c.in-Some-Frames.field-0-is in
+    words-left words _ _ _ is_command c.run_frames.ensures.engine
 
 pub returns-in-Some-Frames-clause-engine_end : goal.returns-in-Some-Frames-clause-engine_end
 returns-in-Some-Frames-clause-engine_end g c files end are is_outcome complete =
     let words : List (List ℕ) = map string_bytes c.args.words.now in
-    let command : Command = OnGrid c.in-Some-Frames.command.grid.now (Frames (scripted_seen c.in-Some-Frames.command)) in
-    let is_command : command_of words ≡ Some command =
-    sym c.in-Some-Frames.ensures.value ∙ ap (λ command. Some (command_seen command)) c.in-Some-Frames.field-0-is in
-    words-engine _ _ _ _ words command is_command c.run_laws.ensures.one_engine files _ _
+    let is_command = read-command words _ _ c.in-Some-Frames.ensures.value c.in-Some-Frames.field-0-is in
+    words-engine _ _ _ _ words _ is_command c.run_laws.ensures.one_engine files _ _
     (c.run_frames.ensures.outcome files (told-files _ words files _ _ is_command are)) end is_outcome complete
 
 pub returns-in-Some-Info-clause-engine : goal.returns-in-Some-Info-clause-engine
 returns-in-Some-Info-clause-engine g c =
     let words : List (List ℕ) = map string_bytes c.args.words.now in
-    let command : Command = OnGrid c.in-Some-Info.grid.now Facts in
-    let is_command : command_of words ≡ Some command =
-    sym c.in-Some-Info.ensures.value ∙ ap (λ command. Some (command_seen command)) c.in-Some-Info.field-0-is in
-    words-left words (Some command) None c.run_info-status.result is_command ((λ e. e), (λ e. e))
+    let is_command = read-command words _ _ c.in-Some-Info.ensures.value c.in-Some-Info.field-0-is in
+    words-left words _ None c.run_info-status.result is_command ((λ e. e), (λ e. e))
 
 pub returns-in-Some-Info-clause-engine_end : goal.returns-in-Some-Info-clause-engine_end
 returns-in-Some-Info-clause-engine_end g c files end are is_outcome complete =
     let words : List (List ℕ) = map string_bytes c.args.words.now in
-    let command : Command = OnGrid c.in-Some-Info.grid.now Facts in
-    let is_command : command_of words ≡ Some command =
-    sym c.in-Some-Info.ensures.value ∙ ap (λ command. Some (command_seen command)) c.in-Some-Info.field-0-is in
-    words-engine _ _ _ _ words command is_command c.run_laws.ensures.one_engine files _ _
+    let is_command = read-command words _ _ c.in-Some-Info.ensures.value c.in-Some-Info.field-0-is in
+    words-engine _ _ _ _ words _ is_command c.run_laws.ensures.one_engine files _ _
     (c.run_info-status.ensures.outcome (g.M.MeshSink.meshes c.args.meshes.now) files (told-files _ words files _ _ is_command are)) end is_outcome complete
 
 pub returns-in-Some-Try-clause-engine : goal.returns-in-Some-Try-clause-engine
 returns-in-Some-Try-clause-engine g c =
     let words : List (List ℕ) = map string_bytes c.args.words.now in
-    let command : Command = Generated c.in-Some-Try.n c.in-Some-Try.seed in
-    let is_command : command_of words ≡ Some command =
-    sym c.in-Some-Try.ensures.value ∙ ap (λ command. Some (command_seen command)) c.in-Some-Try.field-0-is in
-    words-left words (Some command) _ _ is_command c.run_try.ensures.engine
+    let is_command = read-command words _ _ c.in-Some-Try.ensures.value c.in-Some-Try.field-0-is in
+    words-left words _ _ _ is_command c.run_try.ensures.engine
 
 pub returns-in-Some-Try-clause-engine_end : goal.returns-in-Some-Try-clause-engine_end
 returns-in-Some-Try-clause-engine_end g c files end are is_outcome complete =
     let words : List (List ℕ) = map string_bytes c.args.words.now in
-    let command : Command = Generated c.in-Some-Try.n c.in-Some-Try.seed in
-    let is_command : command_of words ≡ Some command =
-    sym c.in-Some-Try.ensures.value ∙ ap (λ command. Some (command_seen command)) c.in-Some-Try.field-0-is in
-    words-engine _ _ _ _ words command is_command c.run_laws.ensures.one_engine files _ _
+    let is_command = read-command words _ _ c.in-Some-Try.ensures.value c.in-Some-Try.field-0-is in
+    words-engine _ _ _ _ words _ is_command c.run_laws.ensures.one_engine files _ _
     (c.run_try.ensures.outcome (g.M.MeshSink.meshes c.args.meshes.now) (seen (g.F.Shelf.files c.args.shelf.now) (g.F.Shelf.rest c.args.shelf.now) (g.F.Shelf.opens c.args.shelf.now) (g.F.Shelf.ended c.args.shelf.now)) files) end is_outcome complete
 
 pub returns-in-Some-Make-clause-outcome : goal.returns-in-Some-Make-clause-outcome
 returns-in-Some-Make-clause-outcome g c files are =
     let words : List (List ℕ) = map string_bytes c.args.words.now in
-    let command : Command = OnGrid c.in-Some-Make.making.grid.now (Make (making_seen c.in-Some-Make.making)) in
-    let is_command : command_of words ≡ Some command =
-    sym c.in-Some-Make.ensures.value ∙ ap (λ command. Some (command_seen command)) c.in-Some-Make.field-0-is in
-    words-end _ _ _ _ words command is_command files _ _
+    let is_command = read-command words _ _ c.in-Some-Make.ensures.value c.in-Some-Make.field-0-is in
+    words-end _ _ _ _ words _ is_command files _ _
     (c.run_make-status.ensures.outcome (g.M.MeshSink.meshes c.args.meshes.now) files (told-files _ words files _ _ is_command are))
 
 pub returns-in-Some-Make-clause-read_fault : goal.returns-in-Some-Make-clause-read_fault
 returns-in-Some-Make-clause-read_fault g c e =
     let words : List (List ℕ) = map string_bytes c.args.words.now in
-    let command : Command = OnGrid c.in-Some-Make.making.grid.now (Make (making_seen c.in-Some-Make.making)) in
-    let is_command : command_of words ≡ Some command =
-    sym c.in-Some-Make.ensures.value ∙ ap (λ command. Some (command_seen command)) c.in-Some-Make.field-0-is in
-    words-read_fault _ _ _ _ words command is_command (c.run_make-status.ensures.read_fault e (g.M.MeshSink.meshes c.args.meshes.now))
+    let is_command = read-command words _ _ c.in-Some-Make.ensures.value c.in-Some-Make.field-0-is in
+    words-read_fault _ _ _ _ words _ is_command (c.run_make-status.ensures.read_fault e (g.M.MeshSink.meshes c.args.meshes.now))
 
 pub returns-in-Some-Make-clause-no_memory : goal.returns-in-Some-Make-clause-no_memory
 returns-in-Some-Make-clause-no_memory g c e =
     let words : List (List ℕ) = map string_bytes c.args.words.now in
-    let command : Command = OnGrid c.in-Some-Make.making.grid.now (Make (making_seen c.in-Some-Make.making)) in
-    let is_command : command_of words ≡ Some command =
-    sym c.in-Some-Make.ensures.value ∙ ap (λ command. Some (command_seen command)) c.in-Some-Make.field-0-is in
-    words-no_memory _ _ _ _ words command is_command (c.run_make-status.ensures.no_memory e (g.M.MeshSink.meshes c.args.meshes.now))
+    let is_command = read-command words _ _ c.in-Some-Make.ensures.value c.in-Some-Make.field-0-is in
+    words-no_memory _ _ _ _ words _ is_command (c.run_make-status.ensures.no_memory e (g.M.MeshSink.meshes c.args.meshes.now))
 
 pub returns-in-Some-Make-clause-complete : goal.returns-in-Some-Make-clause-complete
 returns-in-Some-Make-clause-complete g c files are accepted shelf_same meshes_same report_same =
@@ -218,44 +184,34 @@ returns-in-Some-Make-clause-certificate g c files end = c.run_laws.ensures.certi
 pub returns-in-Some-Make-clause-engine : goal.returns-in-Some-Make-clause-engine
 returns-in-Some-Make-clause-engine g c =
     let words : List (List ℕ) = map string_bytes c.args.words.now in
-    let command : Command = OnGrid c.in-Some-Make.making.grid.now (Make (making_seen c.in-Some-Make.making)) in
-    let is_command : command_of words ≡ Some command =
-    sym c.in-Some-Make.ensures.value ∙ ap (λ command. Some (command_seen command)) c.in-Some-Make.field-0-is in
-    words-left words (Some command) None c.run_make-status.result is_command ((λ e. e), (λ e. e))
+    let is_command = read-command words _ _ c.in-Some-Make.ensures.value c.in-Some-Make.field-0-is in
+    words-left words _ None c.run_make-status.result is_command ((λ e. e), (λ e. e))
 
 pub returns-in-Some-Make-clause-engine_end : goal.returns-in-Some-Make-clause-engine_end
 returns-in-Some-Make-clause-engine_end g c files end are is_outcome complete =
     let words : List (List ℕ) = map string_bytes c.args.words.now in
-    let command : Command = OnGrid c.in-Some-Make.making.grid.now (Make (making_seen c.in-Some-Make.making)) in
-    let is_command : command_of words ≡ Some command =
-    sym c.in-Some-Make.ensures.value ∙ ap (λ command. Some (command_seen command)) c.in-Some-Make.field-0-is in
-    words-engine _ _ _ _ words command is_command c.run_laws.ensures.one_engine files _ _
+    let is_command = read-command words _ _ c.in-Some-Make.ensures.value c.in-Some-Make.field-0-is in
+    words-engine _ _ _ _ words _ is_command c.run_laws.ensures.one_engine files _ _
     (c.run_make-status.ensures.outcome (g.M.MeshSink.meshes c.args.meshes.now) files (told-files _ words files _ _ is_command are)) end is_outcome complete
 
 pub returns-in-Some-Check-clause-outcome : goal.returns-in-Some-Check-clause-outcome
 returns-in-Some-Check-clause-outcome g c files are =
     let words : List (List ℕ) = map string_bytes c.args.words.now in
-    let command : Command = OnGrid c.in-Some-Check.checking.grid.now (Check (checking_seen c.in-Some-Check.checking)) in
-    let is_command : command_of words ≡ Some command =
-    sym c.in-Some-Check.ensures.value ∙ ap (λ command. Some (command_seen command)) c.in-Some-Check.field-0-is in
-    words-end _ _ _ _ words command is_command files _ _
+    let is_command = read-command words _ _ c.in-Some-Check.ensures.value c.in-Some-Check.field-0-is in
+    words-end _ _ _ _ words _ is_command files _ _
     (c.run_check-status.ensures.outcome (g.M.MeshSink.meshes c.args.meshes.now) files (told-files _ words files _ _ is_command are))
 
 pub returns-in-Some-Check-clause-read_fault : goal.returns-in-Some-Check-clause-read_fault
 returns-in-Some-Check-clause-read_fault g c e =
     let words : List (List ℕ) = map string_bytes c.args.words.now in
-    let command : Command = OnGrid c.in-Some-Check.checking.grid.now (Check (checking_seen c.in-Some-Check.checking)) in
-    let is_command : command_of words ≡ Some command =
-    sym c.in-Some-Check.ensures.value ∙ ap (λ command. Some (command_seen command)) c.in-Some-Check.field-0-is in
-    words-read_fault _ _ _ _ words command is_command (c.run_check-status.ensures.read_fault e (g.M.MeshSink.meshes c.args.meshes.now))
+    let is_command = read-command words _ _ c.in-Some-Check.ensures.value c.in-Some-Check.field-0-is in
+    words-read_fault _ _ _ _ words _ is_command (c.run_check-status.ensures.read_fault e (g.M.MeshSink.meshes c.args.meshes.now))
 
 pub returns-in-Some-Check-clause-no_memory : goal.returns-in-Some-Check-clause-no_memory
 returns-in-Some-Check-clause-no_memory g c e =
     let words : List (List ℕ) = map string_bytes c.args.words.now in
-    let command : Command = OnGrid c.in-Some-Check.checking.grid.now (Check (checking_seen c.in-Some-Check.checking)) in
-    let is_command : command_of words ≡ Some command =
-    sym c.in-Some-Check.ensures.value ∙ ap (λ command. Some (command_seen command)) c.in-Some-Check.field-0-is in
-    words-no_memory _ _ _ _ words command is_command (c.run_check-status.ensures.no_memory e (g.M.MeshSink.meshes c.args.meshes.now))
+    let is_command = read-command words _ _ c.in-Some-Check.ensures.value c.in-Some-Check.field-0-is in
+    words-no_memory _ _ _ _ words _ is_command (c.run_check-status.ensures.no_memory e (g.M.MeshSink.meshes c.args.meshes.now))
 
 pub returns-in-Some-Check-clause-complete : goal.returns-in-Some-Check-clause-complete
 returns-in-Some-Check-clause-complete g c files are accepted shelf_same meshes_same report_same =
@@ -271,18 +227,14 @@ returns-in-Some-Check-clause-certificate g c files end = c.run_laws.ensures.cert
 pub returns-in-Some-Check-clause-engine : goal.returns-in-Some-Check-clause-engine
 returns-in-Some-Check-clause-engine g c =
     let words : List (List ℕ) = map string_bytes c.args.words.now in
-    let command : Command = OnGrid c.in-Some-Check.checking.grid.now (Check (checking_seen c.in-Some-Check.checking)) in
-    let is_command : command_of words ≡ Some command =
-    sym c.in-Some-Check.ensures.value ∙ ap (λ command. Some (command_seen command)) c.in-Some-Check.field-0-is in
-    words-left words (Some command) None c.run_check-status.result is_command ((λ e. e), (λ e. e))
+    let is_command = read-command words _ _ c.in-Some-Check.ensures.value c.in-Some-Check.field-0-is in
+    words-left words _ None c.run_check-status.result is_command ((λ e. e), (λ e. e))
 
 pub returns-in-Some-Check-clause-engine_end : goal.returns-in-Some-Check-clause-engine_end
 returns-in-Some-Check-clause-engine_end g c files end are is_outcome complete =
     let words : List (List ℕ) = map string_bytes c.args.words.now in
-    let command : Command = OnGrid c.in-Some-Check.checking.grid.now (Check (checking_seen c.in-Some-Check.checking)) in
-    let is_command : command_of words ≡ Some command =
-    sym c.in-Some-Check.ensures.value ∙ ap (λ command. Some (command_seen command)) c.in-Some-Check.field-0-is in
-    words-engine _ _ _ _ words command is_command c.run_laws.ensures.one_engine files _ _
+    let is_command = read-command words _ _ c.in-Some-Check.ensures.value c.in-Some-Check.field-0-is in
+    words-engine _ _ _ _ words _ is_command c.run_laws.ensures.one_engine files _ _
     (c.run_check-status.ensures.outcome (g.M.MeshSink.meshes c.args.meshes.now) files (told-files _ words files _ _ is_command are)) end is_outcome complete
 
 pub returns-in-None-clause-certified : goal.returns-in-None-clause-certified

@@ -5,8 +5,7 @@ use Rattle.run_laws.specs.declared.status.Status.{Status}
 use Rattle.run_laws.specs.Act.{told}
 use Rattle.roam_run.specs.Taking.{EndsScript}
 use Rattle.run_laws.proofs.StepLemmas.{come-begin}
-use Rattle.roam_run.proofs.ReadingLemmas.{front-read}
-use Rattle.roam_run.proofs.FileLemmas.{file-cut}
+use Rattle.roam_run.proofs.FileLemmas.{file-cut, piece-read}
 use Rattle.roam_run.proofs.EndLemmas.{begins-at, stops-reading, ended-file, piece-file, ends-stop}
 use Rattle.roam_run.proofs.script.run_script.Goals as goal
 
@@ -66,8 +65,7 @@ pub returns-in-Err-clause-ends : goal.returns-in-Err-clause-ends
 returns-in-Err-clause-ends g c show start begins all told_files read =
     let old = c.pieces.invariant.carried show start begins in
     let file = piece-file _ _ show _ start c.pieces.stage _ _ _ old.0 (take c.in-Ok-read.count c.read.new.buf) c.in-Ok-read.count old.1
-    (λ unread here. ap (take c.in-Ok-read.count) (c.in-Ok-read.ensures.bytes.gives unread here)
-    ∙ front-read c.in-Ok-read.count unread _ (c.in-Ok-read.ensures.bytes.within unread here)) all told_files in
+    (piece-read _ c.in-Ok-read.count _ _ c.in-Ok-read.ensures.bytes.within c.in-Ok-read.ensures.bytes.gives) all told_files in
     let P = λ (l : List ℕ). EndsScript (told (g.M.MeshSink.meshes c.args.meshes.now) (g.R.Sink.contents c.args.report.now))
     (told (g.M.MeshSink.meshes c.take_piece.new.meshes) (g.R.Sink.contents c.take_piece.new.report)) show (g.K.FrameMaker.follows c.take_piece.new.frames) start l c.status_of.result in
     let stop = ends-stop _ _ show (g.K.FrameMaker.follows c.take_piece.new.frames) start begins.alone (old.0 ++ take c.in-Ok-read.count c.read.new.buf) file.0 c.take_piece.new.stage c.in-Err.stop
@@ -89,8 +87,7 @@ pieces-preserved g c = record {
                 drop c.in-Ok-read.count there.0,
                 c.in-Ok-read.ensures.bytes.takes there.0 there.1,
                 file-cut (bytes_of all c.args.name.now) old.0 (take c.in-Ok-read.count c.read.new.buf) there.0 c.in-Ok-read.count there.2
-                    (ap (take c.in-Ok-read.count) (c.in-Ok-read.ensures.bytes.gives there.0 there.1)
-                    ∙ front-read c.in-Ok-read.count there.0 _ (c.in-Ok-read.ensures.bytes.within there.0 there.1)),
+                    (piece-read _ c.in-Ok-read.count _ _ c.in-Ok-read.ensures.bytes.within c.in-Ok-read.ensures.bytes.gives there.0 there.1),
               );
         },
       );
