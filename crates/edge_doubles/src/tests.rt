@@ -1,7 +1,6 @@
 //! Tests of each double through its trait.
 
-ghost use Rattle.std.specs.Prelude.{◌≡◌, ◌<◌, ◌≤◌, false, length};
-ghost use Rattle.roam_edge.specs.declared.mesh_sink.TheConstants.{LONGEST_PREFIX, GREATEST_NUMBER};
+ghost use Rattle.std.specs.Prelude.{◌<◌, length};
 
 use crate::{CountMeshes, MemShelf, ShelfCall};
 use roam_edge::{Failed, MeshSink, Shelf};
@@ -13,20 +12,6 @@ fn read_front<F: Shelf>(shelf: &mut F, name: &str, buf: &mut [u8]) -> Result<usi
 {
     shelf.open_named(name)?;
     shelf.read(buf)
-}
-
-/// A mesh of two pieces.
-fn put_mesh<M: MeshSink>(meshes: &mut M, prefix: &str, number: u32) -> Result<(), Failed>
-    requires idle { M.under_way meshes.old ≡ false }
-    requires prefix_some { 0 < length prefix.now }
-    requires prefix_short { length prefix.now ≤ LONGEST_PREFIX }
-    requires number_low { 1 ≤ number }
-    requires number_high { number ≤ GREATEST_NUMBER }
-{
-    meshes.begin(prefix, number)?;
-    meshes.write(b"v 0 0 0\n")?;
-    meshes.write(b"f 1 1 1\n")?;
-    meshes.finish()
 }
 
 #[test]
@@ -74,7 +59,10 @@ fn a_shelf_in_memory_fails_where_it_is_told(rt: HostRuntime) -> Result<(), Fail>
 #[test]
 fn a_counting_sink_counts_meshes_and_bytes(rt: HostRuntime) {
     let mut meshes = CountMeshes::new();
-    assert_eq!(rt; put_mesh(&mut meshes, "out", 7), Ok(()));
+    assert_eq!(rt; meshes.begin("out", 7), Ok(()));
+    assert_eq!(rt; meshes.write(b"v 0 0 0\n"), Ok(()));
+    assert_eq!(rt; meshes.write(b"f 1 1 1\n"), Ok(()));
+    assert_eq!(rt; meshes.finish(), Ok(()));
     assert_eq!(rt; meshes.meshes(), 1);
     assert_eq!(rt; meshes.bytes(), 16);
 }
