@@ -1,5 +1,5 @@
 -- Leaves that are listed depth first, and their number.
-use Rattle.std.proofs.Common.{◌≡◌, ℕ, zero, suc, ◌+◌, ◌-◌, ◌*◌, ◌^◌, ◌≤◌, Bool, false, List, [], ◌∷◌, ◌++◌, length, length-append, ap₂, arith, pow-add}
+use Rattle.std.proofs.Common.{◌≡◌, ℕ, ◌+◌, ◌*◌, ◌^◌, ◌≤◌, Bool, false, List, [], ◌∷◌, ◌++◌, length, length-append, ap₂, arith, pow-add}
 use Rattle.mesh_defs.specs.ClosedSet.{leaves_under, leaves_of}
 use Rattle.closure_laws.proofs.LeafLemmas.{leaves-most, leaves_under-whole, four-power}
 

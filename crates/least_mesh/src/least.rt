@@ -9,9 +9,10 @@ ghost use Rattle.view_priority.specs.Camera.{view_from};
 ghost use Rattle.obj_write.specs.Numbers.{numbers_of};
 ghost use Rattle.least_laws.specs.Least.{IsLeastList, IsLeastMesh};
 
-use crate::flags::{end, sweep};
+use crate::flags::sweep;
 use crate::list::{list_leaves, lower_half, worst_leaf};
 use crate::worse::flag_worse;
+use address_flags::end;
 use bintree_addr::{Tri, level_laws};
 use closure_laws::base_mesh;
 use cull_marks::Planes;
@@ -118,6 +119,7 @@ impl Least {
 
         // At most one priority for each splittable triangle, and one for each leaf.
         ensures asked { meter.new + 2 ≤ meter.old + 2 ^ (2 * w.now.n + 1) + length self.new.leaves }
+        ensures count { meter.old ≤ meter.new }
     {
         level_laws();
         falling_laws();

@@ -8,6 +8,7 @@ ghost use Rattle.wedgie_tree.specs.declared.wedges.TheConstants.{GREATEST_SPACIN
 ghost use Rattle.view_priority.specs.Camera.{view_from};
 ghost use Rattle.least_laws.specs.Sweep.{is_flagged};
 
+use address_flags::is_set;
 use bintree_addr::Tri;
 use cull_marks::Planes;
 use view_priority::{Camera, Meter, rank};
@@ -42,14 +43,6 @@ fn put_leaves(flags: &[bool], levels: u32, t: Tri, list: &mut [Tri], count: usiz
     put_leaves(flags, levels - 1, t.right(), list, between)
 }
 
-/// Whether the triangle is flagged; one without a flag is not.
-fn is_set(flags: &[bool], t: Tri) -> bool
-    ensures value { result ≡ is_flagged flags.now t }
-{
-    let place = t.number() as usize;
-    place < flags.len() && flags[place]
-}
-
 /// The half of the square below its falling diagonal.
 pub fn lower_half() -> Tri
     ensures value { result ≡ 2 }
@@ -81,7 +74,9 @@ pub fn worst_leaf(
     ensures value { let p = priority_of w.now.n w.now.heights (view_from camera.now spacing planes.now) in
         result ≡ worst_of p leaves.now }
     ensures asked { meter.new ≤ meter.old + length leaves.now }
+    ensures count { meter.old ≤ meter.new }
 {
+    let _count = meter.count();
     let mut worst = 0;
     for leaf in leaves {
         worst = greater(worst, rank(w, camera, spacing, planes, *leaf, meter).p);

@@ -7,7 +7,7 @@ ghost use Rattle.view_priority.specs.Camera.{view_from};
 ghost use Rattle.least_laws.specs.Least.{is_worse};
 ghost use Rattle.least_laws.specs.Sweep.{is_flagged};
 
-use crate::flags::end;
+use address_flags::end;
 use bintree_addr::{Tri, level_laws};
 use cull_marks::Planes;
 use plain_mesh::falling_laws;
@@ -32,6 +32,7 @@ pub fn flag_worse(
     ensures worse { let p = priority_of w.now.n w.now.heights (view_from camera.now spacing planes.now) in
         (a : ℕ) → is_flagged flags.new a ≡ is_worse w.now.n tolerance p a }
     ensures asked { meter.new + 2 ≤ meter.old + 2 ^ (2 * w.now.n + 1) }
+    ensures count { meter.old ≤ meter.new }
 {
     clear(flags);
     for number in 2..end(w.grid().n()) {
@@ -69,6 +70,7 @@ fn is_worse(
     ensures value { let p = priority_of w.now.n w.now.heights (view_from camera.now spacing planes.now) in
         result ≡ is_worse w.now.n tolerance p number }
     ensures asked { meter.new ≤ meter.old + 1 }
+    ensures count { meter.old ≤ meter.new }
 {
     level_laws();
     falling_laws();
@@ -76,5 +78,6 @@ fn is_worse(
         return false;
     }
     let _valid = w.grid();
+    let _count = meter.count();
     rank(w, camera, spacing, planes, Tri::new(number).unwrap(), meter).p > tolerance
 }

@@ -1,5 +1,5 @@
 -- The leaves of a member are those of its left child, and behind them those of its right child.
-use Rattle.std.proofs.Common.{◌≤◌, ◌≡◌, true, ◌+◌, ◌-◌, ◌*◌, ◌<◌, ◌++◌, length, take, length-append, append_assoc, ap, ap₂, sym, ◌∙◌, arith}
+use Rattle.std.proofs.Common.{◌≤◌, ◌≡◌, true, ◌+◌, ◌-◌, ◌*◌, ◌++◌, length, take, length-append, append_assoc, ap, ap₂, sym, ◌∙◌, arith}
 use Rattle.mesh_defs.specs.ClosedSet.{leaves_under}
 use Rattle.least_laws.specs.Sweep.{is_flagged}
 use Rattle.closure_laws.proofs.LeafLemmas.{leaves_under-split}

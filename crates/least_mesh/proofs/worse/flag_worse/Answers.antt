@@ -15,6 +15,7 @@ loop-number-init c =
     record {
       flagged = asked-none c.args.w.now.n c.args.tolerance (length c.args.flags.now) p c.clear.new.flags c.clear.ensures;
       asked = omega arith;
+      count = omega arith;
     }
 
 pub loop-number-preserved : goal.loop-number-preserved
@@ -23,6 +24,8 @@ loop-number-preserved c =
     let wanted = is_worse c.args.w.now.n c.args.tolerance p in
     let more = c.is_worse.ensures.asked in
     let asked = c.loop-number.invariant.asked in
+    let no_less = c.is_worse.ensures.count in
+    let count = c.loop-number.invariant.count in
     let grid : c.n.result ≡ c.args.w.now.n = c.n.ensures.value ∙ ap (λ (g : HeightField). g.n) c.grid.ensures.value in
     let end : c.end-number-end.result ≡ 2 ^ (2 * c.args.w.now.n + 1) = c.end-number-end.ensures.value ∙ ap (λ k. 2 ^ (2 * k + 1)) grid in
     let test = c.loop-number-test.true in
@@ -33,11 +36,13 @@ loop-number-preserved c =
         flagged = subst (λ l. AreFlagged wanted l (c.loop-number.number + 1)) (sym w.flags-is)
             (asked-yes wanted c.loop-number.flags c.loop-number.number c.loop-number.invariant.flagged (omega arith) (sym c.is_worse.ensures.value ∙ w.if-is_worse.true));
         asked = omega arith;
+        count = omega arith;
       }
       | else-is_worse w ↦ record {
         flagged = subst (λ l. AreFlagged wanted l (c.loop-number.number + 1)) (sym w.flags-is)
             (asked-no wanted c.loop-number.flags c.loop-number.number c.loop-number.invariant.flagged (sym c.is_worse.ensures.value ∙ w.if-is_worse.false));
         asked = omega arith;
+        count = omega arith;
       }
     ]
 

@@ -1,7 +1,7 @@
 -- A grid has splittable triangles, and fewer than 2 ^ 23.
 use Rattle.std.proofs.Common.{arith}
 use Rattle.least_laws.proofs.FlagLemmas.{end-low, end-high}
-use Rattle.least_mesh.proofs.flags.end.Goals as goal
+use Rattle.address_flags.proofs.flags.end.Goals as goal
 
 pub returns-clause-low : goal.returns-clause-low
 returns-clause-low c =

@@ -1,6 +1,6 @@
 -- Within the table the flag is read, and past it there is none.
 use Rattle.least_laws.proofs.FlagLemmas.{flagged-read, flagged-none}
-use Rattle.least_mesh.proofs.list.is_set.Goals as goal
+use Rattle.address_flags.proofs.flags.is_set.Goals as goal
 
 pub returns-then-place-flags : goal.returns-then-place-flags
 returns-then-place-flags c =
