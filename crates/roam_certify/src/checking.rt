@@ -7,8 +7,8 @@ ghost use Rattle.certificate_laws.specs.Certificate.{IsReason, AreReasons, IsFir
 ghost use Rattle.cert_text.specs.declared.limits.TheConstants.{MOST_REASONS};
 ghost use Rattle.roam_certify.specs.Sight.{seen_by, IsSeen};
 
-use crate::flags::flag;
 use crate::sight::{Sight, told};
+use address_flags::{flag, is_set};
 use bintree_addr::Tri;
 use certificate_laws::{Kind, Reason};
 
@@ -77,12 +77,4 @@ fn has_cause(n: u32, flags: &[bool], view: &Sight<'_>, worst: u64, kind: Kind, t
             Some(mate) => is_set(flags, mate),
         },
     }
-}
-
-/// Whether the triangle is flagged; one without a flag is not.
-pub fn is_set(flags: &[bool], t: Tri) -> bool
-    ensures value { result ≡ is_flagged flags.now t }
-{
-    let place = t.number() as usize;
-    place < flags.len() && flags[place]
 }

@@ -7,8 +7,7 @@ ghost use Rattle.tiling_laws.specs.Ancestors.{ancestors_of};
 ghost use Rattle.least_laws.specs.Sweep.{is_flagged};
 ghost use Rattle.roam_certify.specs.Climb.{IsEntered, IsClimbed, IsCounted, AreLeavesOf};
 
-use crate::checking::is_set;
-use crate::flags::{end, flag, flag_parent};
+use address_flags::{end, flag, flag_parent, is_set};
 use bintree_addr::Tri;
 
 /// Whether the list is conforming.

@@ -1,15 +1,14 @@
 //! Certificates of optimality over a grid: a checker that is exact, and a maker whose certificates are sound.
 //!
 //! A certificate is a camera, a mesh and reasons. The checker looks whether the mesh is conforming by one flag an
-//! address, and at each reason by those before it; the maker lists reasons by a queue. What a sound
-//! certificate proves stands below, in `certificate_laws`.
+//! address, and at each reason by those before it; the maker is given an optimal mesh, and lists its reasons by a
+//! queue. What a sound certificate proves stands below, in `certificate_laws`; who finds the mesh is no matter here.
 
 #![tactic(auto)]
 
 mod cert;
 mod checking;
 mod conforming;
-mod flags;
 mod making;
 mod sight;
 #[cfg(test)]

@@ -1,6 +1,6 @@
 //! Making the reasons of a certificate: a queue of triangles whose causes are still to be listed.
 
-ghost use Rattle.std.specs.Prelude.{◌≡◌, ℕ, ◌+◌, ◌*◌, ◌/◌, ◌^◌, ◌<◌, ◌≤◌, ◌⊎◌, Bool, List, IsTrue, IfOk, OnOk, false, [], length};
+ghost use Rattle.std.specs.Prelude.{◌≡◌, ℕ, ◌+◌, ◌*◌, ◌/◌, ◌^◌, ◌<◌, ◌≤◌, ◌⊎◌, ◌↔◌, Bool, List, IsTrue, IfOk, OnOk, false, [], length};
 ghost use Rattle.mesh_defs.specs.Triangle.{IsSplittable, IsMate};
 ghost use Rattle.least_laws.specs.Sweep.{is_flagged};
 ghost use Rattle.certificate_laws.specs.declared.reason.Reason.{Reason};
@@ -8,10 +8,11 @@ ghost use Rattle.certificate_laws.specs.Certificate.{named_in, AreReasons, AreAl
 ghost use Rattle.roam_certify.specs.Sight.{seen_by, IsSeen};
 ghost use Rattle.roam_certify.specs.Making.{IsListed, IsPushed, HasCauses, IsGrown, KeepsReasons, AreWanted, IsQueue};
 
-use crate::flags::{end, flag};
 use crate::sight::{Sight, told};
+use address_flags::{end, flag, is_set};
 use bintree_addr::Tri;
 use certificate_laws::{Kind, Reason};
+use plain_mesh::falling_laws;
 use roam_edge::NoMemory;
 use std::alloc::Global;
 
@@ -43,7 +44,9 @@ pub fn make_reasons(
     Ok(reasons)
 }
 
-/// Lists each triangle whose priority is at least the worst.
+/// Lists each triangle whose priority is at least the worst, until the list is full.
+///
+/// A priority is asked only below what is listed: the others have less than the worst too.
 fn push_wants(
     reasons: &mut Vec<Reason>,
     flags: &mut [bool],
@@ -61,20 +64,16 @@ fn push_wants(
     ensures wanted { OnOk result (AreWanted limit (seen_by view.now) worst (2 ^ (2 * n + 1)) reasons.new.items) }
 {
     for number in 2..end(n) {
-        push_wanted(
-            reasons,
-            flags,
-            limit,
-            n,
-            view,
-            worst,
-            Tri::new(number).unwrap(),
-        )?;
+        if reasons.len() >= limit {
+            return Ok(());
+        }
+        let t = Tri::new(number).unwrap();
+        push_wanted(reasons, flags, limit, n, view, worst, t)?;
     }
     Ok(())
 }
 
-/// Lists a triangle if its priority is at least the worst.
+/// Lists a triangle if its priority is at least the worst, where those before it are listed.
 fn push_wanted(
     reasons: &mut Vec<Reason>,
     flags: &mut [bool],
@@ -89,18 +88,33 @@ fn push_wanted(
     requires listed { IsListed n limit flags.old reasons.old.items }
     requires reasoned { AreReasons n (seen_by view.now) worst [] reasons.old.items }
     requires splittable { IsSplittable n t }
+    requires before { AreWanted limit (seen_by view.now) worst t reasons.old.items }
     ensures listed { OnOk result (IsListed n limit flags.new reasons.new.items) }
     ensures reasoned { OnOk result (AreReasons n (seen_by view.now) worst [] reasons.new.items) }
     ensures grown { OnOk result (IsGrown reasons.old.items reasons.new.items) }
     ensures wanted { OnOk result (length reasons.new.items < limit → worst ≤ seen_by view.now t →
         IsTrue (named_in reasons.new.items t)) }
 {
+    falling_laws();
+    if !may_be_wanted(flags, t) {
+        return Ok(());
+    }
     let priority = told(view, n, t);
     if priority < worst {
         return Ok(());
     }
     push_new(reasons, flags, limit, Kind::Want, t)?;
     Ok(())
+}
+
+/// Whether the triangle has no parent, or a flagged one.
+fn may_be_wanted(flags: &[bool], t: Tri) -> bool
+    ensures value { result ≡ false ↔ ((4 ≤ t) × (is_flagged flags.now (t / 2) ≡ false)) }
+{
+    match t.parent() {
+        None => true,
+        Some(parent) => is_set(flags, parent),
+    }
 }
 
 /// Lists the causes of each listed triangle, those of the new ones too.

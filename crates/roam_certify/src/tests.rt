@@ -4,7 +4,10 @@ ghost use Rattle.std.specs.Prelude.{◌≡◌, ◌^◌, ◌≤◌, IfOk};
 
 use crate::{Reject, Verdict, check, make_cert};
 use cert_text::CertReader;
+use certificate_laws::certificate_laws;
+use cull_marks::Planes;
 use pgm_grid::Grid;
+use plain_mesh::plain_frame;
 use std::alloc::Global;
 use std::process::Abort;
 use std::test::Fail;
@@ -115,9 +118,12 @@ fn a_repeated_a_causeless_and_a_finest_reason_are_bad(rt: HostRuntime) -> Result
 // The best mesh of 8 triangles stops at 17, which needs 9.
 #[test]
 fn a_certificate_is_made(rt: HostRuntime) -> Result<(), Fail> {
+    certificate_laws();
     let camera = Camera::new(0, 0, 0).ok_or("a camera")?;
     let wedges = hill(rt.alloc(), 2, 1, 0)?;
-    let cert = make_cert(rt.alloc(), &wedges, &camera, 1, 8)?;
+    let frame = plain_frame(rt.alloc(), &wedges, &camera, 1, &Planes::none(), 8)?;
+    let leaves = frame.split.leaves(rt.alloc())?;
+    let cert = make_cert(rt.alloc(), &wedges, &camera, 1, 8, leaves, frame.worst)?;
     assert_eq!(rt; (cert.leaves().len(), cert.reasons().len()), (8, 7));
     assert_eq!(rt; cert.camera(), camera);
     Ok(())

@@ -13,8 +13,8 @@ ghost use Rattle.roam_certify.specs.Sight.{seen_by, IsSeen};
 
 use crate::checking::first_bad;
 use crate::conforming::is_conforming;
-use crate::flags::end;
 use crate::sight::{Sight, told};
+use address_flags::end;
 use bintree_addr::Tri;
 use cert_text::Cert;
 use certificate_laws::{Reason, Reject, Verdict};

@@ -19,12 +19,13 @@ use crate::grid_file::{GridStop, read_grid};
 use crate::report::grid_report;
 use crate::run::end_with_text;
 use cert_text::{Cert, write_cert};
+use frame_loop::Engine;
 use pgm_grid::Grid;
+use plain_mesh::falling_laws;
 use roam_certify::make_cert;
 use roam_edge::{NoMemory, Shelf, Sink};
 use run_laws::Status;
 use std::alloc::Global;
-use wedgie_tree::Wedges;
 
 /// Carries out the command `certify make`. All memory is taken before the first byte is written.
 pub(crate) fn run_make<F: Shelf, R: Sink>(
@@ -73,13 +74,27 @@ pub(crate) fn run_make<F: Shelf, R: Sink>(
     }
 }
 
-/// The certificate of the best mesh of a grid.
+/// The certificate of the best mesh of a grid, which is that of an engine's first frame at the camera of the words.
 fn certificate_of(alloc: Global, grid: Grid, words: &MakeWords<'_>) -> Result<Cert, NoMemory>
     requires bounds { AreInBounds words.now.budget words.now.spacing }
     ensures { IfOk result (λ cert. IsMade (making_seen words.now) grid cert) }
 {
-    let wedges = Wedges::build(alloc, grid)?;
-    make_cert(alloc, &wedges, &words.camera, words.spacing, words.budget)
+    falling_laws();
+    let mut engine = Engine::make(alloc, grid, words.budget, words.spacing)?;
+    let _way = engine.way_to(words.camera);
+    engine.camera(words.camera);
+    let note = engine.frame();
+    let view = engine.view();
+    let leaves = view.leaves.to_vec(alloc)?;
+    make_cert(
+        alloc,
+        view.wedges,
+        &words.camera,
+        words.spacing,
+        words.budget,
+        leaves,
+        note.worst,
+    )
 }
 
 /// Writes a certificate, the last text of a run.

@@ -1,14 +1,12 @@
--- No triangle is named at first; the reasons are those of a best mesh.
-use Rattle.std.proofs.Common.{◌≡◌, ℕ, Bool, false, List, [], sym, ◌∙◌, ap, subst}
+-- No triangle is named at first; the reasons are those of an optimal mesh.
+use Rattle.std.proofs.Common.{◌≡◌, ℕ, ◌+◌, ◌≤◌, ◌⊎◌, Bool, false, List, [], length, sym, ◌∙◌, ap, subst}
 use Rattle.mesh_defs.specs.HeightField.{HeightField}
-use Rattle.mesh_defs.specs.ClosedSet.{leaves_of, among}
-use Rattle.mesh_defs.specs.Priority.{priority_of, worst_of}
+use Rattle.mesh_defs.specs.Priority.{priority_of}
 use Rattle.mesh_defs.specs.View.{ViewPlane}
-use Rattle.mesh_defs.specs.BestMesh.{IsBestMesh}
 use Rattle.view_priority.specs.Camera.{view_from}
 use Rattle.least_laws.specs.Sweep.{is_flagged}
 use Rattle.least_laws.proofs.FlagLemmas.{flagged-unset}
-use Rattle.certificate_laws.specs.Certificate.{IsSound}
+use Rattle.certificate_laws.specs.Certificate.{IsSound, AreReasons, AreAllReasons}
 use Rattle.cert_text.specs.Certificate.{Certificate}
 use Rattle.roam_certify.proofs.CertLemmas.{sound-made}
 use Rattle.roam_certify.proofs.cert.make_cert.Goals as goal
@@ -22,14 +20,11 @@ pub returns-clause-sound : goal.returns-clause-sound
 returns-clause-sound c =
     let n = c.args.w.now.n in
     let p : List ViewPlane → ℕ → ℕ = λ planes. priority_of n c.args.w.now.heights (view_from c.args.camera.now c.args.spacing planes) in
-    let members = c.in_ok-frame.frame.split.members in
-    let leaves = c.in_ok-leaves.leaves.items in
     let reasons = c.in_ok-reasons.reasons.items in
     let grid : c.n-n.result ≡ n = c.n-n.ensures.value ∙ ap (λ (g : HeightField). g.n) c.grid.ensures.value in
-    let same : leaves ≡ leaves_of n (among members) = c.in_ok-leaves.ensures.value ∙ ap (λ k. leaves_of k (among members)) c.in_ok-frame.ensures.grid in
     subst (λ (cert : Certificate). IsSound n c.args.budget (p []) cert.leaves cert.reasons) (sym c.new.ensures)
-    (subst (λ planes. IsSound n c.args.budget (p planes) leaves reasons) c.none-planes.ensures
-    (sound-made n c.n-n.result c.args.budget c.in_ok-frame.frame.worst (p c.none-planes.result) leaves reasons (c.falling_laws.ensures _ _ _)
-    (subst (λ l. IsBestMesh n c.args.budget (p c.none-planes.result) l) (sym same) c.in_ok-frame.ensures.best)
-    (c.in_ok-frame.ensures.frame.greatest ∙ ap (worst_of (p c.none-planes.result)) (sym same))
-    grid c.in_ok-reasons.ensures.reasoned c.in_ok-reasons.ensures.enough))
+    (sound-made n c.n-n.result c.args.budget c.args.worst (p []) c.args.leaves.items reasons (c.falling_laws.ensures _ _ _)
+    c.requires.optimal c.requires.worst grid
+    (subst (λ planes. AreReasons c.n-n.result (p planes) c.args.worst [] reasons) c.none-planes.ensures c.in_ok-reasons.ensures.reasoned)
+    (subst (λ planes. (c.args.budget ≤ length reasons + 1) ⊎ AreAllReasons c.n-n.result (p planes) c.args.worst reasons) c.none-planes.ensures
+    c.in_ok-reasons.ensures.enough))

@@ -1,8 +1,7 @@
 -- Each test is the cause of its kind.
-use Rattle.std.proofs.Common.{◌≡◌, ◌*◌, ◌≤◌, ◌↔◌, inl, inr, false, IsTrue, Some, refl, sym, ◌∙◌, ap, subst, arith, ⊎_elim, get_or, leb}
+use Rattle.std.proofs.Common.{◌≡◌, ◌*◌, ◌≤◌, ◌↔◌, inl, inr, false, IsTrue, Some, refl, sym, ◌∙◌, subst, ⊎_elim, leb}
 use Rattle.std.proofs.lemmas.Bool.{leb-true, le-leb, both_ways, false≢true}
 use Rattle.least_laws.specs.Sweep.{is_flagged}
-use Rattle.least_laws.proofs.SweepLemmas.{splittable-lt}
 use Rattle.certificate_laws.specs.Certificate.{IsReason}
 use Rattle.roam_certify.specs.Sight.{seen_by}
 use Rattle.roam_certify.proofs.CheckingLemmas.{reason-old, reason-want, reason-parent, reason-mate, reason-no_mate}

@@ -1,5 +1,5 @@
 -- A finest triangle has no reason.
-use Rattle.std.proofs.Common.{◌*◌, ◌≤◌, arith}
+use Rattle.std.proofs.Common.{arith}
 use Rattle.std.proofs.lemmas.Bool.{false≢true}
 use Rattle.roam_certify.proofs.checking.is_reason.Goals as goal
 

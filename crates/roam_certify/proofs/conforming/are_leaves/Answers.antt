@@ -1,5 +1,5 @@
 -- One entry a turn.
-use Rattle.std.proofs.Common.{◌<◌, inl, inr, refl, sym, ◌∙◌, arith}
+use Rattle.std.proofs.Common.{inl, inr, refl, sym, ◌∙◌, arith}
 use Rattle.std.proofs.lemmas.Bool.{false≢true}
 use Rattle.least_laws.specs.Sweep.{is_flagged}
 use Rattle.certificate_laws.proofs.DistinctLemmas.{distinct-none}

@@ -1,5 +1,8 @@
--- A triangle of at least the worst is wanted.
-use Rattle.std.proofs.Common.{◌≡◌, ◌≤◌, subst, arith}
+-- A triangle of at least the worst is wanted; where its parent is not, it is not either.
+use Rattle.std.proofs.Common.{◌/◌, ◌≤◌, sym, ◌∙◌, subst, arith}
+use Rattle.std.proofs.lemmas.Bool.{false≢true}
+use Rattle.mesh_defs.specs.Triangle.{IsAddress}
+use Rattle.tiling_laws.proofs.DescentLemmas.{IsAddress-splittable}
 use Rattle.least_laws.proofs.SweepLemmas.{splittable-lt}
 use Rattle.certificate_laws.specs.declared.reason.Kind.TheVariants.{Want}
 use Rattle.roam_certify.specs.Sight.{seen_by}
@@ -8,6 +11,16 @@ use Rattle.roam_certify.proofs.making.push_wanted.Goals as goal
 
 pub push_new-requires : goal.push_new-requires
 push_new-requires c = record { room = omega (arith, splittable-lt c.args.n c.args.t c.requires.splittable, c.requires.listed.room) }
+
+pub returns-then-not-may_be_wanted-clause-wanted : goal.returns-then-not-may_be_wanted-clause-wanted
+returns-then-not-may_be_wanted-clause-wanted c less high =
+    let none = c.may_be_wanted.ensures.value.0 c.if-not-may_be_wanted.true in
+    let big : 4 ≤ c.args.t = none.0 in
+    let address : IsAddress c.args.view.now.wedges.now.n c.args.t =
+    subst (λ k. IsAddress k c.args.t) (sym c.requires.seen.grid) (IsAddress-splittable c.args.n c.args.t c.requires.splittable) in
+    let falls : seen_by c.args.view.now c.args.t ≤ seen_by c.args.view.now (c.args.t / 2) = (c.falling_laws.ensures _ _ _).child c.args.t address big in
+    let named = c.requires.before less (c.args.t / 2) (omega arith) (omega arith) (omega arith) in
+    absurd (false≢true (sym none.1 ∙ c.requires.listed.same (c.args.t / 2) ∙ named))
 
 pub returns-clause-listed : goal.returns-clause-listed
 returns-clause-listed c =

@@ -1,15 +1,16 @@
--- A turn lists the triangle, or finds that it is not wanted.
+-- A turn lists the triangle, or finds that it is not wanted; a full list has nothing more to hold.
 use Rattle.std.proofs.Common.{◌≡◌, ◌*◌, ◌<◌, ◌≤◌, IfSome, IsTrue, length, sym, subst, arith}
 use Rattle.mesh_defs.specs.Triangle.{IsSplittable}
 use Rattle.bintree_laws.proofs.LevelLemmas.{level_of-below}
 use Rattle.certificate_laws.specs.Certificate.{named_in}
 use Rattle.roam_certify.specs.Sight.{seen_by}
+use Rattle.roam_certify.specs.Making.{AreWanted}
 use Rattle.roam_certify.proofs.MakingLemmas.{wanted-next}
 use Rattle.roam_certify.proofs.making.push_wants.Goals as goal
 
 pub push_wanted-requires : goal.push_wanted-requires
 push_wanted-requires c =
-    let visited : c.unwrap.result ≡ c.loop-number.number = subst (λ o. IfSome o (λ t. t ≡ c.loop-number.number)) c.unwrap.ensures c.new.ensures.value in
+    let visited : c.unwrap-t.result ≡ c.loop-number.number = subst (λ o. IfSome o (λ t. t ≡ c.loop-number.number)) c.unwrap-t.ensures c.new.ensures.value in
     let low : 2 ≤ c.loop-number.number = c.loop-number.auto.number in
     let more = c.loop-number-test.true in
     let end = c.end-number-end.ensures.value in
@@ -21,11 +22,12 @@ push_wanted-requires c =
       listed = c.loop-number.invariant.listed;
       reasoned = c.loop-number.invariant.reasoned;
       splittable = subst (λ t. IsSplittable c.args.n t) (sym visited) splittable;
+      before = subst (λ t. AreWanted c.args.limit (seen_by c.args.view.now) c.args.worst t c.loop-number.reasons.items) (sym visited) c.loop-number.invariant.wanted;
     }
 
 pub loop-number-preserved : goal.loop-number-preserved
 loop-number-preserved c =
-    let visited : c.unwrap.result ≡ c.loop-number.number = subst (λ o. IfSome o (λ t. t ≡ c.loop-number.number)) c.unwrap.ensures c.new.ensures.value in
+    let visited : c.unwrap-t.result ≡ c.loop-number.number = subst (λ o. IfSome o (λ t. t ≡ c.loop-number.number)) c.unwrap-t.ensures c.new.ensures.value in
     record {
       listed = c.in_ok-push_wanted.ensures.listed;
       reasoned = c.in_ok-push_wanted.ensures.reasoned;

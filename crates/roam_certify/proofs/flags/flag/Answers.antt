@@ -1,6 +1,0 @@
--- A write of a flag adds its address to the set.
-use Rattle.least_laws.proofs.FlagLemmas.{flagged-write}
-use Rattle.roam_certify.proofs.flags.flag.Goals as goal
-
-pub returns-clause-added : goal.returns-clause-added
-returns-clause-added c a = flagged-write c.args.flags.now _ c.args.t a c.number.ensures.value c.requires.room
