@@ -31,28 +31,33 @@ middle_above s x q m above middle =
 pub next-above : (s x : ℕ) → 0 < x → s < ((x + s / x) / 2 + 1) * ((x + s / x) / 2 + 1)
 next-above s x some = middle_above s x (s / x) ((x + s / x) / 2) (omega arith) (omega arith)
 
--- the middle is positive where the number is
-pub next-some : (s x : ℕ) → 0 < s → 0 < x → 0 < (x + s / x) / 2
-next-some s x some positive = by_cases (cases_lt 0 ((x + s / x) / 2)) (next-above s x positive)
-  where
-    by_cases : ((0 < (x + s / x) / 2) ⊎ ((x + s / x) / 2 ≤ 0)) → s < ((x + s / x) / 2 + 1) * ((x + s / x) / 2 + 1) →
-        0 < (x + s / x) / 2
-    by_cases (inl more) above = more
-    by_cases (inr none) above =
-        let le : (x + s / x) / 2 + 1 ≤ 1 = omega arith in absurd (omega (arith, mul-le-mul le le))
-
 -- where the middle is no better, the square is within
-pub last-within : (s x : ℕ) → 0 < x → x ≤ (x + s / x) / 2 → x * x ≤ s
+last-within : (s x : ℕ) → 0 < x → x ≤ (x + s / x) / 2 → x * x ≤ s
 last-within s x some last =
     let le : x ≤ s / x = omega arith in
     let same : x ≤ x = omega arith in omega (arith, mul-le-mul same le)
 
+-- a number whose square is above another one is positive
+pub positive : (s x : ℕ) → s < x * x → 0 < x
+positive s x less = by_cases (cases_lt 0 x)
+  where
+    by_cases : ((0 < x) ⊎ (x ≤ 0)) → 0 < x
+    by_cases (inl some) = some
+    by_cases (inr none) = absurd (omega (arith, mul-le-mul none none))
+
+-- where the square is above, the middle is less
+pub next-less : (s x : ℕ) → s < x * x → (x + s / x) / 2 < x
+next-less s x less = by_cases (cases_lt ((x + s / x) / 2) x)
+  where
+    by_cases : (((x + s / x) / 2 < x) ⊎ (x ≤ (x + s / x) / 2)) → (x + s / x) / 2 < x
+    by_cases (inl better) = better
+    by_cases (inr last) = let within : x * x ≤ s = last-within s x (positive s x less) last in absurd (omega arith)
+
 -- ---- the estimate
 
--- half the number of binary digits, rounded up, is the exponent of a power of 2 above the root
+-- half the number of binary digits is the exponent of a power of 2 that is at most 2 ^ 31, over which the number is less than that
 pub half_digits : (s : ℕ) → s < 2 ^ 62 →
-    ((65 - count_leading_zeros 64 s) / 2 ≤ 31) ×
-    (s < 2 ^ ((65 - count_leading_zeros 64 s) / 2) * 2 ^ ((65 - count_leading_zeros 64 s) / 2))
+    ((64 - count_leading_zeros 64 s) / 2 ≤ 31) × (s < 2 ^ ((64 - count_leading_zeros 64 s) / 2) * 2 ^ 31)
 half_digits s small = by_length (leading_length 64 s (omega arith))
   where
     few : (m : ℕ) → 2 ^ m ≤ 2 * s + 1 → ((62 < m) ⊎ (m ≤ 62)) → m ≤ 62
@@ -61,19 +66,29 @@ half_digits s small = by_length (leading_length 64 s (omega arith))
     few m le (inr ok) = ok
 
     by_length : ((m : ℕ) × (count_leading_zeros 64 s + m ≡ 64) × (s < 2 ^ m) × (2 ^ m ≤ 2 * s + 1)) →
-        ((65 - count_leading_zeros 64 s) / 2 ≤ 31) ×
-        (s < 2 ^ ((65 - count_leading_zeros 64 s) / 2) * 2 ^ ((65 - count_leading_zeros 64 s) / 2))
+        ((64 - count_leading_zeros 64 s) / 2 ≤ 31) × (s < 2 ^ ((64 - count_leading_zeros 64 s) / 2) * 2 ^ 31)
     by_length d =
-        let k : ℕ = (65 - count_leading_zeros 64 s) / 2 in
+        let k : ℕ = (64 - count_leading_zeros 64 s) / 2 in
         let length : d.0 ≤ 62 = few d.0 d.3 (cases_lt 62 d.0) in
         let sum : count_leading_zeros 64 s + d.0 ≡ 64 = d.1 in
-        let fits : d.0 ≤ k + k = omega arith in
-        let wide : 2 ^ d.0 ≤ 2 ^ (k + k) = pow_mono fits in
+        let fits : d.0 ≤ k + 31 = omega arith in
+        let wide : 2 ^ d.0 ≤ 2 ^ (k + 31) = pow_mono fits in
         let below : s < 2 ^ d.0 = d.2 in
-        (omega arith, omega (arith, pow-add 2 k k))
+        (omega arith, omega (arith, pow-add 2 k 31))
 
 pub shifted : (k : ℕ) → k ≤ 31 → 1 * 2 ^ k % 18446744073709551616 ≡ 2 ^ k
 shifted k small = one_shl k 64 (omega arith)
 
-pub power_small : (k : ℕ) → k ≤ 31 → 2 ^ k ≤ 2 ^ 31
-power_small k small = pow_mono small
+-- the first step from such a power is at most 2 ^ 31
+pub first_small : (s k : ℕ) → k ≤ 31 → s < 2 ^ k * 2 ^ 31 → (2 ^ k + s / 2 ^ k) / 2 ≤ 2 ^ 31
+first_small s k small below =
+    let power : 2 ^ k ≤ 2 ^ 31 = pow_mono small in
+    let over : s / 2 ^ k < 2 ^ 31 = div_below s (2 ^ k) (2 ^ 31) below in
+    omega arith
+  where
+    div_below : (s x y : ℕ) → s < x * y → s / x < y
+    div_below s x y below = by_cases (cases_lt (s / x) y)
+      where
+        by_cases : ((s / x < y) ⊎ (y ≤ s / x)) → s / x < y
+        by_cases (inl less) = less
+        by_cases (inr more) = let same : x ≤ x = omega arith in absurd (omega (arith, mul-le-mul same more))

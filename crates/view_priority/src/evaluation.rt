@@ -3,7 +3,7 @@
 ghost use Rattle.std.specs.Prelude.{◌≡◌, ◌+◌, ◌-◌, ◌*◌, ◌/◌, ◌<◌, ◌≤◌, ◌^◌};
 ghost use Rattle.mesh_defs.specs.Triangle.{level_of};
 ghost use Rattle.mesh_defs.specs.BoundingBox.{CameraAt, box_of, distance_of};
-ghost use Rattle.mesh_defs.specs.Priority.{priority_of};
+ghost use Rattle.mesh_defs.specs.Priority.{priority_of, seen_ratio};
 ghost use Rattle.mesh_defs.specs.State.{move_length};
 ghost use Rattle.wedgie_tree.specs.declared.wedges.TheConstants.{GREATEST_SPACING};
 ghost use Rattle.view_priority.specs.Camera.{view_from};
@@ -11,7 +11,7 @@ ghost use Rattle.view_priority.specs.Meter.{counted};
 ghost use Rattle.view_priority.specs.Bounds.{priority_at};
 
 use crate::ratio::seen_priority;
-use crate::sight::sight_of;
+use crate::sight::{Sight, sight_of};
 use crate::{Bounds, Camera, Meter, distance_laws, priority_laws};
 use bintree_addr::{Rank, Tri};
 use cull_marks::Planes;
@@ -87,6 +87,52 @@ pub fn bounds(
     distance_laws();
     meter.tick();
     let sight = sight_of(w, camera, spacing, planes, t);
+    bounds_within(&sight, t, slack)
+}
+
+/// The bounds of a slack that is the distance over `part`, rounded down, and that slack. The meter counts one more.
+///
+/// Cost (not proved): that of `bounds`; to ask `distance` for the slack first takes another box and square root.
+pub fn bounds_by_part(
+    w: &Wedges,
+    camera: &Camera,
+    spacing: u32,
+    planes: &Planes,
+    t: Tri,
+    part: u64,
+    meter: &mut Meter,
+) -> (u64, Bounds)
+    requires level { level_of t ≤ 2 * w.now.n }
+    requires spacing_low { 1 ≤ spacing }
+    requires spacing_high { spacing ≤ GREATEST_SPACING }
+    requires part { 1 ≤ part }
+    ensures slack { result.0 ≡ distance_of (box_of w.now.n w.now.heights spacing t) camera.now / part }
+    ensures small { result.0 < 2 ^ 31 }
+    ensures hi_tri { result.1.hi.tri ≡ t }
+    ensures lo_tri { result.1.lo.tri ≡ t }
+    ensures hi { let view = view_from camera.now spacing planes.now in
+        result.1.hi.p ≡ priority_at w.now.n w.now.heights view t
+        (distance_of (box_of w.now.n w.now.heights spacing t) camera.now - result.0) }
+    ensures lo { let view = view_from camera.now spacing planes.now in
+        result.1.lo.p ≡ priority_at w.now.n w.now.heights view t
+        (distance_of (box_of w.now.n w.now.heights spacing t) camera.now + result.0) }
+    ensures count { meter.new ≡ counted meter.old }
+{
+    meter.tick();
+    let sight = sight_of(w, camera, spacing, planes, t);
+    let slack = sight.distance / part;
+    (slack, bounds_within(&sight, t, slack))
+}
+
+/// The ranks at the distance less the slack, at least 0, and at the distance plus the slack.
+fn bounds_within(sight: &Sight, t: Tri, slack: u64) -> Bounds
+    requires distance { sight.now.distance < 2 ^ 31 }
+    requires slack { slack ≤ 2 ^ 32 }
+    ensures hi_tri { result.hi.tri ≡ t }
+    ensures lo_tri { result.lo.tri ≡ t }
+    ensures hi { result.hi.p ≡ seen_ratio sight.now.mark sight.now.thickness (sight.now.distance - slack) }
+    ensures lo { result.lo.p ≡ seen_ratio sight.now.mark sight.now.thickness (sight.now.distance + slack) }
+{
     let near = sight.distance.saturating_sub(slack);
     let far = sight.distance + slack;
     Bounds {

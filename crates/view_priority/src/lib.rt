@@ -20,7 +20,7 @@ mod sight;
 mod tests;
 
 pub use camera::Camera;
-pub use evaluation::{bounds, rank};
+pub use evaluation::{bounds, bounds_by_part, rank};
 pub use gap::distance;
 pub use laws::{distance_laws, priority_laws, view_laws};
 pub use meter::Meter;

@@ -1,7 +1,7 @@
 //! Priorities on small grids, worked by hand, and distances at the greatest numbers.
 
 use crate::root::square_root;
-use crate::{Camera, Meter, bounds, distance, priority, rank};
+use crate::{Camera, Meter, bounds, bounds_by_part, distance, priority, rank};
 use bintree_addr::{Cuboid, Tri};
 use cull_marks::{Plane, Planes};
 use pgm_grid::PgmReader;
@@ -105,6 +105,41 @@ fn bounds_are_the_priorities_at_both_ends_of_the_slack(rt: HostRuntime) -> Resul
         assert!(rt; slack <= 1 << 32);
         let found = bounds(&wedges, &camera, 1, &Planes::none(), tri, slack, &mut meter);
         assert_eq!(rt; (found.hi.p, found.lo.p), (hi, lo), "{slack}");
+    }
+    assert_eq!(rt; meter.count(), 4);
+    Ok(())
+}
+
+#[test]
+fn bounds_by_part_are_those_of_a_part_of_the_distance(rt: HostRuntime) -> Result<(), Fail> {
+    let wedges = wedges_of(rt.alloc(), &MIDDLE)?;
+    let camera = Camera::new(-3, -4, 0).ok_or("a camera")?;
+    let tri = Tri::new(2).ok_or("an address")?;
+    let deepest = 2 * wedges.grid().n();
+    assert!(rt; tri.level() <= deepest);
+    let mut meter = Meter::new();
+    let cases = [
+        (1, 5, 1310720, 119156),
+        (2, 2, 327680, 163840),
+        (5, 1, 262144, 187245),
+        (8, 0, 218453, 218453),
+    ];
+    for (part, slack, hi, lo) in cases {
+        assert!(rt; 1 <= part);
+        let (found, bounds) = bounds_by_part(
+            &wedges,
+            &camera,
+            1,
+            &Planes::none(),
+            tri,
+            part,
+            &mut meter,
+        );
+        assert_eq!(rt;
+            (found, bounds.hi.p, bounds.lo.p),
+            (slack, hi, lo),
+            "{part}"
+        );
     }
     assert_eq!(rt; meter.count(), 4);
     Ok(())

@@ -1,4 +1,4 @@
-use Rattle.std.proofs.Common.{◌+◌, ◌-◌, arith, ap, ◌∙◌}
+use Rattle.std.proofs.Common.{◌+◌, ◌-◌, arith, ap}
 use Rattle.view_priority.proofs.PriorityLemmas.{priority_at-by_parts, priority_of-below_hi, priority_of-above_lo}
 use Rattle.view_priority.proofs.evaluation.bounds.Goals as goal
 
@@ -6,14 +6,14 @@ pub returns-clause-hi : goal.returns-clause-hi
 returns-clause-hi c =
     let sight = c.sight_of-sight in
     priority_at-by_parts c.args.w.now.n c.args.w.now.heights c.args.camera.now c.args.spacing c.args.planes.now c.args.t
-    c.seen_priority.result _ _ _ _ c.seen_priority.ensures sight.ensures.mark sight.ensures.thickness
-    (c.saturating_sub-near.ensures ∙ ap (λ d. d - c.args.slack) sight.ensures.distance)
+    c.bounds_within.result.hi.p _ _ _ _ c.bounds_within.ensures.hi sight.ensures.mark sight.ensures.thickness
+    (ap (λ d. d - c.args.slack) sight.ensures.distance)
 
 pub returns-clause-lo : goal.returns-clause-lo
 returns-clause-lo c =
     let sight = c.sight_of-sight in
     priority_at-by_parts c.args.w.now.n c.args.w.now.heights c.args.camera.now c.args.spacing c.args.planes.now c.args.t
-    c.seen_priority-2.result _ _ _ _ c.seen_priority-2.ensures sight.ensures.mark sight.ensures.thickness
+    c.bounds_within.result.lo.p _ _ _ _ c.bounds_within.ensures.lo sight.ensures.mark sight.ensures.thickness
     (ap (λ d. d + c.args.slack) sight.ensures.distance)
 
 pub returns-clause-above : goal.returns-clause-above
