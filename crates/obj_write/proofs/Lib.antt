@@ -3,3 +3,4 @@ pub mod NumberLemmas
 pub mod PageLemmas
 pub mod PlaceLemmas
 pub mod TableLemmas
+pub mod WalkLemmas

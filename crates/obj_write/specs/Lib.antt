@@ -5,3 +5,4 @@ pub mod Page
 pub mod Table
 pub mod VertexMarks
 pub mod Written
+pub mod Walk

@@ -15,6 +15,7 @@ mod table;
 #[cfg(test)]
 mod tests;
 mod vertices;
+mod walk;
 
 pub use lines::{LONGEST_PIECE, MeshLines};
 pub use mesh::{MeshView, write_mesh};

@@ -11,6 +11,7 @@ ghost use Rattle.obj_write.specs.VertexMarks.{grid_place, vertex_marks, numbered
 ghost use Rattle.obj_write.specs.Table.{AreFlagged, IsCounted, block_end};
 
 use crate::vertices::place;
+use crate::walk::{corners_on_the_way, first_steps};
 use bintree_addr::{Point, Tri};
 use pgm_grid::side_for;
 use roam_edge::NoMemory;
@@ -64,7 +65,7 @@ impl VertexTable {
 
     /// Gives each vertex of the leaves its number, counted from 1, and answers how many there are. It is
     /// `number_vertices` in other steps.
-    /// Cost (not proved): a step a level for each leaf, three passes over the blocks of 64 places in which a vertex stands or
+    /// Cost (not proved): for each leaf that of `corners_on_the_way`, a step or two in depth-first order; three passes over the blocks of 64 places in which a vertex stands or
     /// stood before, and a look at the flags of all blocks.
     pub fn number(&mut self, leaves: &[Tri], n: u32) -> u32
         requires in_grid { (1 ≤ n) × (n ≤ GREATEST_LEVEL) }
@@ -121,8 +122,9 @@ fn mark_vertices(leaves: &[Tri], n: u32, numbers: &mut [u32], used: &mut [bool])
     ensures marks { numbers.new ≡ vertex_marks n leaves.now }
     ensures flagged { AreFlagged numbers.new used.new }
 {
+    let mut steps = first_steps(n);
     for leaf in leaves {
-        let corners = leaf.corners(n);
+        let corners = corners_on_the_way(&mut steps, n, *leaf);
         mark_vertex(n, numbers, used, corners.apex);
         mark_vertex(n, numbers, used, corners.v0);
         mark_vertex(n, numbers, used, corners.v1);
