@@ -9,7 +9,7 @@ ghost use Rattle.bintree_laws.specs.Areas.{MeetsArea};
 ghost use Rattle.wedgie_tree.specs.Edits.{area_of};
 ghost use Rattle.height_edit.specs.Holders.{holders};
 ghost use Rattle.view_priority.specs.Meter.{counted};
-ghost use Rattle.frame_loop.specs.Outlook.{priority_seen, distance_seen, readings_of, seen_from, IsSamePriority};
+ghost use Rattle.frame_loop.specs.Outlook.{priority_seen, readings_of, seen_from, IsSamePriority};
 
 use arrayvec::ArrayVec;
 use bintree_addr::{Rank, Tri};
@@ -17,7 +17,7 @@ use cull_marks::{Plane, Planes};
 use deferred_loop::Reading;
 use height_edit::HOLDERS;
 use std::marker::Model;
-use view_priority::{Camera, Meter, bounds, distance, rank};
+use view_priority::{Camera, Meter, bounds_by_part, rank};
 use wedgie_tree::Wedges;
 
 /// The heights with their wedges, the camera, the spacing, and the view planes in force.
@@ -74,14 +74,13 @@ impl Outlook {
         ensures lo { result.lo.p ≡ (readings_of self.now).lower t }
         ensures count { meter.new ≡ counted meter.old }
     {
-        let slack = self.distance(t) / 8;
-        let bounds = bounds(
+        let (slack, bounds) = bounds_by_part(
             &self.wedges,
             &self.camera,
             self.spacing,
             &self.planes,
             t,
-            slack,
+            8,
             meter,
         );
         Reading {
@@ -89,15 +88,6 @@ impl Outlook {
             hi: bounds.hi,
             lo: bounds.lo,
         }
-    }
-
-    /// How far the camera is from the box of a triangle, in world units.
-    fn distance(&self, t: Tri) -> u64
-        requires level { level_of t ≤ 2 * self.now.grid.n }
-        ensures value { result ≡ distance_seen self.now t }
-        ensures bounded { result ≤ 2 ^ 31 }
-    {
-        distance(&self.wedges.cuboid(t, self.spacing), &self.camera)
     }
 
     /// How long the way of the camera to a place is: the sum of its lengths along the three axes.
