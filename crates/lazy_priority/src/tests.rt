@@ -29,3 +29,22 @@ fn an_expired_slot_is_due_at_once_and_a_forgotten_one_never(rt: HostRuntime) -> 
     assert_eq!(rt; lazy.due(9), None);
     Ok(())
 }
+
+#[test]
+fn a_forgotten_slot_can_have_another_deadline(rt: HostRuntime) -> Result<(), Fail> {
+    let mut lazy = Lazy::new(rt.alloc(), 2)?;
+    lazy.stamp(Slot(0), 0, 2);
+    lazy.stamp(Slot(1), 1, 2);
+    lazy.forget(Slot(0));
+    lazy.expire(Slot(0));
+    assert_eq!(rt; lazy.due(4), Some(Slot(1)));
+    assert_eq!(rt; lazy.due(4), None);
+    lazy.stamp(Slot(0), 4, 1);
+    lazy.stamp(Slot(1), 3, 1);
+    lazy.forget(Slot(1));
+    lazy.stamp(Slot(1), 9, 1);
+    assert_eq!(rt; lazy.due(5), None);
+    assert_eq!(rt; lazy.due(6), Some(Slot(0)));
+    assert_eq!(rt; lazy.due(10), None);
+    Ok(())
+}
