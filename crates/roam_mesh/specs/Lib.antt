@@ -1,4 +1,5 @@
 pub mod Mesh
+pub mod Chosen
 pub mod Parts
 pub mod Change
 pub mod Keys

@@ -1,7 +1,7 @@
 //! The mesh.
 
-ghost use Rattle.std.specs.Prelude.{◌≡◌, ℕ, ◌+◌, ◌-◌, ◌*◌, ◌^◌, ◌<◌, ◌≤◌, false, None, cond, nat_eq, option_map, slice_index, IfOk};
-ghost use Rattle.mesh_defs.specs.ClosedSet.{among};
+ghost use Rattle.std.specs.Prelude.{◌≡◌, ℕ, ◌+◌, ◌-◌, ◌*◌, ◌^◌, ◌<◌, ◌≤◌, false, None, cond, nat_eq, option_map, slice_index, ◌↔◌, All, IsNone, IfOk};
+ghost use Rattle.mesh_defs.specs.ClosedSet.{leaves_of, among};
 ghost use Rattle.mesh_defs.specs.Falling.{IsFalling};
 ghost use Rattle.edge_laws.specs.Slots.{split_set, IsPool};
 ghost use Rattle.closure_laws.specs.Frame.{IsFrame};
@@ -11,9 +11,11 @@ ghost use Rattle.deferred_loop.specs.Seen.{HasRoom, IsCountedBy};
 ghost use Rattle.deferred_loop.specs.Choice.{IsSparing};
 ghost use Rattle.deferred_loop.specs.Promise.{IsAtMost, IsAtLeast, AreStampsGood};
 ghost use Rattle.roam_mesh.specs.Mesh.{stamp_of, members_of, pool_set, seen_of, with_expired, OnlyEntriesStamped};
+ghost use Rattle.roam_mesh.specs.Chosen.{SparesChosen};
 
 use crate::queued::QueuedParts;
 use bintree_addr::Tri;
+use closure_laws::frame_laws;
 use deferred_loop::{Gauge, Steps, advance};
 use roam_edge::NoMemory;
 use std::alloc::Global;
@@ -77,8 +79,9 @@ impl Mesh {
 
     /// Makes the mesh of one frame from that of the frame before.
     ///
-    /// `run` and `frame`: the set is the rank closure of the budget, reached by the steps of the frame. `sparing`: it changes no
-    /// more than it must. `most` and `least`: how often the gauge was asked. `stamps`: each entry has a stamp that is not due; `only`:
+    /// `run` and `frame`: the set is the rank closure of the budget, reached by the steps of the frame. `sparing` and `spares`: it
+    /// changes no more than it must, and merges no diamond that holds a triangle which greedy splitting picks. `unblocked`: nothing
+    /// blocks exactly where no leaf is worth a split. `most` and `least`: how often the gauge was asked. `stamps`: each entry has a stamp that is not due; `only`:
     /// nothing else has one.
     pub fn advance<G: Gauge>(&mut self, gauge: &mut G, budget: u32, odometer: u64) -> Steps
         requires grid { (G.told gauge.old).n ≡ self.old.pool.n }
@@ -98,8 +101,12 @@ impl Mesh {
             (members_of self.old.pool) (members_of self.new.pool) result.splits result.merges }
         ensures frame { IsFrame self.old.pool.n budget (G.told gauge.old).of
             (among (members_of self.new.pool)) result.worst result.blocked }
+        ensures unblocked { IsNone result.blocked
+            ↔ All (λ a. (G.told gauge.old).of a ≡ 0) (leaves_of self.old.pool.n (among (members_of self.new.pool))) }
         ensures sparing { IsSparing self.old.pool.n budget (G.told gauge.old).of
             (members_of self.old.pool) (members_of self.new.pool) result.splits result.merges }
+        ensures spares { SparesChosen self.old.pool.n budget (G.told gauge.old).of
+            (members_of self.old.pool) (members_of self.new.pool) }
         ensures most { IsAtMost (G.told gauge.old) (G.readings gauge.old) odometer (seen_of self.old) budget
             (result.splits + result.merges) (G.count gauge.old) (G.count gauge.new) }
         ensures least { IsAtLeast (seen_of self.old) (seen_of self.new) (G.count gauge.old) (G.count gauge.new) }
@@ -107,6 +114,7 @@ impl Mesh {
         ensures stamps { AreStampsGood (G.readings gauge.old) odometer (seen_of self.old) (seen_of self.new) }
         ensures only { OnlyEntriesStamped self.new }
     {
+        frame_laws();
         let _before = self.queued.pool();
         let steps = advance(&mut self.queued, gauge, budget, odometer);
         let _after = self.queued.pool();

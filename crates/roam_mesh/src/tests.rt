@@ -330,12 +330,12 @@ fn three_frames_of_two_peaks(rt: HostRuntime) -> Result<(), Fail> {
     let own = from_upper_right(alloc)?;
     let mut run = first_of_two_peaks(&rt, alloc)?;
     run.renew(own.clone()?, own.clone()?);
-    let second = run.frame(&rt, own.as_slice(), 1000, 9, 8);
+    let second = run.frame(&rt, own.as_slice(), 0, 9, 8);
     check_told(&rt, &second, (5, 5, 436906, Some((4, 10))));
     check_set(&rt, alloc, &run, &[2, 3, 6, 7, 12, 15, 25])?;
     assert_eq!(rt; run.mesh.pool().splits(), 12);
     assert_eq!(rt; run.mesh.pool().merges(), 5);
-    let third = run.frame(&rt, own.as_slice(), 1000, 9, 8);
+    let third = run.frame(&rt, own.as_slice(), 0, 9, 8);
     check_told(&rt, &third, (0, 0, 436906, Some((4, 10))));
     assert!(rt; third.asked <= 2);
     Ok(())

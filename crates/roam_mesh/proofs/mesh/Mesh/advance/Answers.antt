@@ -1,11 +1,23 @@
-use Rattle.std.proofs.Common.{◌+◌, sym, subst}
+use Rattle.std.proofs.Common.{ℕ, ◌+◌, List, sym, subst}
+use Rattle.mesh_defs.specs.ClosedSet.{among}
+use Rattle.mesh_defs.specs.GridSet.{IsGridSet}
+use Rattle.mesh_defs.specs.Falling.{IsFalling}
+use Rattle.closure_laws.specs.Frame.{IsFrame}
 use Rattle.frame_steps.specs.Stamps.{StampsHold}
+use Rattle.frame_steps.proofs.RunLemmas.{run_set}
+use Rattle.frame_steps.proofs.FrameLemmas.{merge_spares}
 use Rattle.deferred_loop.specs.Promise.{IsAtMost, IsAtLeast, AreStampsGood}
-use Rattle.roam_mesh.specs.Mesh.{MeshState, stamp_of, seen_of}
+use Rattle.roam_mesh.specs.Mesh.{MeshState, stamp_of, members_of, seen_of}
+use Rattle.roam_mesh.specs.Chosen.{SparesChosen}
 use Rattle.roam_mesh.specs.Parts.{mesh_of}
 use Rattle.edge_laws.proofs.SlotLemmas.{split_list-closed}
 use Rattle.roam_mesh.proofs.MeshLemmas.{stamps_hold, at_most, at_least, stamps_good}
 use Rattle.roam_mesh.proofs.mesh.Mesh.advance.Goals as goal
+
+-- a frame comes through closed sets, and from such a set no merge is of a diamond that holds a chosen triangle
+spared : (n budget : ℕ) (priority : ℕ → ℕ) (start last : List ℕ) → IsGridSet n start → IsFalling n priority → SparesChosen n budget priority start last
+spared n budget priority start last set falls ranking chosen ranked closure before after added removed reached =
+    merge_spares n budget priority ranking chosen (among last) before after ranked falls closure (run_set n budget priority start before added removed set reached)
 
 pub advance-steps-requires-clause-stamps : goal.advance-steps-requires-clause-stamps
 advance-steps-requires-clause-stamps g c = stamps_hold (g.G.Gauge.told c.args.gauge.now).of c.args.odometer c.self.inside.queued
@@ -30,3 +42,20 @@ pub returns-clause-stamps : goal.returns-clause-stamps
 returns-clause-stamps g c =
     subst (λ (z : MeshState). AreStampsGood (g.G.Gauge.readings c.args.gauge.now) c.args.odometer (seen_of z) (seen_of (mesh_of c.advance-steps.new.mesh))) c.self.view_is
     (stamps_good (g.G.Gauge.readings c.args.gauge.now) c.args.odometer c.self.inside.queued c.advance-steps.new.mesh c.advance-steps.ensures.stamps)
+
+pub returns-clause-unblocked : goal.returns-clause-unblocked
+returns-clause-unblocked g c =
+    let told = g.G.Gauge.told c.args.gauge.now in
+    let steps = c.advance-steps.result in
+    c.frame_laws.ensures.unblocked c.args.self.now.pool.n c.args.budget told.of (among (members_of (mesh_of c.advance-steps.new.mesh).pool)) steps.worst steps.blocked
+    (subst (λ (z : MeshState). IsFrame z.pool.n c.args.budget told.of (among (members_of (mesh_of c.advance-steps.new.mesh).pool)) steps.worst steps.blocked)
+    c.self.view_is c.advance-steps.ensures.frame)
+    (subst (λ n. IsFalling n told.of) c.requires.grid c.requires.falls) c.requires.budget
+
+pub returns-clause-spares : goal.returns-clause-spares
+returns-clause-spares g c =
+    let told = g.G.Gauge.told c.args.gauge.now in
+    spared c.args.self.now.pool.n c.args.budget told.of (members_of c.args.self.now.pool) (members_of (mesh_of c.advance-steps.new.mesh).pool)
+    (subst (λ (z : MeshState). IsGridSet z.pool.n (members_of z.pool)) c.self.view_is
+    (split_list-closed c.self.inside.queued.pool.n c.self.inside.queued.pool.pairs c.pool-before.ensures.valid))
+    (subst (λ n. IsFalling n told.of) c.requires.grid c.requires.falls)
