@@ -16,6 +16,6 @@ mod tests;
 mod verdict;
 
 pub use cert::make_cert;
-pub use cert_text::Cert;
+pub use cert_text::{Cert, CertFault, CertReader, write_cert};
 pub use certificate_laws::{Kind, Reason, Reject, Verdict};
 pub use verdict::check;
