@@ -56,7 +56,7 @@ pub(crate) fn read_grid<F: Shelf>(
     let Ok(()) = shelf.open_named(name) else {
         return Err(GridStop::Failed);
     };
-    // No refusal of a file's bytes is want of memory.
+    // No refusal of a file's bytes says that a call was out of memory.
     grids_and_texts();
     let mut reader = PgmReader::new(alloc);
     let mut buffer = [0; PIECE];
