@@ -50,9 +50,14 @@ pub(crate) fn wide_corner() -> &'static [u8] {
     b"P5\n5 5\n255\n\0\0\0\0\0\0\0\0\0\0\0\0\0\0\0\0\0\0\0\0\x01\0\0\0\0"
 }
 
-/// The mesh of the flat grid.
+/// The mesh of the flat grid, and that of the hill at budget 2.
 pub(crate) fn flat_mesh() -> &'static [u8] {
     b"v 0 0 0\nv 2 0 0\nv 0 2 0\nv 2 2 0\nf 1 2 3\nf 4 3 2\n"
+}
+
+/// The finest mesh of the hill.
+pub(crate) fn hill_mesh() -> &'static [u8] {
+    b"v 0 0 0\nv 2 0 0\nv 1 1 10\nv 0 2 0\nv 2 2 0\nf 3 1 2\nf 3 4 1\nf 3 5 4\nf 3 2 5\n"
 }
 
 /// The words of a command that is accepted.

@@ -335,3 +335,41 @@ fn a_measure_tells_the_deviation_over_its_denominator_and_the_thickness(
     }
     Ok(())
 }
+
+/// A run of `least` over one frame of a grid with this tolerance, and its report.
+#[derive(Clone, Copy)]
+struct LeastCase {
+    grid: &'static [u8],
+    tolerance: &'static str,
+    line: &'static str,
+}
+
+#[test]
+fn a_least_mesh_has_the_fewest_triangles_within_the_tolerance(rt: HostRuntime) -> Result<(), Fail> {
+    let cases = [
+        LeastCase {
+            grid: hill(),
+            tolerance: "1310719",
+            line: "frame 1 least 4 vertices 5 worst 0\n",
+        },
+        LeastCase {
+            grid: hill(),
+            tolerance: "1310720",
+            line: "frame 1 least 2 vertices 4 worst 1310720\n",
+        },
+        LeastCase {
+            grid: corner_hill(),
+            tolerance: "0",
+            line: "frame 1 least 9 vertices 9 worst 0\n",
+        },
+    ];
+    for case in cases {
+        let words = ["least", "g", "s", "out", case.tolerance, "1"];
+        let ran = run_words(rt.alloc(), &words, case.grid, b"frame\n", Faults::none())?;
+        assert_eq!(rt; ran.status, Status::Done, "{:?}", case.line);
+        assert_eq!(rt; ran.report.as_slice(), case.line.as_bytes());
+        assert_eq!(rt; ran.meshes.len(), 1, "{:?}", case.line);
+        assert_eq!(rt; ran.engine, None, "{:?}", case.line);
+    }
+    Ok(())
+}

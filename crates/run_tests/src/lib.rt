@@ -11,6 +11,8 @@ mod calm;
 #[cfg(test)]
 mod calm_tests;
 #[cfg(test)]
+mod certify_tests;
+#[cfg(test)]
 mod engine_tests;
 #[cfg(test)]
 mod fault_tests;
