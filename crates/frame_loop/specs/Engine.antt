@@ -1,6 +1,6 @@
 -- An engine between two calls: the state of its script, its mesh, and its counts.
 -- All of it is this project's own.
--- Words: EngineState, IsEngine, IsLeafList, engine_of, IsExpired, AreAllExpired, IsFrameDone.
+-- Words: EngineState, mesh_seen, IsEngine, IsLeafList, engine_of, IsExpired, AreAllExpired, IsFrameDone.
 use Rattle.std.specs.Prelude.{◌≡◌, ℕ, ◌+◌, ◌*◌, ◌^◌, ◌≤◌, min, Bool, cond, List, length, option_map, true, Some}
 use Rattle.mesh_defs.specs.declared.mark.Mark.TheVariants.{Inside, Cut, Outside}
 use Rattle.mesh_defs.specs.State.{State, priority_in}
@@ -28,6 +28,10 @@ pub record EngineState : Type 0 where
   pub odometer : ℕ
   pub frames : ℕ
   pub evaluations : ℕ
+
+-- the triangles of an engine's mesh, depth first, as its view has them
+abbrev pub mesh_seen : EngineState → List ℕ
+mesh_seen e = leaves_of e.state.grid.n (among (members_of e.mesh.pool))
 
 -- What holds of every engine: its budgets, its counts after so many frames, and that its stamps bracket the priorities.
 pub record IsEngine (e : EngineState) : Type 0 where

@@ -1,6 +1,6 @@
 //! The engine.
 
-ghost use Rattle.std.specs.Prelude.{◌≡◌, ℕ, ◌+◌, ◌*◌, ◌<◌, ◌≤◌, ◌^◌, min, false, All, None, IfOk, length};
+ghost use Rattle.std.specs.Prelude.{◌≡◌, ℕ, ◌+◌, ◌-◌, ◌*◌, ◌<◌, ◌≤◌, ◌^◌, min, false, All, None, IfOk, length};
 ghost use Rattle.mesh_defs.specs.View.{start_view};
 ghost use Rattle.mesh_defs.specs.State.{start_state, with_camera, with_budget, move_length};
 ghost use Rattle.mesh_defs.specs.Triangle.{level_of};
@@ -8,7 +8,8 @@ ghost use Rattle.mesh_defs.specs.ClosedSet.{leaves_of, among};
 ghost use Rattle.edge_laws.specs.Slots.{split_set};
 ghost use Rattle.obj_write.specs.Numbers.{numbers_of};
 ghost use Rattle.mesh_defs.specs.HeightField.{side_of};
-ghost use Rattle.roam_mesh.specs.Mesh.{stamp_of, members_of};
+ghost use Rattle.roam_mesh.specs.Mesh.{stamp_of, members_of, OnlyEntriesStamped};
+ghost use Rattle.frame_loop.specs.Outlook.{outlook_of, AreBracketed};
 
 use crate::laws::outlook_laws;
 use crate::listing::list_and_number;
@@ -183,14 +184,17 @@ impl Engine {
 
     /// How often a priority was evaluated.
     pub fn evaluations(&self) -> u64
-        ensures { result ≡ self.now.evaluations }
+        ensures value { result ≡ self.now.evaluations }
+        ensures bounded { result < 2 ^ 64 - 1 }
     {
         self.meter.count()
     }
 
-    /// The pool of the mesh.
+    /// The pool of the mesh. `kept` and `only` tell of the stamps of its triangles, before the first frame and between frames.
     pub fn pool(&self) -> &Pool
-        ensures { result.now ≡ self.now.mesh.pool }
+        ensures pool { result.now ≡ self.now.mesh.pool }
+        ensures kept { AreBracketed (outlook_of self.now.state) self.now.odometer self.now.mesh }
+        ensures only { OnlyEntriesStamped self.now.mesh }
     {
         self.mesh.pool()
     }

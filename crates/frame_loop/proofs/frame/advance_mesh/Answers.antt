@@ -1,8 +1,11 @@
 use Rattle.std.proofs.Common.{◌≡◌, ℕ, ◌+◌, sym, ◌∙◌, subst, arith}
+use Rattle.mesh_defs.specs.ClosedSet.{among}
 use Rattle.mesh_defs.specs.Falling.{IsFalling}
+use Rattle.closure_laws.specs.Frame.{IsFrame}
 use Rattle.frame_steps.proofs.MeasureLemmas.{run_small}
 use Rattle.deferred_loop.specs.Promise.{IsAtMost, AreStampsGood}
 use Rattle.roam_mesh.specs.Mesh.{members_of, seen_of}
+use Rattle.roam_mesh.specs.Chosen.{SparesChosen}
 use Rattle.frame_loop.specs.Outlook.{OutlookState, told_of, readings_of, priority_seen, AreBracketed}
 use Rattle.edge_laws.proofs.SlotLemmas.{split_list-closed}
 use Rattle.frame_loop.proofs.PoolLemmas.{same_members_leaves}
@@ -15,6 +18,29 @@ advance-steps-requires-clause-readings c = c.outlook_laws.ensures.readings c.new
 pub advance-steps-requires-clause-stamps : goal.advance-steps-requires-clause-stamps
 advance-steps-requires-clause-stamps c = c.outlook_laws.ensures.stamps c.new-gauge.result.outlook.now c.args.odometer c.args.mesh.now
     (subst (λ (o : OutlookState). AreBracketed o c.args.odometer c.args.mesh.now) (sym c.new-gauge.ensures.outlook) c.requires.kept)
+
+pub returns-clause-frame : goal.returns-clause-frame
+returns-clause-frame c =
+    let steps = c.advance-steps.result in
+    let after = c.advance-steps.new.self.pool in
+    subst (λ (o : OutlookState). IsFrame c.args.outlook.now.grid.n c.args.budget (priority_seen o) (among (members_of after)) steps.worst steps.blocked) c.new-gauge.ensures.outlook
+    (subst (λ n. IsFrame n c.args.budget (priority_seen c.new-gauge.result.outlook.now) (among (members_of after)) steps.worst steps.blocked) c.requires.n c.advance-steps.ensures.frame)
+
+pub returns-clause-best : goal.returns-clause-best
+returns-clause-best c = c.frame_laws.ensures.best _ _ _ _ _ _ (returns-clause-frame c) (c.outlook_laws.ensures.falls c.args.outlook.now) c.requires.some
+
+pub returns-clause-unblocked : goal.returns-clause-unblocked
+returns-clause-unblocked c = c.frame_laws.ensures.unblocked _ _ _ _ _ _ (returns-clause-frame c) (c.outlook_laws.ensures.falls c.args.outlook.now) c.requires.some
+
+pub returns-clause-certificate : goal.returns-clause-certificate
+returns-clause-certificate c = c.frame_laws.ensures.certificate _ _ _ _ _ _ (returns-clause-frame c) (c.outlook_laws.ensures.falls c.args.outlook.now) c.requires.some
+
+pub returns-clause-spares : goal.returns-clause-spares
+returns-clause-spares c =
+    let before = c.args.mesh.now.pool in
+    let after = c.advance-steps.new.self.pool in
+    subst (λ (o : OutlookState). SparesChosen c.args.outlook.now.grid.n c.args.budget (priority_seen o) (members_of before) (members_of after)) c.new-gauge.ensures.outlook
+    (subst (λ n. SparesChosen n c.args.budget (priority_seen c.new-gauge.result.outlook.now) (members_of before) (members_of after)) c.requires.n c.advance-steps.ensures.spares)
 
 pub returns-clause-most : goal.returns-clause-most
 returns-clause-most c =

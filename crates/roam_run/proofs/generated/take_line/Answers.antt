@@ -27,7 +27,7 @@ pub returns-in-Frame : goal.returns-in-Frame
 returns-in-Frame c =
     let add = c.add.ensures in
     gone-frame c.args.n c.args.seed c.args.k c.args.engine.now c.args.sums.now c.requires.here c.frame.new.self c.frame.result c.add.new.self
-    (same-place c.args.n c.args.seed c.args.k c.gen_line.result c.gen_line.ensures.value ∙ ap Some c.in-Frame.is) c.frame.ensures
+    (same-place c.args.n c.args.seed c.args.k c.gen_line.result c.gen_line.ensures.value ∙ ap Some c.in-Frame.is) c.frame.ensures.done
     add.frames add.triangles add.few add.worst add.blocked
 
 pub returns-in_default : goal.returns-in_default

@@ -32,8 +32,8 @@ count_marks-marks-requires-clause-levels c =
     let listed = ap (take call.result.0) whole ∙ call.ensures.listing.leaf_list ∙ ap (λ k. leaves_of k (split_set c.pool.result.now.pairs)) same_n in
     subst (All (λ a. level_of a ≤ 2 * n)) (sym listed) (leaves_levels n (split_set c.pool.result.now.pairs))
 
-pub returns : goal.returns
-returns c =
+pub returns-clause-done : goal.returns-clause-done
+returns-clause-done c =
     let call = c.list_changed-leaf_count in
     let pool : PoolState = c.advance_mesh-steps.new.mesh.pool in
     let n : ℕ = c.self.inside.outlook.grid.n in
@@ -63,3 +63,21 @@ returns c =
       cut = c.count_marks-marks.ensures.cut ∙ ap (marks_seen c.self.inside.outlook Cut) listed;
       outside = c.count_marks-marks.ensures.outside ∙ ap (marks_seen c.self.inside.outlook Outside) listed;
     })
+
+pub returns-clause-best : goal.returns-clause-best
+returns-clause-best c = c.advance_mesh-steps.ensures.best
+
+pub returns-clause-unblocked : goal.returns-clause-unblocked
+returns-clause-unblocked c = rw c.note.ensures c.advance_mesh-steps.ensures.unblocked
+
+pub returns-clause-certificate : goal.returns-clause-certificate
+returns-clause-certificate c = rw c.note.ensures c.advance_mesh-steps.ensures.certificate
+
+pub returns-clause-spares : goal.returns-clause-spares
+returns-clause-spares c = rw (← c.self.view_is) c.advance_mesh-steps.ensures.spares
+
+pub returns-clause-kept : goal.returns-clause-kept
+returns-clause-kept c = c.advance_mesh-steps.ensures.kept
+
+pub returns-clause-only : goal.returns-clause-only
+returns-clause-only c = c.advance_mesh-steps.ensures.only
