@@ -14,7 +14,7 @@ use Rattle.deferred_loop.specs.Seen.{IsCountedBy}
 use Rattle.deferred_loop.specs.Choice.{IsSparing}
 use Rattle.deferred_loop.specs.Promise.{IsAtMost, IsAtLeast, AreStampsGood}
 use Rattle.obj_write.specs.Numbers.{numbers_of}
-use Rattle.roam_mesh.specs.Mesh.{MeshState, stamp_of, members_of, pool_set, seen_of, with_expired, OnlyEntriesStamped}
+use Rattle.roam_mesh.specs.Mesh.{MeshState, stamp_of, pool_members, pool_set, seen_of, with_expired, OnlyEntriesStamped}
 use Rattle.frame_loop.specs.Outlook.{OutlookState, outlook_of, told_of, readings_of, AreBracketed}
 use Rattle.frame_loop.specs.Marks.{marks_seen}
 use Rattle.frame_loop.specs.declared.note.FrameNote.{FrameNote}
@@ -31,7 +31,7 @@ pub record EngineState : Type 0 where
 
 -- the triangles of an engine's mesh, depth first, as its view has them
 abbrev pub mesh_seen : EngineState → List ℕ
-mesh_seen e = leaves_of e.state.grid.n (among (members_of e.mesh.pool))
+mesh_seen e = leaves_of e.state.grid.n (among (pool_members e.mesh.pool))
 
 -- What holds of every engine: its budgets, its counts after so many frames, and that its stamps bracket the priorities.
 pub record IsEngine (e : EngineState) : Type 0 where
@@ -85,15 +85,15 @@ pub record IsFrameDone (before after : EngineState) (note : FrameNote) : Type 0 
   pub odometer : after.odometer ≡ before.odometer
   pub frames : after.frames ≡ before.frames + 1
   pub counters : IsCountedBy (pool_set before.mesh.pool) (pool_set after.mesh.pool) note.splits note.merges
-  pub run : IsFrameRun before.state.grid.n before.state.budget (priority_in before.state) (members_of before.mesh.pool) (members_of after.mesh.pool) note.splits note.merges
-  pub frame : IsFrame before.state.grid.n before.state.budget (priority_in before.state) (among (members_of after.mesh.pool)) note.worst note.blocked
-  pub sparing : IsSparing before.state.grid.n before.state.budget (priority_in before.state) (members_of before.mesh.pool) (members_of after.mesh.pool) note.splits note.merges
+  pub run : IsFrameRun before.state.grid.n before.state.budget (priority_in before.state) (pool_members before.mesh.pool) (pool_members after.mesh.pool) note.splits note.merges
+  pub frame : IsFrame before.state.grid.n before.state.budget (priority_in before.state) (among (pool_members after.mesh.pool)) note.worst note.blocked
+  pub sparing : IsSparing before.state.grid.n before.state.budget (priority_in before.state) (pool_members before.mesh.pool) (pool_members after.mesh.pool) note.splits note.merges
   pub most_asked : IsAtMost (told_of (outlook_of before.state)) (readings_of (outlook_of before.state)) before.odometer (seen_of before.mesh) before.state.budget
       (note.splits + note.merges) before.evaluations after.evaluations
   pub least_asked : IsAtLeast (seen_of before.mesh) (seen_of after.mesh) before.evaluations after.evaluations
   pub stamps : AreStampsGood (readings_of (outlook_of before.state)) before.odometer (seen_of before.mesh) (seen_of after.mesh)
-  pub triangles : note.triangles ≡ length (leaves_of before.state.grid.n (among (members_of after.mesh.pool)))
-  pub vertices : note.vertices ≡ length (vertices_of before.state.grid.n (leaves_of before.state.grid.n (among (members_of after.mesh.pool))))
-  pub inside : note.inside ≡ marks_seen (outlook_of before.state) Inside (leaves_of before.state.grid.n (among (members_of after.mesh.pool)))
-  pub cut : note.cut ≡ marks_seen (outlook_of before.state) Cut (leaves_of before.state.grid.n (among (members_of after.mesh.pool)))
-  pub outside : note.outside ≡ marks_seen (outlook_of before.state) Outside (leaves_of before.state.grid.n (among (members_of after.mesh.pool)))
+  pub triangles : note.triangles ≡ length (leaves_of before.state.grid.n (among (pool_members after.mesh.pool)))
+  pub vertices : note.vertices ≡ length (vertices_of before.state.grid.n (leaves_of before.state.grid.n (among (pool_members after.mesh.pool))))
+  pub inside : note.inside ≡ marks_seen (outlook_of before.state) Inside (leaves_of before.state.grid.n (among (pool_members after.mesh.pool)))
+  pub cut : note.cut ≡ marks_seen (outlook_of before.state) Cut (leaves_of before.state.grid.n (among (pool_members after.mesh.pool)))
+  pub outside : note.outside ≡ marks_seen (outlook_of before.state) Outside (leaves_of before.state.grid.n (among (pool_members after.mesh.pool)))

@@ -8,7 +8,7 @@ ghost use Rattle.mesh_defs.specs.ClosedSet.{leaves_of, among};
 ghost use Rattle.edge_laws.specs.Slots.{split_set};
 ghost use Rattle.obj_write.specs.Numbers.{numbers_of};
 ghost use Rattle.mesh_defs.specs.HeightField.{side_of};
-ghost use Rattle.roam_mesh.specs.Mesh.{stamp_of, members_of, OnlyEntriesStamped};
+ghost use Rattle.roam_mesh.specs.Mesh.{stamp_of, pool_members, OnlyEntriesStamped};
 ghost use Rattle.frame_loop.specs.Outlook.{outlook_of, AreBracketed};
 
 use crate::laws::outlook_laws;
@@ -206,7 +206,7 @@ impl Engine {
         ensures planes { result.planes.now ≡ self.now.state.view.planes }
         ensures spacing { result.spacing ≡ self.now.state.view.spacing }
         ensures numbers { result.numbers.now ≡ numbers_of self.now.state.grid.n result.leaves.now }
-        ensures members { result.leaves.now ≡ leaves_of self.now.state.grid.n (among (members_of self.now.mesh.pool)) }
+        ensures members { result.leaves.now ≡ leaves_of self.now.state.grid.n (among (pool_members self.now.mesh.pool)) }
         ensures levels { All (λ a. level_of a ≤ 2 * self.now.state.grid.n) result.leaves.now }
         ensures spacing_low { 1 ≤ result.spacing }
         ensures spacing_high { result.spacing ≤ 1024 }

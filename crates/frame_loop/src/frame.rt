@@ -10,7 +10,7 @@ ghost use Rattle.frame_steps.specs.Steps.{IsFrameRun};
 ghost use Rattle.deferred_loop.specs.Seen.{HasRoom, IsCountedBy};
 ghost use Rattle.deferred_loop.specs.Choice.{IsSparing};
 ghost use Rattle.deferred_loop.specs.Promise.{IsAtMost, IsAtLeast, AreStampsGood};
-ghost use Rattle.roam_mesh.specs.Mesh.{members_of, pool_set, seen_of, OnlyEntriesStamped};
+ghost use Rattle.roam_mesh.specs.Mesh.{pool_members, pool_set, seen_of, OnlyEntriesStamped};
 ghost use Rattle.roam_mesh.specs.Chosen.{SparesChosen};
 ghost use Rattle.frame_loop.specs.Outlook.{outlook_of, told_of, readings_of, priority_seen, AreBracketed};
 ghost use Rattle.frame_loop.specs.Engine.{mesh_seen, IsFrameDone};
@@ -53,7 +53,7 @@ impl Engine {
         ensures certificate { IfSome result.blocked (λ b. (self.new.state.budget < b.need)
             × (priority_in self.new.state b.tri ≡ result.worst) × Contains (mesh_seen self.new) b.tri) }
         ensures spares { let now = self.new.state in SparesChosen now.grid.n now.budget (priority_in now)
-            (members_of self.old.mesh.pool) (members_of self.new.mesh.pool) }
+            (pool_members self.old.mesh.pool) (pool_members self.new.mesh.pool) }
         ensures kept { AreBracketed (outlook_of self.new.state) self.new.odometer self.new.mesh }
         ensures only { OnlyEntriesStamped self.new.mesh }
     {
@@ -99,19 +99,19 @@ fn advance_mesh(
     ensures n { mesh.new.pool.n ≡ mesh.old.pool.n }
     ensures counters { IsCountedBy (pool_set mesh.old.pool) (pool_set mesh.new.pool) result.splits result.merges }
     ensures run { IsFrameRun outlook.now.grid.n budget (priority_seen outlook.now)
-        (members_of mesh.old.pool) (members_of mesh.new.pool) result.splits result.merges }
+        (pool_members mesh.old.pool) (pool_members mesh.new.pool) result.splits result.merges }
     ensures frame { IsFrame outlook.now.grid.n budget (priority_seen outlook.now)
-        (among (members_of mesh.new.pool)) result.worst result.blocked }
+        (among (pool_members mesh.new.pool)) result.worst result.blocked }
     ensures best { IsBestMesh outlook.now.grid.n budget (priority_seen outlook.now)
-        (leaves_of outlook.now.grid.n (among (members_of mesh.new.pool))) }
+        (leaves_of outlook.now.grid.n (among (pool_members mesh.new.pool))) }
     ensures unblocked { IsNone result.blocked
-        ↔ All (λ a. priority_seen outlook.now a ≡ 0) (leaves_of outlook.now.grid.n (among (members_of mesh.new.pool))) }
+        ↔ All (λ a. priority_seen outlook.now a ≡ 0) (leaves_of outlook.now.grid.n (among (pool_members mesh.new.pool))) }
     ensures certificate { IfSome result.blocked (λ b. (budget < b.need) × (priority_seen outlook.now b.tri ≡ result.worst)
-        × Contains (leaves_of outlook.now.grid.n (among (members_of mesh.new.pool))) b.tri) }
+        × Contains (leaves_of outlook.now.grid.n (among (pool_members mesh.new.pool))) b.tri) }
     ensures sparing { IsSparing outlook.now.grid.n budget (priority_seen outlook.now)
-        (members_of mesh.old.pool) (members_of mesh.new.pool) result.splits result.merges }
+        (pool_members mesh.old.pool) (pool_members mesh.new.pool) result.splits result.merges }
     ensures spares { SparesChosen outlook.now.grid.n budget (priority_seen outlook.now)
-        (members_of mesh.old.pool) (members_of mesh.new.pool) }
+        (pool_members mesh.old.pool) (pool_members mesh.new.pool) }
     ensures most { IsAtMost (told_of outlook.now) (readings_of outlook.now) odometer (seen_of mesh.old) budget
         (result.splits + result.merges) meter.old meter.new }
     ensures least { IsAtLeast (seen_of mesh.old) (seen_of mesh.new) meter.old meter.new }

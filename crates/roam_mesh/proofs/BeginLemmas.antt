@@ -12,7 +12,7 @@ use Rattle.lazy_priority.specs.Due.{IsDue, NoneIsDue}
 use Rattle.frame_steps.specs.Stamps.{is_due}
 use Rattle.frame_steps.specs.Deferred.{IsEntry}
 use Rattle.deferred_loop.specs.Seen.{IsQuiet, IsBegun}
-use Rattle.roam_mesh.specs.Mesh.{slot_of, pool_set, members_of}
+use Rattle.roam_mesh.specs.Mesh.{slot_of, pool_set, pool_members}
 use Rattle.roam_mesh.specs.Parts.{PartsState, entry_at, entry_of, is_leaf_at, is_entry_at, deadline_of, stamp_in, seen_parts, IsWhole, IsPlaced, IsNear, IsParts}
 use Rattle.roam_mesh.specs.Change.{chief_slot, taken_out, begun}
 use Rattle.roam_mesh.specs.declared.entry.Entry.{Entry}
@@ -171,7 +171,7 @@ beginning_end start now odometer whole none quiet is = record {
       let there = in_seen now.pool.pairs now.fresh a fresh in
       let entry_at_r = is.parts.entries there.0 there.1 in
       let slot = slot_of-at now.pool.n now.pool.pairs there.0 is.parts.pool (entry_live now.pool.pairs there.0 entry_at_r) in (
-        subst (λ z. IsEntry now.pool.n (among (members_of now.pool)) z) there.2 (entry_of-at now.pool there.0 is.parts.pool entry_at_r),
+        subst (λ z. IsEntry now.pool.n (among (pool_members now.pool)) z) there.2 (entry_of-at now.pool there.0 is.parts.pool entry_at_r),
         ap (is_due odometer) (sym (stamps a) ∙ ap (λ z. stamp_in (entry_at now (slot_of now.pool.pairs z))) (sym there.2) ∙ ap (λ z. stamp_in (entry_at now z)) slot ∙ ap stamp_in (is.entries there.0))
             ∙ is.due there.0 there.1,
       );

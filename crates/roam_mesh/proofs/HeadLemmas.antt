@@ -18,7 +18,7 @@ use Rattle.split_queue.specs.First.{IsFirstRank}
 use Rattle.force_split.specs.Chain.{chain_size}
 use Rattle.triangle_pool.specs.Slots.{PoolState}
 use Rattle.deferred_loop.specs.Seen.{upper_of, lower_of, best_key, worst_key, sure, IsHead}
-use Rattle.roam_mesh.specs.Mesh.{slot_of, members_of}
+use Rattle.roam_mesh.specs.Mesh.{slot_of, pool_members}
 use Rattle.roam_mesh.specs.Parts.{PartsState, stamp_in, best_of, worst_of, entry_at, entry_of, seen_parts, is_leaf_at, is_ready_at, is_chief_at, is_out, leaf_rank, diamond_rank, blank, IsWhole, IsPlaced, IsParts}
 use Rattle.roam_mesh.specs.Keys.{is_sure}
 use Rattle.roam_mesh.specs.declared.entry.Entry.{Entry}
@@ -185,7 +185,7 @@ split_some parts is settled none =
 -- ---- a leaf and its chain
 
 -- the slot of a leaf of the set has a leaf
-pub slot_leaf : (pool : PoolState) (s a : ℕ) → IsPool pool.n pool.pairs → Contains (leaves_of pool.n (among (members_of pool))) a → address_at pool.pairs s ≡ a → HasLeaf pool.pairs s
+pub slot_leaf : (pool : PoolState) (s a : ℕ) → IsPool pool.n pool.pairs → Contains (leaves_of pool.n (among (pool_members pool))) a → address_at pool.pairs s ≡ a → HasLeaf pool.pairs s
 slot_leaf pool s a is leaf at =
     let found = leaf_at-of pool a is leaf in
     let parts = leaf_parts pool.pairs (slot_of pool.pairs a) found.0 in

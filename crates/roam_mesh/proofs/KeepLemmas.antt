@@ -7,7 +7,7 @@ use Rattle.mesh_defs.proofs.ListLemmas.{among-in}
 use Rattle.closure_laws.proofs.SetListLemmas.{All-in}
 use Rattle.edge_laws.specs.Slots.{address_at}
 use Rattle.frame_steps.specs.Deferred.{IsEntry}
-use Rattle.roam_mesh.specs.Mesh.{members_of}
+use Rattle.roam_mesh.specs.Mesh.{pool_members}
 use Rattle.roam_mesh.specs.Parts.{PartsState, entry_at, is_entry_at, IsWhole, IsParts}
 use Rattle.roam_mesh.specs.Change.{pushed_all}
 use Rattle.roam_mesh.specs.Keeping.{CanTakeBack}
@@ -45,7 +45,7 @@ WasEntry before changed s = (is_entry_at before.pool.pairs s ≡ true) × (addre
 
 -- no fresh slot that has nothing back was one
 abbrev pub AreNew : PartsState → PartsState → (ℕ → Bool) → Type 0
-AreNew before changed kept = (r : ℕ) → kept r ≡ false → among changed.fresh r ≡ true → IsEntry before.pool.n (among (members_of before.pool)) (address_at changed.pool.pairs r) → ⊥
+AreNew before changed kept = (r : ℕ) → kept r ≡ false → among changed.fresh r ≡ true → IsEntry before.pool.n (among (pool_members before.pool)) (address_at changed.pool.pairs r) → ⊥
 
 module _ (before changed : PartsState) (gone : List ℕ) (whole : IsWhole before) (parts : IsParts before) (settled : before.fresh ≡ []) (is : IsChanged before changed gone) where
   -- what was kept of a slot can come back to it

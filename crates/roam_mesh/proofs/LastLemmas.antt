@@ -16,7 +16,7 @@ use Rattle.slot_heap.specs.Keys.{IsEmpty}
 use Rattle.edge_laws.specs.Chief.{chief_of}
 use Rattle.merge_queue.specs.Last.{IsLastRank}
 use Rattle.deferred_loop.specs.Seen.{best_key, worst_key, IsDecided, IsLastHead}
-use Rattle.roam_mesh.specs.Mesh.{slot_of, members_of}
+use Rattle.roam_mesh.specs.Mesh.{slot_of, pool_members}
 use Rattle.roam_mesh.specs.Parts.{PartsState, entry_at, entry_of, best_of, worst_of, seen_parts, is_ready_at, is_out, worst_rank, diamond_rank, IsParts}
 use Rattle.roam_mesh.specs.Change.{chief_slot}
 use Rattle.roam_mesh.specs.Keys.{is_sure, IsOfDiamond, IsKnownRank, IsUnasked}
@@ -65,7 +65,7 @@ module _ (parts : PartsState) (is : IsParts parts) (none : parts.fresh ≡ []) w
       (and_right (nat_lt 0 (mate_of (address_at parts.pool.pairs s))) (among parts.fresh mate) (settled_placed parts mate none))
 
   -- each diamond that can be merged stands in the queue
-  merge_queued : (a : ℕ) → CanMerge parts.pool.n (among (members_of parts.pool)) a →
+  merge_queued : (a : ℕ) → CanMerge parts.pool.n (among (pool_members parts.pool)) a →
       (2 ≤ a) × (level_of a ≤ 2 * parts.pool.n) × ((s : ℕ) × (slice_index_or parts.merge s None ≡ Some (diamond_rank parts a)))
   merge_queued a can =
       let at = ready_at-of parts.pool a is.pool can in
@@ -80,7 +80,7 @@ module _ (parts : PartsState) (is : IsParts parts) (none : parts.fresh ≡ []) w
       )
 
   -- so where the queue is empty none can be merged
-  pub none_merges : IsEmpty parts.merge → (a : ℕ) → CanMerge parts.pool.n (among (members_of parts.pool)) a → ⊥
+  pub none_merges : IsEmpty parts.merge → (a : ℕ) → CanMerge parts.pool.n (among (pool_members parts.pool)) a → ⊥
   none_merges empty a can =
       let q = merge_queued a can in
       none_some (diamond_rank parts a) (sym (empty (record { 0 = q.2.0 })) ∙ q.2.1)
@@ -94,7 +94,7 @@ module _ (parts : PartsState) (is : IsParts parts) (none : parts.fresh ≡ []) w
       MatchOption unasked (IsKnownRank parts head.0) (λ t. (s : Slot) × IsUnasked parts head.0 s × (t ≡ address_at parts.pool.pairs s.0)) →
       IsLastHead (seen_parts parts) (record { rank = rank; unasked = unasked })
   last_head head rank unasked last next = record {
-    mergeable = subst (CanMerge parts.pool.n (among (members_of parts.pool))) (at head rank last).3 (ready_of-at parts.pool (at head rank last).0 is.pool (at head rank last).2);
+    mergeable = subst (CanMerge parts.pool.n (among (pool_members parts.pool))) (at head rank last).3 (ready_of-at parts.pool (at head rank last).0 is.pool (at head rank last).2);
     value = value head rank last;
     better = λ b inside. subst (λ z. IsNoLater z rank.tri (worst_key (seen_parts parts) b) b) (value head rank last)
         (subst (λ z. IsNoLater rank.p rank.tri z b) (sym (worst_key_seen parts b))

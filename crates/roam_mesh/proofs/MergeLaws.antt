@@ -16,7 +16,7 @@ use Rattle.edge_laws.proofs.IsMateLemmas.{IsMate-mate_of, mate_of-IsMate}
 use Rattle.edge_laws.proofs.SlotLemmas.{size_one, size_two, split_list-closed}
 use Rattle.triangle_pool.specs.Slots.{PoolState}
 use Rattle.deferred_loop.specs.Seen.{IsMergeOf}
-use Rattle.roam_mesh.specs.Mesh.{slot_of, members_of}
+use Rattle.roam_mesh.specs.Mesh.{slot_of, pool_members}
 use Rattle.roam_mesh.specs.Parts.{PartsState, entry_at, seen_parts, is_ready_at, is_entry_at, IsWhole, IsParts}
 use Rattle.roam_mesh.specs.Change.{above_slots, with_children, left_all, pushed_all, seated}
 use Rattle.roam_mesh.specs.Keeping.{CanTakeBack}
@@ -35,7 +35,7 @@ use Rattle.roam_mesh.proofs.MergeRoleLemmas as roles
 -- how many members a merge takes away, and that there are as many slots
 
 record IsSized (before after : PoolState) (a : ℕ) : Type 0 where
-  members : length (members_of before) ≡ length (members_of after) + diamond_size a
+  members : length (pool_members before) ≡ length (pool_members after) + diamond_size a
   pairs : length after.pairs ≡ length before.pairs
 
 merge_sized : (before after : PoolState) (s : ℕ) → IsPooled before after s → IsPool before.n before.pairs → is_ready_at before.pairs s ≡ true → IsSized before after (address_at before.pairs s)
@@ -43,20 +43,20 @@ merge_sized before after s pooled old ready =
     let a : ℕ = address_at before.pairs s in
     let first = split_list-closed before.n before.pairs old in
     let then = split_list-closed after.n after.pairs pooled.valid in
-    let longer = without_diamond-length before.n (members_of before) a (members_of after) first.ascending first.closed (ready_of-at before s old ready) (roles.merge_without before after s pooled old ready) in
+    let longer = without_diamond-length before.n (pool_members before) a (pool_members after) first.ascending first.closed (ready_of-at before s old ready) (roles.merge_without before after s pooled old ready) in
     let low = ready_live before.pairs s ready in
     let level = entry_level before.n before.pairs s old (ready_entry before.pairs s ready) in
-    let size : length (members_of before) ≡ length (members_of after) + diamond_size a = ⊎_elim
+    let size : length (pool_members before) ≡ length (pool_members after) + diamond_size a = ⊎_elim
     (λ (none : mate_of a < 1).
     let zero : mate_of a ≡ 0 = omega arith in
     let one = longer.1 (λ m mate. let e : mate_of a ≡ m = mate_of-IsMate before.n a m low level mate in let high = mate.address.low in let e : ⊥ = omega arith in e) in
-    one ∙ ap (λ z. length (members_of after) + z) (sym (size_one a zero)))
+    one ∙ ap (λ z. length (pool_members after) + z) (sym (size_one a zero)))
     (λ (some : 1 ≤ mate_of a).
     let two = longer.0 (mate_of a) (IsMate-mate_of before.n a low level some) in
-    two ∙ ap (λ z. length (members_of after) + z) (sym (size_two a some)))
+    two ∙ ap (λ z. length (pool_members after) + z) (sym (size_two a some)))
     (cases_lt (mate_of a) 1) in
-    let before_leaves = length-leaves_of before.n (members_of before) first.ascending first.closed in
-    let after_leaves = length-leaves_of after.n (members_of after) then.ascending then.closed in
+    let before_leaves = length-leaves_of before.n (pool_members before) first.ascending first.closed in
+    let after_leaves = length-leaves_of after.n (pool_members after) then.ascending then.closed in
     let before_room = members_leaves before old in
     let after_room = members_leaves after pooled.valid in
     let room = pooled.room in
@@ -248,19 +248,19 @@ module _ (before after : PartsState) (s : ℕ) (is : IsMergeAt before after s) (
   law_of end back kept = record {
     n = ap (λ (z : PoolState). z.n) kept.pool ∙ is.n;
     most = ap (λ (z : PoolState). z.most) kept.pool ∙ is.most;
-    merged = subst (λ (z : PoolState). IsWithoutDiamond before.pool.n (members_of before.pool) (address_at before.pool.pairs s) (members_of z)) (sym kept.pool)
+    merged = subst (λ (z : PoolState). IsWithoutDiamond before.pool.n (pool_members before.pool) (address_at before.pool.pairs s) (pool_members z)) (sym kept.pool)
         (roles.merge_without before.pool after.pool s pooled parts.pool ready);
     splits = ap (λ (z : PoolState). z.splits) kept.pool ∙ is.splits;
-    merges = subst (λ (z : PoolState). z.merges ≡ before.pool.merges + (length (members_of before.pool) - length (members_of z))) (sym kept.pool)
+    merges = subst (λ (z : PoolState). z.merges ≡ before.pool.merges + (length (pool_members before.pool) - length (pool_members z))) (sym kept.pool)
         (let size = sized.members in
-        let less : length (members_of before.pool) - length (members_of after.pool) ≡ diamond_size (address_at before.pool.pairs s) = omega (arith, size) in
+        let less : length (pool_members before.pool) - length (pool_members after.pool) ≡ diamond_size (address_at before.pool.pairs s) = omega (arith, size) in
         is.merges ∙ ap (λ z. before.pool.merges + z) (sym less));
     renewed = kept_renewed before after end gone back kept;
   }
 
   -- what is fresh besides them was no entry
   are_new : (r : ℕ) → nat_eq s r ≡ false → (1 ≤ mate_of (address_at before.pool.pairs s) → nat_eq mate r ≡ false) → among after.fresh r ≡ true →
-      IsEntry before.pool.n (among (members_of before.pool)) (address_at after.pool.pairs r) → ⊥
+      IsEntry before.pool.n (among (pool_members before.pool)) (address_at after.pool.pairs r) → ⊥
   are_new r other apart fresh was = ⊎_elim
       (λ (own : r ≡ s). eqb-false s r other (sym own))
       (λ rest. ⊎_elim
@@ -288,14 +288,14 @@ module _ (before after : PartsState) (s : ℕ) (is : IsMergeAt before after s) (
       (λ r other fresh was. let apart = or_parts (nat_eq s r) (nat_eq mate r) other in are_new r apart.0 (λ _. apart.1) fresh was))
 
 -- a diamond that can be merged stands at its slot
-pub can_slot : (pool : PoolState) (t s : ℕ) → IsPool pool.n pool.pairs → CanMerge pool.n (among (members_of pool)) t → address_at pool.pairs s ≡ t → is_ready_at pool.pairs s ≡ true
+pub can_slot : (pool : PoolState) (t s : ℕ) → IsPool pool.n pool.pairs → CanMerge pool.n (among (pool_members pool)) t → address_at pool.pairs s ≡ t → is_ready_at pool.pairs s ≡ true
 can_slot pool t s is can at =
     let there = ready_at-of pool t is can in
     let low : 2 ≤ t = subst (λ z. 2 ≤ z) there.1 (ready_live pool.pairs (slot_of pool.pairs t) there.0) in
     subst (λ z. is_ready_at pool.pairs z ≡ true) (one_slot pool.n pool.pairs s t is low at) there.0
 
 -- so it cannot be that none has it
-pub can_none : (pool : PoolState) (t : ℕ) → IsPool pool.n pool.pairs → CanMerge pool.n (among (members_of pool)) t → ((s : ℕ) → IsLive pool.pairs s → address_at pool.pairs s ≡ t → ⊥) → ⊥
+pub can_none : (pool : PoolState) (t : ℕ) → IsPool pool.n pool.pairs → CanMerge pool.n (among (pool_members pool)) t → ((s : ℕ) → IsLive pool.pairs s → address_at pool.pairs s ≡ t → ⊥) → ⊥
 can_none pool t is can none =
     let there = ready_at-of pool t is can in
     none (slot_of pool.pairs t) (ready_live pool.pairs (slot_of pool.pairs t) there.0) there.1

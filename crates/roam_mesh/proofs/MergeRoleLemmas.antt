@@ -12,7 +12,7 @@ use Rattle.edge_laws.specs.Slots.{address_at, has_children, split_set, IsLive, I
 use Rattle.edge_laws.proofs.MateLemmas.{mate_of-low, mate_of-back}
 use Rattle.edge_laws.proofs.SlotLemmas.{set-has_children, has_children-set, among-split_list, split_list-closed}
 use Rattle.triangle_pool.specs.Slots.{PoolState}
-use Rattle.roam_mesh.specs.Mesh.{slot_of, members_of}
+use Rattle.roam_mesh.specs.Mesh.{slot_of, pool_members}
 use Rattle.roam_mesh.specs.Parts.{is_leaf_at, is_ready, is_ready_at, is_entry_at}
 use Rattle.roam_mesh.specs.Change.{child_slots, diamond_slots, above_slots, with_above, with_children}
 use Rattle.roam_mesh.proofs.PlaceLemmas.{one_slot, address-slot_of}
@@ -172,7 +172,7 @@ module _ (before after : PoolState) (s : ℕ) (pooled : IsPooled before after s)
       (was, apart, pooled.merge.slots r was apart)
 
   -- the set is without the diamond
-  pub merge_without : IsWithoutDiamond before.n (members_of before) top (members_of after)
+  pub merge_without : IsWithoutDiamond before.n (pool_members before) top (pool_members after)
   merge_without = record {
     ascending = (split_list-closed after.n after.pairs pooled.valid).ascending;
     members = λ b. (
@@ -186,10 +186,10 @@ module _ (before after : PoolState) (s : ℕ) (pooled : IsPooled before after s)
     );
   }
 
-  closed_before : IsClosed before.n (among (members_of before))
+  closed_before : IsClosed before.n (among (pool_members before))
   closed_before = (split_list-closed before.n before.pairs old).closed
 
-  can_before : CanMerge before.n (among (members_of before)) top
+  can_before : CanMerge before.n (among (pool_members before)) top
   can_before = ready_of-at before s old ready
 
   -- the slots that leave their places
@@ -339,7 +339,7 @@ module _ (before after : PoolState) (s : ℕ) (pooled : IsPooled before after s)
       let live = ready_live after.pairs r is in
       let was = live_was r live in
       let apart : IsOf top (address_at after.pairs r) → ⊥ = λ own. both_ways (has_children after.pairs (address_at after.pairs r)) (whole_of (address_at after.pairs r) own) (ready_at_parts after.pairs r is).1.own.split in
-      let can : CanMerge before.n (among (members_of after)) (address_at after.pairs r) = subst (λ z. CanMerge z (among (members_of after)) (address_at after.pairs r)) pooled.n (ready_of-at after r pooled.valid is) in
+      let can : CanMerge before.n (among (pool_members after)) (address_at after.pairs r) = subst (λ z. CanMerge z (among (pool_members after)) (address_at after.pairs r)) pooled.n (ready_of-at after r pooled.valid is) in
       let deep : level_of (address_at after.pairs r) ≤ 2 * before.n = subst (λ z. level_of (address_at after.pairs r) ≤ 2 * z) pooled.n (entry_level after.n after.pairs r pooled.valid (ready_entry after.pairs r is)) in
       let back : is_ready_at before.pairs r ≡ true = ⊎_elim
       (λ could.
@@ -348,7 +348,7 @@ module _ (before after : PoolState) (s : ℕ) (pooled : IsPooled before after s)
       (λ (up : (c : ℕ) × IsInDiamond before.n top c × (4 ≤ c) × IsInDiamond before.n (address_at after.pairs r) (c / 2)).
       absurd (both_ways (among (fresh_slots after.pairs (mate_of top) s) r) none
       (later_up r up.0 (diamond_mate before.n top up.0 low level up.1) up.2 is (diamond_mate before.n (address_at after.pairs r) (up.0 / 2) live deep up.3))))
-      (merge_new_mergeable before.n (members_of before) top (members_of after) (address_at after.pairs r) closed_before can_before merge_without can) in
+      (merge_new_mergeable before.n (pool_members before) top (pool_members after) (address_at after.pairs r) closed_before can_before merge_without can) in
       (back, stays_from r live apart)
 
   leaf_stays : (r : ℕ) → is_leaf_at before.pairs r ≡ true → among (with_children before.pairs s) r ≡ false →
@@ -371,9 +371,9 @@ module _ (before after : PoolState) (s : ℕ) (pooled : IsPooled before after s)
       let live = ready_live before.pairs r is in
       let now = same_live r live stays in
       let apart : IsOf top (address_at before.pairs r) → ⊥ = λ own. both_ways (among (with_children before.pairs s) r) stays (gone_of r live own) in
-      let can = merge_keeps_mergeable before.n (members_of before) top (members_of after) (address_at before.pairs r) merge_without (ready_of-at before r old is)
+      let can = merge_keeps_mergeable before.n (pool_members before) top (pool_members after) (address_at before.pairs r) merge_without (ready_of-at before r old is)
       (λ i. apart (diamond_mate before.n top (address_at before.pairs r) low level i)) in
-      let at = ready_at-of after (address_at before.pairs r) pooled.valid (subst (λ z. CanMerge z (among (members_of after)) (address_at before.pairs r)) (sym pooled.n) can) in (
+      let at = ready_at-of after (address_at before.pairs r) pooled.valid (subst (λ z. CanMerge z (among (pool_members after)) (address_at before.pairs r)) (sym pooled.n) can) in (
         subst (λ z. is_ready_at after.pairs z ≡ true) (one_slot after.n after.pairs r (address_at before.pairs r) pooled.valid live now.1) at.0,
         false_from_ne_true (among (fresh_slots after.pairs (mate_of top) s) r) (λ h. ⊎_elim
             (λ own. apart (subst (λ z. IsOf top z) now.1 own))
@@ -402,7 +402,7 @@ module _ (before after : PoolState) (s : ℕ) (pooled : IsPooled before after s)
 
   -- and was none, but for the triangles of the diamond
   pub merge_new : (r : ℕ) → among (fresh_slots after.pairs (mate_of top) s) r ≡ true →
-      (r ≡ s) ⊎ (((1 ≤ mate_of top) × (r ≡ slot_of before.pairs (mate_of top))) ⊎ (IsEntry before.n (among (members_of before)) (address_at after.pairs r) → ⊥))
+      (r ≡ s) ⊎ (((1 ≤ mate_of top) × (r ≡ slot_of before.pairs (mate_of top))) ⊎ (IsEntry before.n (among (pool_members before)) (address_at after.pairs r) → ⊥))
   merge_new r h =
       let is = later_cases r h in
       let was = live_was r is.0 in

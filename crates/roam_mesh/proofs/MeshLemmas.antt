@@ -11,7 +11,7 @@ use Rattle.edge_laws.proofs.SlotLemmas.{pair_of, set-has_children}
 use Rattle.frame_steps.specs.Deferred.{IsEntry}
 use Rattle.frame_steps.specs.Stamps.{Stamp, Readings, StampsHold}
 use Rattle.deferred_loop.specs.Seen.{IsQuiet}
-use Rattle.roam_mesh.specs.Mesh.{slot_of, stamp_of, members_of, with_expired, OnlyEntriesStamped, seen_of}
+use Rattle.roam_mesh.specs.Mesh.{slot_of, stamp_of, pool_members, with_expired, OnlyEntriesStamped, seen_of}
 use Rattle.roam_mesh.specs.Parts.{PartsState, entry_at, entry_of, blank, best_of, worst_of, better_of, deadline_of, stamp_in, seen_parts, mesh_of, is_leaf_at, is_chief_at, is_entry_at, is_out, IsParts, IsWhole}
 use Rattle.roam_mesh.specs.Change.{expired_at}
 use Rattle.roam_mesh.specs.declared.entry.Entry.{Entry}
@@ -61,7 +61,7 @@ placed_only parts is a stamp there =
     let s = slot_of parts.pool.pairs a in
     let stamped = stamped_by (entry_at parts s) stamp (sym (stamp_of-parts parts a) ∙ there) in
     let entry = is.placed.stamped s stamped in
-    subst (λ z. IsEntry parts.pool.n (among (members_of parts.pool)) z) (at-slot_of parts.pool.pairs s a (entry_live parts.pool.pairs s entry) refl)
+    subst (λ z. IsEntry parts.pool.n (among (pool_members parts.pool)) z) (at-slot_of parts.pool.pairs s a (entry_live parts.pool.pairs s entry) refl)
     (entry_of-at parts.pool s is.pool entry)
 
 -- what does not read whether a stamp has expired reads the same

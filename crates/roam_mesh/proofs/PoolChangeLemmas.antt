@@ -7,7 +7,7 @@ use Rattle.edge_laws.specs.Slots.{address_at, IsPool, room_of, split_set}
 use Rattle.edge_laws.specs.Chief.{chief_of}
 use Rattle.triangle_pool.specs.Slots.{PoolState}
 use Rattle.bintree_addr.specs.declared.rank.Rank.{Rank}
-use Rattle.roam_mesh.specs.Mesh.{slot_of, members_of}
+use Rattle.roam_mesh.specs.Mesh.{slot_of, pool_members}
 use Rattle.roam_mesh.specs.Parts.{PartsState, entry_at, worst_of, is_leaf_at, is_ready_at, is_chief_at, is_entry_at, is_out, leaf_rank, better_of, diamond_rank, deadline_of, IsPlaced, IsWhole, seen_parts, stamp_in, IsNear}
 use Rattle.roam_mesh.proofs.PlaceLemmas.{slot_of-at, one_slot}
 use Rattle.roam_mesh.proofs.RoleLemmas.{leaf_entry, ready_entry, entry_cases, ready_live, ready_mate, entry_live, entry_of-at, entry_at-of, IsChiefIn, chief_in, in_chief}
@@ -302,7 +302,7 @@ pub record IsKept (before changed after : PartsState) (gone : List ℕ) (kept : 
   pub others : (r : ℕ) → kept r ≡ false → (entry_at after r ≡ entry_at changed r) × (among after.fresh r ≡ among changed.fresh r)
   pub own : (r : ℕ) → kept r ≡ true → (entry_at after r ≡ entry_at before r) × (among after.fresh r ≡ false)
   pub entry : (r : ℕ) → kept r ≡ true → (is_entry_at before.pool.pairs r ≡ true) × (address_at changed.pool.pairs r ≡ address_at before.pool.pairs r)
-  pub new : (r : ℕ) → kept r ≡ false → among changed.fresh r ≡ true → IsEntry before.pool.n (among (members_of before.pool)) (address_at changed.pool.pairs r) → ⊥
+  pub new : (r : ℕ) → kept r ≡ false → among changed.fresh r ≡ true → IsEntry before.pool.n (among (pool_members before.pool)) (address_at changed.pool.pairs r) → ⊥
 
 -- an entry with another mark
 abbrev with_mark : Entry → Bool → Entry
@@ -321,14 +321,14 @@ module _ (before changed after : PartsState) (gone : List ℕ) (kept : ℕ → B
 
   -- an entry that stood at this slot and is kept there is as it was
   as_before : (a r : ℕ) (b : Bool) → slot_of changed.pool.pairs a ≡ r → is_entry_at before.pool.pairs r ≡ true → address_at before.pool.pairs r ≡ a →
-      entry_at after r ≡ with_mark (entry_at before r) b → IsEntry changed.pool.n (among (members_of before.pool)) a × IsSame (seen_parts before) (seen_parts there) a
+      entry_at after r ≡ with_mark (entry_at before r) b → IsEntry changed.pool.n (among (pool_members before.pool)) a × IsSame (seen_parts before) (seen_parts there) a
   as_before a r b here entry at same =
       let low : 2 ≤ a = subst (λ z. 2 ≤ z) at (entry_live before.pool.pairs r entry) in
       let was : slot_of before.pool.pairs a ≡ r = one_slot before.pool.n before.pool.pairs r a is.change.old low at in
-      let own : IsEntry before.pool.n (among (members_of before.pool)) a = subst (λ z. IsEntry before.pool.n (among (members_of before.pool)) z) at (entry_of-at before.pool r is.change.old entry) in
+      let own : IsEntry before.pool.n (among (pool_members before.pool)) a = subst (λ z. IsEntry before.pool.n (among (pool_members before.pool)) z) at (entry_of-at before.pool r is.change.old entry) in
       let same_entry : entry_at after (slot_of changed.pool.pairs a) ≡ with_mark (entry_at before (slot_of before.pool.pairs a)) b =
       ap (entry_at after) here ∙ same ∙ ap (λ t. with_mark (entry_at before t) b) (sym was) in (
-        subst (λ z. IsEntry z (among (members_of before.pool)) a) (sym is.change.n) own,
+        subst (λ z. IsEntry z (among (pool_members before.pool)) a) (sym is.change.n) own,
         record {
           known = ap (λ (e : Entry). e.known) same_entry;
           exact = ap (λ (e : Entry). e.exact) same_entry;
@@ -337,8 +337,8 @@ module _ (before changed after : PartsState) (gone : List ℕ) (kept : ℕ → B
       )
 
   -- an entry that is not fresh was one, and is as it was
-  kept_seen : (a : ℕ) → IsEntry changed.pool.n (among (members_of changed.pool)) a → among (seen_parts there).fresh a ≡ false →
-      IsEntry changed.pool.n (among (members_of before.pool)) a × IsSame (seen_parts before) (seen_parts there) a
+  kept_seen : (a : ℕ) → IsEntry changed.pool.n (among (pool_members changed.pool)) a → among (seen_parts there).fresh a ≡ false →
+      IsEntry changed.pool.n (among (pool_members before.pool)) a × IsSame (seen_parts before) (seen_parts there) a
   kept_seen a entry none =
       let at = entry_at-of changed.pool a is.change.new entry in
       let r : ℕ = slot_of changed.pool.pairs a in
@@ -355,7 +355,7 @@ module _ (before changed after : PartsState) (gone : List ℕ) (kept : ℕ → B
 
   -- what is fresh is an entry and was none, and is not known
   fresh_seen : (a : ℕ) → IsTrue (among (seen_parts there).fresh a) →
-      IsNewEntry changed.pool.n (among (members_of before.pool)) (among (members_of changed.pool)) a × ((entry_at after (slot_of changed.pool.pairs a)).known ≡ false)
+      IsNewEntry changed.pool.n (among (pool_members before.pool)) (among (pool_members changed.pool)) a × ((entry_at after (slot_of changed.pool.pairs a)).known ≡ false)
   fresh_seen a h =
       let found = in_seen changed.pool.pairs after.fresh a h in
       let r : ℕ = found.0 in
@@ -364,9 +364,9 @@ module _ (before changed after : PartsState) (gone : List ℕ) (kept : ℕ → B
       let low : 2 ≤ a = subst (λ z. 2 ≤ z) found.2 (entry_live changed.pool.pairs r entry) in
       let here = one_slot changed.pool.n changed.pool.pairs r a is.change.new low found.2 in (
         (
-          subst (λ z. IsEntry changed.pool.n (among (members_of changed.pool)) z) found.2 (entry_of-at changed.pool r is.change.new entry),
-          λ old. is.new r was.0 was.1 (subst (λ z. IsEntry before.pool.n (among (members_of before.pool)) z) (sym found.2)
-              (subst (λ z. IsEntry z (among (members_of before.pool)) a) is.change.n old)),
+          subst (λ z. IsEntry changed.pool.n (among (pool_members changed.pool)) z) found.2 (entry_of-at changed.pool r is.change.new entry),
+          λ old. is.new r was.0 was.1 (subst (λ z. IsEntry before.pool.n (among (pool_members before.pool)) z) (sym found.2)
+              (subst (λ z. IsEntry z (among (pool_members before.pool)) a) is.change.n old)),
         ),
         ap (λ t. (entry_at after t).known) here ∙ ap (λ (e : Entry). e.known) (is.others r was.0).0 ∙ fresh_unknown before changed gone is.change r was.1,
       )

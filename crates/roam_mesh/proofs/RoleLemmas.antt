@@ -17,16 +17,16 @@ use Rattle.frame_steps.specs.Deferred.{IsEntry, leaf as of_leaf, member as of_di
 use Rattle.frame_steps.specs.Steps.{leaf_count}
 use Rattle.edge_laws.specs.Chief.{chief_of}
 use Rattle.triangle_pool.specs.Slots.{PoolState}
-use Rattle.roam_mesh.specs.Mesh.{slot_of, members_of}
+use Rattle.roam_mesh.specs.Mesh.{slot_of, pool_members}
 use Rattle.roam_mesh.specs.Parts.{is_leaf_at, is_bare, is_ready, is_ready_at, is_chief_at, is_entry_at, is_out}
 use Rattle.roam_mesh.specs.Change.{chief_slot}
 use Rattle.roam_mesh.proofs.PlaceLemmas.{address-slot_of}
 use Rattle.edge_laws.proofs.ChiefLemmas.{chief_of-mate, chief_of-cases}
 
 -- how many leaves the pool's set has
-pub members_leaves : (pool : PoolState) → IsPool pool.n pool.pairs → leaf_count pool.n (members_of pool) + room_of pool.pairs ≡ length pool.pairs + 1
+pub members_leaves : (pool : PoolState) → IsPool pool.n pool.pairs → leaf_count pool.n (pool_members pool) + room_of pool.pairs ≡ length pool.pairs + 1
 members_leaves pool is =
-    let same : leaf_count pool.n (members_of pool) ≡ length (leaves_of pool.n (split_set pool.pairs)) = ap length (leaves-split_list pool.n pool.pairs is) in
+    let same : leaf_count pool.n (pool_members pool) ≡ length (leaves_of pool.n (split_set pool.pairs)) = ap length (leaves-split_list pool.n pool.pairs is) in
     let count = leaves_count pool.n pool.pairs is in omega arith
 
 -- what the test of a leaf tells
@@ -132,7 +132,7 @@ entry_cases pairs s entry = ⊎_elim
     (or_cases (is_leaf_at pairs s) (is_ready_at pairs s) entry)
 
 -- a slot with a leaf has a leaf of the set
-pub leaf_of-at : (pool : PoolState) (s : ℕ) → IsPool pool.n pool.pairs → is_leaf_at pool.pairs s ≡ true → Contains (leaves_of pool.n (among (members_of pool))) (address_at pool.pairs s)
+pub leaf_of-at : (pool : PoolState) (s : ℕ) → IsPool pool.n pool.pairs → is_leaf_at pool.pairs s ≡ true → Contains (leaves_of pool.n (among (pool_members pool))) (address_at pool.pairs s)
 leaf_of-at pool s is leaf =
     let a : ℕ = address_at pool.pairs s in
     let parts = leaf_parts pool.pairs s leaf in
@@ -144,7 +144,7 @@ leaf_of-at pool s is leaf =
     ))
 
 -- and a leaf of the set stands at its slot
-pub leaf_at-of : (pool : PoolState) (a : ℕ) → IsPool pool.n pool.pairs → Contains (leaves_of pool.n (among (members_of pool))) a →
+pub leaf_at-of : (pool : PoolState) (a : ℕ) → IsPool pool.n pool.pairs → Contains (leaves_of pool.n (among (pool_members pool))) a →
     (is_leaf_at pool.pairs (slot_of pool.pairs a) ≡ true) × (address_at pool.pairs (slot_of pool.pairs a) ≡ a)
 leaf_at-of pool a is leaf =
     let outer = (leaf-where pool.n (split_set pool.pairs) a is.closed).0 (subst (λ l. Contains l a) (leaves-split_list pool.n pool.pairs is) leaf) in
@@ -160,7 +160,7 @@ leaf_at-of pool a is leaf =
     )
 
 -- there is a leaf
-pub some_leaf : (pool : PoolState) → IsPool pool.n pool.pairs → (a : ℕ) × Contains (leaves_of pool.n (among (members_of pool))) a
+pub some_leaf : (pool : PoolState) → IsPool pool.n pool.pairs → (a : ℕ) × Contains (leaves_of pool.n (among (pool_members pool))) a
 some_leaf pool is =
     let count = leaves_count pool.n pool.pairs is in
     let members = members_count pool.n pool.pairs is in
@@ -180,13 +180,13 @@ mate_diamond n a b low level (inl own) = inl own
 mate_diamond n a b low level (inr mate) = inr (subst (λ z. IsMate n a z) (sym mate.1) (IsMate-mate_of n a low level mate.0))
 
 -- a slot of a diamond that can be merged has one of the set
-pub ready_of-at : (pool : PoolState) (s : ℕ) → IsPool pool.n pool.pairs → is_ready_at pool.pairs s ≡ true → CanMerge pool.n (among (members_of pool)) (address_at pool.pairs s)
+pub ready_of-at : (pool : PoolState) (s : ℕ) → IsPool pool.n pool.pairs → is_ready_at pool.pairs s ≡ true → CanMerge pool.n (among (pool_members pool)) (address_at pool.pairs s)
 ready_of-at pool s is ready =
     let a : ℕ = address_at pool.pairs s in
     let parts = ready_at_parts pool.pairs s ready in
     let has = has_children-set pool.pairs a parts.0 parts.1.own.split in
     let coarse = (is.closed.splittable a has).coarse in
-    let shut : (p : ℕ) → has_children pool.pairs p ≡ false → among (members_of pool) p ≡ false = λ p none. among-split_list pool.n pool.pairs p is ∙ set_false pool.pairs p none in
+    let shut : (p : ℕ) → has_children pool.pairs p ≡ false → among (pool_members pool) p ≡ false = λ p none. among-split_list pool.n pool.pairs p is ∙ set_false pool.pairs p none in
     record {
       member = among-split_list pool.n pool.pairs a is ∙ has;
       childless = λ b of. ⊎_elim
@@ -198,7 +198,7 @@ ready_of-at pool s is ready =
     }
 
 -- and a diamond of the set that can be merged stands at its slot
-pub ready_at-of : (pool : PoolState) (a : ℕ) → IsPool pool.n pool.pairs → CanMerge pool.n (among (members_of pool)) a →
+pub ready_at-of : (pool : PoolState) (a : ℕ) → IsPool pool.n pool.pairs → CanMerge pool.n (among (pool_members pool)) a →
     (is_ready_at pool.pairs (slot_of pool.pairs a) ≡ true) × (address_at pool.pairs (slot_of pool.pairs a) ≡ a)
 ready_at-of pool a is can =
     let has : split_set pool.pairs a ≡ true = sym (among-split_list pool.n pool.pairs a is) ∙ can.member in
@@ -207,7 +207,7 @@ ready_at-of pool a is can =
     let coarse = fits.coarse in
     let split = set-has_children pool.pairs a has in
     let at = address-slot_of pool.n pool.pairs a is low (member_parent pool.n pool.pairs a is low split) in
-    let shut : (p : ℕ) → 2 ≤ p → among (members_of pool) p ≡ false → has_children pool.pairs p ≡ false =
+    let shut : (p : ℕ) → 2 ≤ p → among (pool_members pool) p ≡ false → has_children pool.pairs p ≡ false =
     λ p high none. false_from_ne_true (has_children pool.pairs p) (λ yes. both_ways (split_set pool.pairs p) (sym (among-split_list pool.n pool.pairs p is) ∙ none) (has_children-set pool.pairs p high yes)) in
     let bare : (b : ℕ) → 2 ≤ b → IsInDiamond pool.n a b → has_children pool.pairs b ≡ true → HasTwoLeaves pool.pairs b =
     λ b high of yes. record {
@@ -222,14 +222,14 @@ ready_at-of pool a is can =
     (ready_at_from pool.pairs (slot_of pool.pairs a) (subst (λ z. 2 ≤ z) (sym at) low) (subst (λ z. IsMergeReady pool.pairs z) (sym at) ready), at)
 
 -- a slot with an entry has an entry of the set
-pub entry_of-at : (pool : PoolState) (s : ℕ) → IsPool pool.n pool.pairs → is_entry_at pool.pairs s ≡ true → IsEntry pool.n (among (members_of pool)) (address_at pool.pairs s)
+pub entry_of-at : (pool : PoolState) (s : ℕ) → IsPool pool.n pool.pairs → is_entry_at pool.pairs s ≡ true → IsEntry pool.n (among (pool_members pool)) (address_at pool.pairs s)
 entry_of-at pool s is entry = ⊎_elim
     (λ at_leaf. of_leaf (leaf_of-at pool s is at_leaf))
     (λ ready. of_diamond (ready_of-at pool s is ready))
     (or_cases (is_leaf_at pool.pairs s) (is_ready_at pool.pairs s) entry)
 
 -- and an entry of the set stands at its slot
-pub entry_at-of : (pool : PoolState) (a : ℕ) → IsPool pool.n pool.pairs → IsEntry pool.n (among (members_of pool)) a →
+pub entry_at-of : (pool : PoolState) (a : ℕ) → IsPool pool.n pool.pairs → IsEntry pool.n (among (pool_members pool)) a →
     (is_entry_at pool.pairs (slot_of pool.pairs a) ≡ true) × (address_at pool.pairs (slot_of pool.pairs a) ≡ a)
 entry_at-of pool a is (of_leaf of) = let r = leaf_at-of pool a is of in (leaf_entry pool.pairs (slot_of pool.pairs a) r.0, r.1)
 entry_at-of pool a is (of_diamond can) = let r = ready_at-of pool a is can in (ready_entry pool.pairs (slot_of pool.pairs a) r.0, r.1)

@@ -19,7 +19,7 @@ use Rattle.triangle_pool.specs.Slots.{PoolState}
 use Rattle.force_split.specs.Chain.{IsBornOf, IsGainOf, chain_size}
 use Rattle.frame_steps.specs.Steps.{leaf_count}
 use Rattle.deferred_loop.specs.Seen.{IsSplitOf}
-use Rattle.roam_mesh.specs.Mesh.{slot_of, members_of}
+use Rattle.roam_mesh.specs.Mesh.{slot_of, pool_members}
 use Rattle.roam_mesh.specs.Parts.{PartsState, entry_at, seen_parts, is_leaf_at, is_entry_at, IsWhole, IsParts}
 use Rattle.roam_mesh.specs.Change.{diamond_slots, with_chain, left_all, pushed_all, seated}
 use Rattle.roam_mesh.specs.Keeping.{CanTakeBack, IsKeptMate}
@@ -40,14 +40,14 @@ use Rattle.roam_mesh.proofs.PoolChangeLemmas.{HasMoved, whole_repooled, moved_en
 
 -- how many triangles a split adds
 split_count : (old new : PoolState) (gain : ℕ) → IsPool old.n old.pairs → IsPool new.n new.pairs → length new.pairs ≡ length old.pairs →
-    room_of new.pairs + gain ≡ room_of old.pairs → length (members_of new) - length (members_of old) ≡ gain
+    room_of new.pairs + gain ≡ room_of old.pairs → length (pool_members new) - length (pool_members old) ≡ gain
 split_count old new gain is now as_long room =
     let old_set = split_list-closed old.n old.pairs is in
     let new_set = split_list-closed new.n new.pairs now in
     let old_leaves = members_leaves old is in
     let new_leaves = members_leaves new now in
-    let old_count = length-leaves_of old.n (members_of old) old_set.ascending old_set.closed in
-    let new_count = length-leaves_of new.n (members_of new) new_set.ascending new_set.closed in
+    let old_count = length-leaves_of old.n (pool_members old) old_set.ascending old_set.closed in
+    let new_count = length-leaves_of new.n (pool_members new) new_set.ascending new_set.closed in
     omega arith
 
 module _ (before after : PartsState) (s : ℕ) (parts : IsParts before) (whole : IsWhole before) (now : IsWhole after) (settled : before.fresh ≡ [])
@@ -165,7 +165,7 @@ module _ (before after : PartsState) (s : ℕ) (parts : IsParts before) (whole :
   mate = slot_of before.pool.pairs (mate_of (address_at before.pool.pairs s))
 
   -- an entry before stands at its slot still
-  entry_there : (r : ℕ) → IsEntry before.pool.n (among (members_of before.pool)) (address_at after.pool.pairs r) → IsLive before.pool.pairs (slot_of before.pool.pairs (address_at after.pool.pairs r))
+  entry_there : (r : ℕ) → IsEntry before.pool.n (among (pool_members before.pool)) (address_at after.pool.pairs r) → IsLive before.pool.pairs (slot_of before.pool.pairs (address_at after.pool.pairs r))
       × (address_at after.pool.pairs (slot_of before.pool.pairs (address_at after.pool.pairs r)) ≡ address_at after.pool.pairs r)
   entry_there r was =
       let there = entry_at-of before.pool (address_at after.pool.pairs r) parts.pool was in
@@ -173,7 +173,7 @@ module _ (before after : PartsState) (s : ℕ) (parts : IsParts before) (whole :
       (live, is.kept (slot_of before.pool.pairs (address_at after.pool.pairs r)) live ∙ there.1)
 
   -- what was born was no entry
-  born_new : (r : ℕ) → IsBornOf is.answers r → IsLive after.pool.pairs r → IsEntry before.pool.n (among (members_of before.pool)) (address_at after.pool.pairs r) → ⊥
+  born_new : (r : ℕ) → IsBornOf is.answers r → IsLive after.pool.pairs r → IsEntry before.pool.n (among (pool_members before.pool)) (address_at after.pool.pairs r) → ⊥
   born_new r born_of live was =
       let there = entry_there r was in
       let one : r ≡ slot_of before.pool.pairs (address_at after.pool.pairs r) = is.valid.once r (slot_of before.pool.pairs (address_at after.pool.pairs r)) live (sym there.1) in
@@ -266,9 +266,9 @@ module _ (before after : PartsState) (s : ℕ) (parts : IsParts before) (whole :
       record {
         n = ap (λ (z : PoolState). z.n) kept.pool ∙ is.n;
         most = ap (λ (z : PoolState). z.most) kept.pool ∙ is.most;
-        forced = subst (λ (z : PoolState). IsForced before.pool.n (members_of before.pool) (address_at before.pool.pairs s) (members_of z)) (sym kept.pool)
+        forced = subst (λ (z : PoolState). IsForced before.pool.n (pool_members before.pool) (address_at before.pool.pairs s) (pool_members z)) (sym kept.pool)
             (pool_forced before.pool after.pool s is.chain is.answers pool_is);
-        splits = subst (λ (z : PoolState). z.splits ≡ before.pool.splits + (length (members_of z) - length (members_of before.pool))) (sym kept.pool)
+        splits = subst (λ (z : PoolState). z.splits ≡ before.pool.splits + (length (pool_members z) - length (pool_members before.pool))) (sym kept.pool)
             (is.splits ∙ ap (λ z. before.pool.splits + z) (sym grown));
         merges = ap (λ (z : PoolState). z.merges) kept.pool ∙ is.merges;
         renewed = kept_renewed before after end (with_chain before.pool.pairs is.chain) back kept;
@@ -313,10 +313,10 @@ module _ (before after : PartsState) (s : ℕ) (parts : IsParts before) (whole :
 
 -- where the set with what a leaf forces is within what the pool has room for, there is room for what the split adds
 pub split_room : (pool : PoolState) (t gain : ℕ) → IsPool pool.n pool.pairs → IsSplittable pool.n t → length pool.pairs + 1 ≡ pool.most →
-    ((after : List ℕ) → IsForced pool.n (members_of pool) t after → leaf_count pool.n after ≤ pool.most) → IsGainOf pool.n pool.pairs t gain → gain ≤ room_of pool.pairs
+    ((after : List ℕ) → IsForced pool.n (pool_members pool) t after → leaf_count pool.n after ≤ pool.most) → IsGainOf pool.n pool.pairs t gain → gain ≤ room_of pool.pairs
 split_room pool t gain is splittable size room grows =
-    let next = forced_list pool.n (members_of pool) t (split_list-closed pool.n pool.pairs is).closed splittable in
-    let least = least_same pool.n (with_triangle (among (members_of pool)) t) (with_triangle (split_set pool.pairs) t) (among next.0) (among next.0)
+    let next = forced_list pool.n (pool_members pool) t (split_list-closed pool.n pool.pairs is).closed splittable in
+    let least = least_same pool.n (with_triangle (among (pool_members pool)) t) (with_triangle (split_set pool.pairs) t) (among next.0) (among next.0)
     (λ a. ap (λ z. z || nat_eq t a) (among-split_list pool.n pool.pairs a is)) (λ a. refl) next.1.least in
     let grown : length (leaves_of pool.n (among next.0)) ≡ length (leaves_of pool.n (split_set pool.pairs)) + gain = grows (among next.0) least in
     let within : length (leaves_of pool.n (among next.0)) ≤ pool.most = room next.0 next.1 in

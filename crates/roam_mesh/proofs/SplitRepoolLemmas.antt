@@ -11,7 +11,7 @@ use Rattle.edge_laws.proofs.SlotLemmas.{set_false, among-split_list, split_list-
 use Rattle.triangle_pool.specs.Slots.{PoolState}
 use Rattle.triangle_pool.specs.declared.pool.Born.{Born}
 use Rattle.force_split.specs.Chain.{IsBornOf}
-use Rattle.roam_mesh.specs.Mesh.{slot_of, members_of}
+use Rattle.roam_mesh.specs.Mesh.{slot_of, pool_members}
 use Rattle.roam_mesh.specs.Parts.{is_leaf_at, is_ready, is_ready_at}
 use Rattle.roam_mesh.specs.Change.{diamond_slots, with_chain}
 use Rattle.roam_mesh.proofs.PlaceLemmas.{one_slot}
@@ -27,15 +27,15 @@ pub record IsLater (new : PoolState) (s : ℕ) (answers : List Born) (later : �
   pub diamond : (r : ℕ) → among (diamond_slots new.pairs s) r ≡ true → later r ≡ true
 
 module _ (old new : PoolState) (s : ℕ) (chain : List ℕ) (answers : List Born) (is : IsPoolSplit old new s chain answers) where
-  was_outside : among (members_of old) (address_at old.pairs s) ≡ false
+  was_outside : among (pool_members old) (address_at old.pairs s) ≡ false
   was_outside = among-split_list old.n old.pairs (address_at old.pairs s) is.pool ∙ set_false old.pairs (address_at old.pairs s) is.leaf.leaf
 
   -- the diamond of the split triangle can be merged
   pub own_ready : is_ready_at new.pairs s ≡ true
   own_ready =
       let f : ℕ = address_at old.pairs s in
-      let can = split_mergeable old.n (members_of old) f (members_of new) (split_list-closed old.n old.pairs is.pool).closed (pool_forced old new s chain answers is) was_outside in
-      let there = ready_at-of new f is.valid (subst (λ z. CanMerge z (among (members_of new)) f) (sym is.n) can) in
+      let can = split_mergeable old.n (pool_members old) f (pool_members new) (split_list-closed old.n old.pairs is.pool).closed (pool_forced old new s chain answers is) was_outside in
+      let there = ready_at-of new f is.valid (subst (λ z. CanMerge z (among (pool_members new)) f) (sym is.n) can) in
       subst (λ z. is_ready_at new.pairs z ≡ true) (one_slot new.n new.pairs s f is.valid is.leaf.live (is.kept s is.leaf.live)) there.0
 
   -- its triangles were not split before
@@ -62,7 +62,7 @@ module _ (old new : PoolState) (s : ℕ) (chain : List ℕ) (answers : List Born
       let f : ℕ = address_at old.pairs s in
       let same = is.kept s is.leaf.live in
       let low : 2 ≤ address_at new.pairs r = (ready_at_parts new.pairs r ready).0 in
-      let can = subst (λ z. CanMerge z (among (members_of new)) a) is.n (ready_of-at new r is.valid ready) in
+      let can = subst (λ z. CanMerge z (among (pool_members new)) a) is.n (ready_of-at new r is.valid ready) in
       ⊎_elim
       (λ was.
       let there = ready_at-of old a is.pool was in
@@ -77,7 +77,7 @@ module _ (old new : PoolState) (s : ℕ) (chain : List ℕ) (answers : List Born
       let turned : mate_of (address_at new.pairs s) ≡ a = ap mate_of (same ∙ other.1) ∙ back in
       inr (subst (λ z. 1 ≤ z) (sym turned) (omega arith), sym (one_slot new.n new.pairs r (mate_of (address_at new.pairs s)) is.valid (subst (λ z. 2 ≤ z) (sym turned) low) (sym turned))))
       (diamond_mate new.n a f low (entry_level new.n new.pairs r is.valid (ready_entry new.pairs r ready)) (subst (λ z. IsInDiamond z a f) (sym is.n) new_one.1)))))
-      (split_diamonds old.n (members_of old) f (members_of new) a (split_list-closed old.n old.pairs is.pool).closed (pool_forced old new s chain answers is) can)
+      (split_diamonds old.n (pool_members old) f (pool_members new) a (split_list-closed old.n old.pairs is.pool).closed (pool_forced old new s chain answers is) can)
 
   -- a slot that could be merged had no leaf
   no_leaf : (r : ℕ) → is_ready_at old.pairs r ≡ true → HasLeaf old.pairs r → ⊥

@@ -11,7 +11,7 @@ use Rattle.edge_laws.proofs.SlotLemmas.{has_children_low, slot_of as some_slot, 
 use Rattle.triangle_pool.specs.Slots.{PoolState}
 use Rattle.triangle_pool.specs.declared.pool.Born.{Born}
 use Rattle.force_split.specs.Chain.{IsChain, IsBornOf, AreAnswers}
-use Rattle.roam_mesh.specs.Mesh.{slot_of, members_of}
+use Rattle.roam_mesh.specs.Mesh.{slot_of, pool_members}
 use Rattle.roam_mesh.specs.Parts.{is_ready, is_ready_at}
 use Rattle.roam_mesh.specs.Change.{with_chain}
 use Rattle.roam_mesh.proofs.PlaceLemmas.{slot_of-at, address-slot_of}
@@ -53,11 +53,11 @@ no_child pairs b x two under is = ⊎_elim
 
 module _ (old new : PoolState) (s : ℕ) (chain : List ℕ) (answers : List Born) (is : IsPoolSplit old new s chain answers) where
   -- the set as the loop sees it
-  pub pool_forced : IsForced old.n (members_of old) (address_at old.pairs s) (members_of new)
+  pub pool_forced : IsForced old.n (pool_members old) (address_at old.pairs s) (pool_members new)
   pool_forced = record {
     ascending = (split_list-closed new.n new.pairs is.valid).ascending;
-    least = least_same old.n (with_triangle (split_set old.pairs) (address_at old.pairs s)) (with_triangle (among (members_of old)) (address_at old.pairs s))
-        (split_set new.pairs) (among (members_of new))
+    least = least_same old.n (with_triangle (split_set old.pairs) (address_at old.pairs s)) (with_triangle (among (pool_members old)) (address_at old.pairs s))
+        (split_set new.pairs) (among (pool_members new))
         (λ a. ap (λ z. z || nat_eq (address_at old.pairs s) a) (sym (among-split_list old.n old.pairs a is.pool)))
         (λ a. sym (among-split_list new.n new.pairs a is.valid)) is.set;
   }

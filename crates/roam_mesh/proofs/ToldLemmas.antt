@@ -14,7 +14,7 @@ use Rattle.triangle_pool.specs.Slots.{PoolState}
 use Rattle.edge_laws.specs.Chief.{chief_of}
 use Rattle.deferred_loop.specs.Seen.{IsTold, IsForgotten}
 use Rattle.frame_steps.specs.Deferred.{IsEntry}
-use Rattle.roam_mesh.specs.Mesh.{slot_of, members_of, pool_set}
+use Rattle.roam_mesh.specs.Mesh.{slot_of, pool_members, pool_set}
 use Rattle.roam_mesh.specs.Parts.{PartsState, parts_of, blank, stamp_in, best_of, worst_of, deadline_of, entry_at, entry_of, seen_parts, is_leaf_at, is_ready_at, is_chief_at, is_entry_at, is_out, leaf_rank, better_of, diamond_rank, IsSlotList, IsWhole, IsPlaced, IsNear, IsParts}
 use Rattle.roam_mesh.specs.Change.{chief_slot, rekeyed, heard, told, unheard, forgotten}
 use Rattle.roam_mesh.specs.declared.entry.Entry.{Entry}
@@ -387,14 +387,14 @@ forgotten_seen before after whole none kept asked = record {
 }
 
 -- the slot of an entry can be told
-pub entry_told : (parts : PartsState) (s : ℕ) (a : ℕ) → IsParts parts → IsEntry parts.pool.n (among (members_of parts.pool)) a → address_at parts.pool.pairs s ≡ a → is_entry_at parts.pool.pairs s ≡ true
+pub entry_told : (parts : PartsState) (s : ℕ) (a : ℕ) → IsParts parts → IsEntry parts.pool.n (among (pool_members parts.pool)) a → address_at parts.pool.pairs s ≡ a → is_entry_at parts.pool.pairs s ≡ true
 entry_told parts s a is entry at =
     let there = entry_at-of parts.pool a is.pool entry in
     let low : 2 ≤ a = subst (λ z. 2 ≤ z) there.1 (entry_live parts.pool.pairs (slot_of parts.pool.pairs a) there.0) in
     subst (λ z. is_entry_at parts.pool.pairs z ≡ true) (one_slot parts.pool.n parts.pool.pairs s a is.pool low at) there.0
 
 -- and its slot is live
-pub entry_slot : (parts : PartsState) (a : ℕ) → IsParts parts → IsEntry parts.pool.n (among (members_of parts.pool)) a → IsLive parts.pool.pairs (slot_of parts.pool.pairs a) × (address_at parts.pool.pairs (slot_of parts.pool.pairs a) ≡ a)
+pub entry_slot : (parts : PartsState) (a : ℕ) → IsParts parts → IsEntry parts.pool.n (among (pool_members parts.pool)) a → IsLive parts.pool.pairs (slot_of parts.pool.pairs a) × (address_at parts.pool.pairs (slot_of parts.pool.pairs a) ≡ a)
 entry_slot parts a is entry =
     let there = entry_at-of parts.pool a is.pool entry in
     (entry_live parts.pool.pairs (slot_of parts.pool.pairs a) there.0, there.1)

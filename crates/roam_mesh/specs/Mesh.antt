@@ -1,6 +1,6 @@
 -- What a contract sees of a mesh: its pool, and a finite map of stamps.
 -- Source: Duchaineau et al., "ROAMing Terrain", IEEE Visualization 1997, the part on deferred priority lists.
--- Words: MeshState, slot_of, stamp_of, members_of, pool_set, seen_of, with_expired, OnlyEntriesStamped.
+-- Words: MeshState, slot_of, stamp_of, pool_members, pool_set, seen_of, with_expired, OnlyEntriesStamped.
 use Rattle.std.specs.Prelude.{◌≡◌, ℕ, ◌+◌, ◌*◌, ◌/◌, ◌%◌, true, false, nat_eq, List, [], Option, None, Some, slice_index_or}
 use Rattle.std.specs.List.{position_or_len}
 use Rattle.mesh_defs.specs.ClosedSet.{among}
@@ -25,12 +25,12 @@ abbrev pub stamp_of : MeshState → ℕ → Option Stamp
 stamp_of mesh a = slice_index_or mesh.stamps (slot_of mesh.pool.pairs a) None
 
 -- the members of the pool's set, in ascending order
-abbrev pub members_of : PoolState → List ℕ
-members_of pool = split_list pool.n pool.pairs
+abbrev pub pool_members : PoolState → List ℕ
+pool_members pool = split_list pool.n pool.pairs
 
 -- the set of a pool, as the loop of a frame sees it
 abbrev pub pool_set : PoolState → PoolSet
-pool_set pool = record { n = pool.n; members = members_of pool; most = pool.most; splits = pool.splits; merges = pool.merges }
+pool_set pool = record { n = pool.n; members = pool_members pool; most = pool.most; splits = pool.splits; merges = pool.merges }
 
 -- a mesh between frames, as the loop sees it
 abbrev pub seen_of : MeshState → SeenMesh
@@ -42,4 +42,4 @@ with_expired stamp = record stamp { expired = true }
 
 -- only entries have a stamp
 abbrev pub OnlyEntriesStamped : MeshState → Type 0
-OnlyEntriesStamped mesh = (a : ℕ) (stamp : Stamp) → stamp_of mesh a ≡ Some stamp → IsEntry mesh.pool.n (among (members_of mesh.pool)) a
+OnlyEntriesStamped mesh = (a : ℕ) (stamp : Stamp) → stamp_of mesh a ≡ Some stamp → IsEntry mesh.pool.n (among (pool_members mesh.pool)) a

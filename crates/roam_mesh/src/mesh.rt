@@ -10,7 +10,7 @@ ghost use Rattle.frame_steps.specs.Stamps.{StampsHold, ReadingsHold};
 ghost use Rattle.deferred_loop.specs.Seen.{HasRoom, IsCountedBy};
 ghost use Rattle.deferred_loop.specs.Choice.{IsSparing};
 ghost use Rattle.deferred_loop.specs.Promise.{IsAtMost, IsAtLeast, AreStampsGood};
-ghost use Rattle.roam_mesh.specs.Mesh.{stamp_of, members_of, pool_set, seen_of, with_expired, OnlyEntriesStamped};
+ghost use Rattle.roam_mesh.specs.Mesh.{stamp_of, pool_members, pool_set, seen_of, with_expired, OnlyEntriesStamped};
 ghost use Rattle.roam_mesh.specs.Chosen.{SparesChosen};
 
 use crate::queued::QueuedParts;
@@ -98,15 +98,15 @@ impl Mesh {
         ensures n { self.new.pool.n ≡ self.old.pool.n }
         ensures counters { IsCountedBy (pool_set self.old.pool) (pool_set self.new.pool) result.splits result.merges }
         ensures run { IsFrameRun self.old.pool.n budget (G.told gauge.old).of
-            (members_of self.old.pool) (members_of self.new.pool) result.splits result.merges }
+            (pool_members self.old.pool) (pool_members self.new.pool) result.splits result.merges }
         ensures frame { IsFrame self.old.pool.n budget (G.told gauge.old).of
-            (among (members_of self.new.pool)) result.worst result.blocked }
+            (among (pool_members self.new.pool)) result.worst result.blocked }
         ensures unblocked { IsNone result.blocked
-            ↔ All (λ a. (G.told gauge.old).of a ≡ 0) (leaves_of self.old.pool.n (among (members_of self.new.pool))) }
+            ↔ All (λ a. (G.told gauge.old).of a ≡ 0) (leaves_of self.old.pool.n (among (pool_members self.new.pool))) }
         ensures sparing { IsSparing self.old.pool.n budget (G.told gauge.old).of
-            (members_of self.old.pool) (members_of self.new.pool) result.splits result.merges }
+            (pool_members self.old.pool) (pool_members self.new.pool) result.splits result.merges }
         ensures spares { SparesChosen self.old.pool.n budget (G.told gauge.old).of
-            (members_of self.old.pool) (members_of self.new.pool) }
+            (pool_members self.old.pool) (pool_members self.new.pool) }
         ensures most { IsAtMost (G.told gauge.old) (G.readings gauge.old) odometer (seen_of self.old) budget
             (result.splits + result.merges) (G.count gauge.old) (G.count gauge.new) }
         ensures least { IsAtLeast (seen_of self.old) (seen_of self.new) (G.count gauge.old) (G.count gauge.new) }

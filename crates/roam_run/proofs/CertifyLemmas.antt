@@ -8,7 +8,7 @@ use Rattle.mesh_defs.specs.BestMesh.{IsBestMesh}
 use Rattle.mesh_defs.specs.State.{State, priority_in}
 use Rattle.closure_laws.specs.Frame.{IsFrame}
 use Rattle.closure_laws.proofs.FrameLemmas.{IsBestMesh-frame}
-use Rattle.roam_mesh.specs.Mesh.{members_of}
+use Rattle.roam_mesh.specs.Mesh.{pool_members}
 use Rattle.frame_loop.specs.Engine.{EngineState, IsFrameDone}
 use Rattle.frame_loop.specs.declared.note.FrameNote.{FrameNote}
 use Rattle.roam_edge.specs.Shelf.{NamedFile, bytes_of}
@@ -28,14 +28,14 @@ use Rattle.roam_run.specs.Leaving.{CommandEnds}
 use Rattle.roam_run.proofs.GridLemmas.{ends-as}
 
 module _ (state : State) (before after : EngineState) (note : FrameNote) (leaves : List ℕ) (same : before.state ≡ state) (done : IsFrameDone before after note)
-    (listed : leaves ≡ leaves_of after.state.grid.n (among (members_of after.mesh.pool))) where
+    (listed : leaves ≡ leaves_of after.state.grid.n (among (pool_members after.mesh.pool))) where
   -- the leaves of a frame are those of its set
-  leaves-frame : leaves ≡ leaves_of state.grid.n (among (members_of after.mesh.pool))
-  leaves-frame = listed ∙ ap (λ (s : State). leaves_of s.grid.n (among (members_of after.mesh.pool))) (done.state ∙ same)
+  leaves-frame : leaves ≡ leaves_of state.grid.n (among (pool_members after.mesh.pool))
+  leaves-frame = listed ∙ ap (λ (s : State). leaves_of s.grid.n (among (pool_members after.mesh.pool))) (done.state ∙ same)
 
   -- which is the frame of the state
-  set-frame : IsFrame state.grid.n state.budget (priority_in state) (among (members_of after.mesh.pool)) note.worst note.blocked
-  set-frame = subst (λ (s : State). IsFrame s.grid.n s.budget (priority_in s) (among (members_of after.mesh.pool)) note.worst note.blocked) same done.frame
+  set-frame : IsFrame state.grid.n state.budget (priority_in state) (among (pool_members after.mesh.pool)) note.worst note.blocked
+  set-frame = subst (λ (s : State). IsFrame s.grid.n s.budget (priority_in s) (among (pool_members after.mesh.pool)) note.worst note.blocked) same done.frame
 
   -- so the note has their worst
   pub worst-frame : note.worst ≡ worst_of (priority_in state) leaves
@@ -44,7 +44,7 @@ module _ (state : State) (before after : EngineState) (note : FrameNote) (leaves
   -- and they are the best mesh of the budget
   pub best-frame : IsFalling state.grid.n (priority_in state) → 2 ≤ state.budget → IsBestMesh state.grid.n state.budget (priority_in state) leaves
   best-frame falling low = subst (λ l. IsBestMesh state.grid.n state.budget (priority_in state) l) (sym leaves-frame)
-      (IsBestMesh-frame state.grid.n state.budget (priority_in state) (among (members_of after.mesh.pool)) note.worst note.blocked set-frame falling low)
+      (IsBestMesh-frame state.grid.n state.budget (priority_in state) (among (pool_members after.mesh.pool)) note.worst note.blocked set-frame falling low)
 
 -- a certificate of the best mesh's leaves may be made
 pub made-of : {E : Type 0} (m : Making) (grid : HeightField) (leaves : List ℕ) (r : Result Certificate E)

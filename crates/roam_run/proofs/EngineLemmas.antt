@@ -11,7 +11,7 @@ use Rattle.closure_laws.proofs.SetListLemmas.{ascending-filter, ascending-range}
 use Rattle.edge_laws.specs.Slots.{split_set}
 use Rattle.frame_steps.specs.Steps.{IsFrameRun}
 use Rattle.triangle_pool.specs.Slots.{PoolState}
-use Rattle.roam_mesh.specs.Mesh.{members_of}
+use Rattle.roam_mesh.specs.Mesh.{pool_members}
 use Rattle.frame_loop.specs.Engine.{EngineState, IsFrameDone}
 use Rattle.frame_loop.specs.declared.note.FrameNote.{FrameNote}
 use Rattle.roam_script.specs.declared.line.Line.{Line}
@@ -28,7 +28,7 @@ use Rattle.roam_run.specs.NoteSeen.{picture_seen}
 -- the set of a pool
 
 -- its members ascend
-pub members-ascend : (pool : PoolState) → IsAscending (members_of pool)
+pub members-ascend : (pool : PoolState) → IsAscending (pool_members pool)
 members-ascend pool = ascending-filter (split_set pool.pairs) (range_with_len 0 (4 * 2 ^ (2 * pool.n))) (ascending-range 0 (4 * 2 ^ (2 * pool.n)))
 
 -- nothing passes a test that is always false
@@ -37,7 +37,7 @@ filter-none has none [] = refl
 filter-none has none (x ∷ xs) = rw (none x) (filter-none has none xs)
 
 -- where nothing is split there are none
-pub no-members : (pool : PoolState) → ((a : ℕ) → split_set pool.pairs a ≡ false) → members_of pool ≡ []
+pub no-members : (pool : PoolState) → ((a : ℕ) → split_set pool.pairs a ≡ false) → pool_members pool ≡ []
 no-members pool none = filter-none (split_set pool.pairs) none (range_with_len 0 (4 * 2 ^ (2 * pool.n)))
 
 -- an engine that was just made follows the walk before the first line
@@ -73,7 +73,7 @@ module _ (walk : Walk) (pictures : List Picture) (old new : EngineState) (follow
     greatest = out.greatest ∙ followed.greatest;
     gone = out.gone ∙ (ap (λ (k : ℕ). k + way_of line old.state) followed.gone ∙ ap (λ (s : State). walk.odometer + way_of line s) followed.at_state);
     made = out.made ∙ (followed.made ∙ ap length (sym (append-nil walk.frames) ∙ ap (λ (l : List State). walk.frames ++ l) (sym (shown_by-none line walk.state other))));
-    set = ap members_of out.pool ∙ followed.set;
+    set = ap pool_members out.pool ∙ followed.set;
     all_splits = ap (λ (p : PoolState). p.splits) out.pool ∙ followed.all_splits;
     all_merges = ap (λ (p : PoolState). p.merges) out.pool ∙ followed.all_merges;
   }
@@ -114,14 +114,14 @@ module _ (walk : Walk) (pictures : List Picture) (old new : EngineState) (follow
     -- what it shows is the picture of the state
     pub picture-shown : (show : Show) → IsTrue (is_of_engine show) → IsPicture show (last_members [] pictures) walk.state (picture_seen new note)
     picture-shown show engine =
-        let P : State → List ℕ → Type 0 = λ s before. IsFrameRun s.grid.n s.budget (priority_in s) before (members_of new.mesh.pool) note.splits note.merges in
-        let Q : State → Type 0 = λ s. IsFrame s.grid.n s.budget (priority_in s) (among (members_of new.mesh.pool)) note.worst note.blocked in
+        let P : State → List ℕ → Type 0 = λ s before. IsFrameRun s.grid.n s.budget (priority_in s) before (pool_members new.mesh.pool) note.splits note.merges in
+        let Q : State → Type 0 = λ s. IsFrame s.grid.n s.budget (priority_in s) (among (pool_members new.mesh.pool)) note.worst note.blocked in
         let R : State → Type 0 = λ s. P s (last_members [] pictures) in
         record {
           of_state = done.state ∙ followed.at_state;
           ascending = members-ascend new.mesh.pool;
-          frame = frame-for show walk.state (members_of new.mesh.pool) note.worst note.blocked engine (subst Q followed.at_state done.frame);
-          change = change-for show walk.state (last_members [] pictures) (members_of new.mesh.pool) note.splits note.merges engine
+          frame = frame-for show walk.state (pool_members new.mesh.pool) note.worst note.blocked engine (subst Q followed.at_state done.frame);
+          change = change-for show walk.state (last_members [] pictures) (pool_members new.mesh.pool) note.splits note.merges engine
               (subst R followed.at_state (subst (P old.state) followed.set done.run));
         }
 
@@ -131,9 +131,9 @@ followed-end walk pictures engine followed =
     let E : State → ℕ → ℕ → List ℕ → ℕ → ℕ → EngineEnd =
     λ s o f m a b. record { state = s; odometer = o; frames = f; members = m; splits = a; merges = b } in
     let pool : PoolState = engine.mesh.pool in
-    ap (λ (s : State). E s engine.odometer engine.frames (members_of pool) pool.splits pool.merges) followed.at_state
-    ∙ (ap (λ (k : ℕ). E walk.state k engine.frames (members_of pool) pool.splits pool.merges) followed.gone
-    ∙ (ap (λ (k : ℕ). E walk.state walk.odometer k (members_of pool) pool.splits pool.merges) followed.made
+    ap (λ (s : State). E s engine.odometer engine.frames (pool_members pool) pool.splits pool.merges) followed.at_state
+    ∙ (ap (λ (k : ℕ). E walk.state k engine.frames (pool_members pool) pool.splits pool.merges) followed.gone
+    ∙ (ap (λ (k : ℕ). E walk.state walk.odometer k (pool_members pool) pool.splits pool.merges) followed.made
     ∙ (ap (λ (l : List ℕ). E walk.state walk.odometer (length walk.frames) l pool.splits pool.merges) followed.set
     ∙ (ap (λ (k : ℕ). E walk.state walk.odometer (length walk.frames) (last_members [] pictures) k pool.merges) followed.all_splits
     ∙ ap (λ (k : ℕ). E walk.state walk.odometer (length walk.frames) (last_members [] pictures) (sum_by (λ (p : Picture). p.splits) pictures) k) followed.all_merges))))

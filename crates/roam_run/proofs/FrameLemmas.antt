@@ -17,7 +17,7 @@ use Rattle.mesh_defs.specs.MeshText.{mesh_text, vertices_of}
 use Rattle.mesh_defs.specs.declared.mark.Mark.TheVariants.{Inside, Cut, Outside}
 use Rattle.obj_write.specs.declared.mesh.MeshView.{MeshView}
 use Rattle.obj_write.specs.MeshView.{view_text}
-use Rattle.roam_mesh.specs.Mesh.{MeshState, members_of}
+use Rattle.roam_mesh.specs.Mesh.{MeshState, pool_members}
 use Rattle.frame_loop.specs.Engine.{EngineState, IsFrameDone}
 use Rattle.frame_loop.specs.declared.note.FrameNote.{FrameNote}
 use Rattle.run_laws.specs.Picture.{mark_count}
@@ -26,11 +26,11 @@ use Rattle.roam_run.specs.NoteSeen.{picture_seen, leaves_seen, IsNoted, note_mar
 
 -- the counts of a note are those of a mesh under a state
 record IsFrameCounted (state : State) (mesh : MeshState) (note : FrameNote) : Type 0 where
-  pub triangle_count : note.triangles ≡ length (leaves_of state.grid.n (among (members_of mesh.pool)))
-  pub vertex_count : note.vertices ≡ length (vertices_of state.grid.n (leaves_of state.grid.n (among (members_of mesh.pool))))
-  pub inside_count : note.inside ≡ mark_count state Inside (leaves_of state.grid.n (among (members_of mesh.pool)))
-  pub cut_count : note.cut ≡ mark_count state Cut (leaves_of state.grid.n (among (members_of mesh.pool)))
-  pub outside_count : note.outside ≡ mark_count state Outside (leaves_of state.grid.n (among (members_of mesh.pool)))
+  pub triangle_count : note.triangles ≡ length (leaves_of state.grid.n (among (pool_members mesh.pool)))
+  pub vertex_count : note.vertices ≡ length (vertices_of state.grid.n (leaves_of state.grid.n (among (pool_members mesh.pool))))
+  pub inside_count : note.inside ≡ mark_count state Inside (leaves_of state.grid.n (among (pool_members mesh.pool)))
+  pub cut_count : note.cut ≡ mark_count state Cut (leaves_of state.grid.n (among (pool_members mesh.pool)))
+  pub outside_count : note.outside ≡ mark_count state Outside (leaves_of state.grid.n (among (pool_members mesh.pool)))
 
 module _ (meshes meshes' : Option (List Mesh)) (report : Option (List ℕ)) (prefix : List ℕ) (number k : ℕ) (same : k ≡ number) (picture : Picture) (text : List ℕ)
     (is : text ≡ text_in picture.state (triangles_of picture)) where

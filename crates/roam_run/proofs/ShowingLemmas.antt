@@ -3,7 +3,7 @@ use Rattle.std.proofs.Common.{◌≡◌, ℕ, ◌+◌, ◌*◌, ◌^◌, ◌≤�
 use Rattle.mesh_defs.specs.State.{State}
 use Rattle.mesh_defs.specs.ClosedSet.{leaves_of, among}
 use Rattle.closure_laws.proofs.LeafLemmas.{leaves-most}
-use Rattle.roam_mesh.specs.Mesh.{members_of}
+use Rattle.roam_mesh.specs.Mesh.{pool_members}
 use Rattle.frame_loop.specs.Engine.{EngineState, IsFrameDone}
 use Rattle.frame_loop.specs.declared.note.FrameNote.{FrameNote}
 use Rattle.run_laws.specs.Walk.{Walk}
@@ -42,7 +42,7 @@ engine-left Measures walk ps = refl
 pub frame-room : (showing : Showing) (old new : EngineState) (room : List ℕ) (note : FrameNote) (lines : ℕ) → IsEngineReady showing old room lines → IsFrameDone old new note
     → is_strip showing ≡ true → length (leaves_seen new) ≤ length room
 frame-room showing old new room note lines is done strip =
-    let members : List ℕ = members_of new.mesh.pool in
+    let members : List ℕ = pool_members new.mesh.pool in
     let few : length (leaves_of old.state.grid.n (among members)) ≤ old.state.budget = done.frame.closure.fits in
     let all : length (leaves_of old.state.grid.n (among members)) ≤ 2 * 4 ^ old.state.grid.n = leaves-most old.state.grid.n (among members) in
     let enough = is.room strip in

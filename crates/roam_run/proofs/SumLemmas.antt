@@ -7,7 +7,7 @@ use Rattle.mesh_defs.specs.HeightField.{HeightField}
 use Rattle.mesh_defs.specs.State.{State, start_state}
 use Rattle.view_priority.specs.Camera.{IsCamera}
 use Rattle.bintree_addr.specs.declared.blocked.Blocked.{Blocked}
-use Rattle.roam_mesh.specs.Mesh.{members_of}
+use Rattle.roam_mesh.specs.Mesh.{pool_members}
 use Rattle.frame_loop.specs.Engine.{EngineState, IsFrameDone}
 use Rattle.frame_loop.specs.declared.note.FrameNote.{FrameNote}
 use Rattle.roam_script.specs.declared.limits.Limits.{Limits}
@@ -195,7 +195,7 @@ module _ (n seed k : ℕ) (engine : EngineState) (sums : Sums) (here : HasGone n
         let ps : List Picture = here.pictures in
         let shown = picture-shown here.walk ps engine new here.followed note done (AsSums n seed) refl in
         let count : length (triangles_of p) ≡ note.triangles =
-        ap (λ (s : State). length (leaves_of s.grid.n (among (members_of new.mesh.pool)))) done.state ∙ sym done.triangles in
+        ap (λ (s : State). length (leaves_of s.grid.n (among (pool_members new.mesh.pool)))) done.state ∙ sym done.triangles in
         record {
           walk = after_line Frame here.walk;
           pictures = ps ++ p ∷ [];

@@ -3,7 +3,7 @@
 -- Words: engine_seen, IsUnder, IsCarriedOut, HasFollowed.
 use Rattle.std.specs.Prelude.{◌≡◌, ◌+◌, ◌^◌, ◌≤◌, List, [], length, sum_by}
 use Rattle.view_priority.specs.Camera.{IsCamera}
-use Rattle.roam_mesh.specs.Mesh.{members_of}
+use Rattle.roam_mesh.specs.Mesh.{pool_members}
 use Rattle.frame_loop.specs.Engine.{EngineState}
 use Rattle.roam_script.specs.declared.limits.Limits.{Limits}
 use Rattle.roam_script.specs.declared.line.Line.{Line}
@@ -17,7 +17,7 @@ engine_seen engine = record {
   state = engine.state;
   odometer = engine.odometer;
   frames = engine.frames;
-  members = members_of engine.mesh.pool;
+  members = pool_members engine.mesh.pool;
   splits = engine.mesh.pool.splits;
   merges = engine.mesh.pool.merges;
 }
@@ -46,6 +46,6 @@ pub record HasFollowed (walk : Walk) (pictures : List Picture) (engine : EngineS
   pub greatest : engine.most ≡ walk.most
   pub gone : engine.odometer ≡ walk.odometer
   pub made : engine.frames ≡ length walk.frames
-  pub set : members_of engine.mesh.pool ≡ last_members [] pictures
+  pub set : pool_members engine.mesh.pool ≡ last_members [] pictures
   pub all_splits : engine.mesh.pool.splits ≡ sum_by (λ (p : Picture). p.splits) pictures
   pub all_merges : engine.mesh.pool.merges ≡ sum_by (λ (p : Picture). p.merges) pictures

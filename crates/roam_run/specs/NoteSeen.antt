@@ -5,7 +5,7 @@ use Rattle.mesh_defs.specs.declared.mark.Mark.TheVariants.{Inside, Cut, Outside}
 use Rattle.mesh_defs.specs.View.{ViewPlane}
 use Rattle.mesh_defs.specs.ClosedSet.{leaves_of, among}
 use Rattle.mesh_defs.specs.MeshText.{vertices_of}
-use Rattle.roam_mesh.specs.Mesh.{members_of}
+use Rattle.roam_mesh.specs.Mesh.{pool_members}
 use Rattle.frame_loop.specs.Engine.{EngineState}
 use Rattle.frame_loop.specs.declared.note.FrameNote.{FrameNote}
 use Rattle.run_laws.specs.Picture as shown
@@ -15,7 +15,7 @@ use Rattle.run_laws.specs.ReportText.{blocked_text}
 abbrev pub picture_seen : EngineState → FrameNote → shown.Picture
 picture_seen engine note = record {
   state = engine.state;
-  members = members_of engine.mesh.pool;
+  members = pool_members engine.mesh.pool;
   worst = note.worst;
   blocked = note.blocked;
   splits = note.splits;
@@ -24,7 +24,7 @@ picture_seen engine note = record {
 
 -- the mesh of the engine: the leaves of its set, depth first
 abbrev pub leaves_seen : EngineState → List ℕ
-leaves_seen engine = leaves_of engine.state.grid.n (among (members_of engine.mesh.pool))
+leaves_seen engine = leaves_of engine.state.grid.n (among (pool_members engine.mesh.pool))
 
 -- the counts of the note are those of the engine's mesh
 pub record IsNoted (engine : EngineState) (note : FrameNote) : Type 0 where

@@ -7,7 +7,7 @@ ghost use Rattle.run_laws.specs.Cause.{WritesHaveCause};
 ghost use Rattle.run_laws.specs.Words.{AsMeshes};
 ghost use Rattle.run_laws.specs.Outcome.{picture_acts};
 ghost use Rattle.mesh_defs.specs.ClosedSet.{IsClosed, among};
-ghost use Rattle.roam_mesh.specs.Mesh.{members_of};
+ghost use Rattle.roam_mesh.specs.Mesh.{pool_members};
 ghost use Rattle.roam_run.specs.NoteSeen.{picture_seen, leaves_seen, IsNoted};
 ghost use Rattle.roam_run.specs.ShowView.{show_seen, IsShowing, is_strip};
 
@@ -33,7 +33,7 @@ pub(crate) fn show_frame<M: MeshSink, R: Sink>(
     requires number_low { 1 ≤ engine.now.frames }
     requires number_high { engine.now.frames ≤ GREATEST_NUMBER }
     requires noted { IsNoted engine.now note.now }
-    requires closed { IsClosed engine.now.state.grid.n (among (members_of engine.now.mesh.pool)) }
+    requires closed { IsClosed engine.now.state.grid.n (among (pool_members engine.now.mesh.pool)) }
     requires room { is_strip showing ≡ true → length (leaves_seen engine.now) ≤ length room.old }
     ensures ok { OnOk result (Stands (told (M.meshes meshes.old) (R.contents report.old))
         (told (M.meshes meshes.new) (R.contents report.new))

@@ -10,7 +10,7 @@ ghost use Rattle.wedgie_tree.specs.declared.wedges.TheConstants.{GREATEST_SPACIN
 ghost use Rattle.obj_write.specs.Numbers.{numbers_of};
 ghost use Rattle.strip_laws.specs.Strip.{strip_of};
 ghost use Rattle.deviation_laws.specs.PlaneHeight.{deviation_of, thickest_of};
-ghost use Rattle.roam_mesh.specs.Mesh.{members_of};
+ghost use Rattle.roam_mesh.specs.Mesh.{pool_members};
 ghost use Rattle.frame_loop.specs.declared.note.FrameNote.{FrameNote as NoteSeen};
 ghost use Rattle.run_laws.specs.Act.{told, Stands, IsCutShort};
 ghost use Rattle.run_laws.specs.Cause.{WritesHaveCause};
@@ -48,7 +48,7 @@ pub(crate) fn write_strip<M: MeshSink, R: Sink>(
     requires prefix_short { length prefix.now ≤ LONGEST_PREFIX }
     requires number_low { 1 ≤ engine.now.frames }
     requires number_high { engine.now.frames ≤ GREATEST_NUMBER }
-    requires closed { IsClosed engine.now.state.grid.n (among (members_of engine.now.mesh.pool)) }
+    requires closed { IsClosed engine.now.state.grid.n (among (pool_members engine.now.mesh.pool)) }
     requires room { length (leaves_seen engine.now) ≤ length room.old }
     ensures ok { (note : NoteSeen) → OnOk result (Stands (told (M.meshes meshes.old) (R.contents report.old))
         (told (M.meshes meshes.new) (R.contents report.new))
@@ -68,9 +68,9 @@ pub(crate) fn write_strip<M: MeshSink, R: Sink>(
 
 /// Puts the strip of an engine's mesh into room for just as many triangles.
 fn put_strip(engine: &Engine, order: &mut [Tri])
-    requires closed { IsClosed engine.now.state.grid.n (among (members_of engine.now.mesh.pool)) }
+    requires closed { IsClosed engine.now.state.grid.n (among (pool_members engine.now.mesh.pool)) }
     requires room { length order.old ≡ length (leaves_seen engine.now) }
-    ensures { order.new ≡ strip_of engine.now.state.grid.n (among (members_of engine.now.mesh.pool)) }
+    ensures { order.new ≡ strip_of engine.now.state.grid.n (among (pool_members engine.now.mesh.pool)) }
 {
     let _level = engine.grid().n();
     strip(engine.view().leaves, order);
@@ -89,8 +89,8 @@ fn write_order<M: MeshSink, R: Sink>(
     requires prefix_short { length prefix.now ≤ LONGEST_PREFIX }
     requires number_low { 1 ≤ engine.now.frames }
     requires number_high { engine.now.frames ≤ GREATEST_NUMBER }
-    requires closed { IsClosed engine.now.state.grid.n (among (members_of engine.now.mesh.pool)) }
-    requires order { order.now ≡ strip_of engine.now.state.grid.n (among (members_of engine.now.mesh.pool)) }
+    requires closed { IsClosed engine.now.state.grid.n (among (pool_members engine.now.mesh.pool)) }
+    requires order { order.now ≡ strip_of engine.now.state.grid.n (among (pool_members engine.now.mesh.pool)) }
     ensures ok { (note : NoteSeen) → OnOk result (Stands (told (M.meshes meshes.old) (R.contents report.old))
         (told (M.meshes meshes.new) (R.contents report.new))
         (picture_acts (AsStrips prefix.now) engine.now.frames (picture_seen engine.now note))) }
@@ -108,7 +108,7 @@ fn write_order<M: MeshSink, R: Sink>(
 
 /// The mesh of an engine, with its triangles in the order of their strip.
 fn in_order<'a>(engine: &'a Engine, order: &'a [Tri]) -> MeshView<'a>
-    requires order { order.now ≡ strip_of engine.now.state.grid.n (among (members_of engine.now.mesh.pool)) }
+    requires order { order.now ≡ strip_of engine.now.state.grid.n (among (pool_members engine.now.mesh.pool)) }
     ensures leaves { result.leaves.now ≡ order.now }
     ensures wedges { result.wedges.now ≡ engine.now.state.grid }
     ensures planes { result.planes.now ≡ engine.now.state.view.planes }
@@ -130,8 +130,8 @@ fn in_order<'a>(engine: &'a Engine, order: &'a [Tri]) -> MeshView<'a>
 
 /// The line of the strip of an engine's last frame.
 fn strip_report(engine: &Engine, order: &[Tri]) -> Text
-    requires closed { IsClosed engine.now.state.grid.n (among (members_of engine.now.mesh.pool)) }
-    requires order { order.now ≡ strip_of engine.now.state.grid.n (among (members_of engine.now.mesh.pool)) }
+    requires closed { IsClosed engine.now.state.grid.n (among (pool_members engine.now.mesh.pool)) }
+    requires order { order.now ≡ strip_of engine.now.state.grid.n (among (pool_members engine.now.mesh.pool)) }
     ensures { let n = engine.now.state.grid.n in
         result.items ≡ strip_numbers engine.now.frames (length order.now) (left_turns n order.now) (right_turns n order.now) }
 {
@@ -162,7 +162,7 @@ fn strip_text(number: u32, triangles: u64, left: u32, right: u32) -> Text
 ///
 /// Cost (not proved): that of `deviation`; takes no memory.
 pub(crate) fn write_measure<R: Sink>(engine: &Engine, report: &mut R) -> Result<(), Failed>
-    requires closed { IsClosed engine.now.state.grid.n (among (members_of engine.now.mesh.pool)) }
+    requires closed { IsClosed engine.now.state.grid.n (among (pool_members engine.now.mesh.pool)) }
     ensures ok { (meshes : Option (List Mesh)) (note : NoteSeen) → OnOk result (Stands (told meshes (R.contents report.old))
         (told meshes (R.contents report.new)) (picture_acts AsMeasures engine.now.frames (picture_seen engine.now note))) }
     ensures err { (meshes : Option (List Mesh)) (note : NoteSeen) → OnErr result (IsCutShort (told meshes (R.contents report.old))
@@ -174,7 +174,7 @@ pub(crate) fn write_measure<R: Sink>(engine: &Engine, report: &mut R) -> Result<
 
 /// The line on how far the mesh of an engine is from the surface.
 fn measure_report(engine: &Engine) -> Text
-    requires closed { IsClosed engine.now.state.grid.n (among (members_of engine.now.mesh.pool)) }
+    requires closed { IsClosed engine.now.state.grid.n (among (pool_members engine.now.mesh.pool)) }
     ensures { let grid = engine.now.state.grid in
         result.items ≡ measure_numbers engine.now.frames (deviation_of grid.n grid.heights (leaves_seen engine.now)) (2 ^ grid.n)
         (thickest_of grid.n grid.heights (leaves_seen engine.now)) }

@@ -5,7 +5,7 @@ use Rattle.mesh_defs.specs.ClosedSet.{leaves_of, among}
 use Rattle.mesh_defs.specs.MeshText.{vertices_of}
 use Rattle.edge_laws.specs.Slots.{split_set}
 use Rattle.triangle_pool.specs.Slots.{PoolState}
-use Rattle.roam_mesh.specs.Mesh.{members_of}
+use Rattle.roam_mesh.specs.Mesh.{pool_members}
 use Rattle.frame_loop.specs.Marks.{marks_seen}
 use Rattle.frame_loop.proofs.PoolLemmas.{leaves_levels, members_leaves_at}
 use Rattle.frame_loop.proofs.ListingLemmas.{written, kept_listing}
@@ -38,11 +38,11 @@ returns-clause-done c =
     let pool : PoolState = c.advance_mesh-steps.new.mesh.pool in
     let n : ℕ = c.self.inside.outlook.grid.n in
     let same_n : pool.n ≡ n = c.advance_mesh-steps.ensures.n ∙ c.self.invariant.0.n in
-    let set : leaves_of c.pool.result.now.n (split_set c.pool.result.now.pairs) ≡ leaves_of n (among (members_of pool)) =
+    let set : leaves_of c.pool.result.now.n (split_set c.pool.result.now.pairs) ≡ leaves_of n (among (pool_members pool)) =
     ap (λ (p : PoolState). leaves_of p.n (split_set p.pairs)) c.pool.ensures.pool ∙ members_leaves_at pool n c.pool.ensures.valid same_n in
     let whole : c.deref.result.now ≡ call.new.leaves =
     c.deref.ensures.value ∙ written c.self.inside.leaves.len call.new.leaves (drop (length call.new.leaves) c.self.inside.leaves.items) (call.ensures.leaves ∙ c.deref_mut.ensures.len) in
-    let listed : take call.result.0 c.deref.result.now ≡ leaves_of n (among (members_of pool)) = ap (take call.result.0) whole ∙ call.ensures.listing.leaf_list ∙ set in
+    let listed : take call.result.0 c.deref.result.now ≡ leaves_of n (among (pool_members pool)) = ap (take call.result.0) whole ∙ call.ensures.listing.leaf_list ∙ set in
     let told_n : c.pool.result.now.n ≡ n = ap (λ (p : PoolState). p.n) c.pool.ensures.pool ∙ same_n in
     rw (← c.self.view_is, c.note.ensures) (record {
       state = refl;

@@ -7,7 +7,7 @@ use Rattle.frame_steps.specs.Stamps.{StampsHold}
 use Rattle.frame_steps.proofs.RunLemmas.{run_set}
 use Rattle.frame_steps.proofs.FrameLemmas.{merge_spares}
 use Rattle.deferred_loop.specs.Promise.{IsAtMost, IsAtLeast, AreStampsGood}
-use Rattle.roam_mesh.specs.Mesh.{MeshState, stamp_of, members_of, seen_of}
+use Rattle.roam_mesh.specs.Mesh.{MeshState, stamp_of, pool_members, seen_of}
 use Rattle.roam_mesh.specs.Chosen.{SparesChosen}
 use Rattle.roam_mesh.specs.Parts.{mesh_of}
 use Rattle.edge_laws.proofs.SlotLemmas.{split_list-closed}
@@ -47,15 +47,15 @@ pub returns-clause-unblocked : goal.returns-clause-unblocked
 returns-clause-unblocked g c =
     let told = g.G.Gauge.told c.args.gauge.now in
     let steps = c.advance-steps.result in
-    c.frame_laws.ensures.unblocked c.args.self.now.pool.n c.args.budget told.of (among (members_of (mesh_of c.advance-steps.new.mesh).pool)) steps.worst steps.blocked
-    (subst (λ (z : MeshState). IsFrame z.pool.n c.args.budget told.of (among (members_of (mesh_of c.advance-steps.new.mesh).pool)) steps.worst steps.blocked)
+    c.frame_laws.ensures.unblocked c.args.self.now.pool.n c.args.budget told.of (among (pool_members (mesh_of c.advance-steps.new.mesh).pool)) steps.worst steps.blocked
+    (subst (λ (z : MeshState). IsFrame z.pool.n c.args.budget told.of (among (pool_members (mesh_of c.advance-steps.new.mesh).pool)) steps.worst steps.blocked)
     c.self.view_is c.advance-steps.ensures.frame)
     (subst (λ n. IsFalling n told.of) c.requires.grid c.requires.falls) c.requires.budget
 
 pub returns-clause-spares : goal.returns-clause-spares
 returns-clause-spares g c =
     let told = g.G.Gauge.told c.args.gauge.now in
-    spared c.args.self.now.pool.n c.args.budget told.of (members_of c.args.self.now.pool) (members_of (mesh_of c.advance-steps.new.mesh).pool)
-    (subst (λ (z : MeshState). IsGridSet z.pool.n (members_of z.pool)) c.self.view_is
+    spared c.args.self.now.pool.n c.args.budget told.of (pool_members c.args.self.now.pool) (pool_members (mesh_of c.advance-steps.new.mesh).pool)
+    (subst (λ (z : MeshState). IsGridSet z.pool.n (pool_members z.pool)) c.self.view_is
     (split_list-closed c.self.inside.queued.pool.n c.self.inside.queued.pool.pairs c.pool-before.ensures.valid))
     (subst (λ n. IsFalling n told.of) c.requires.grid c.requires.falls)

@@ -7,7 +7,7 @@ use Rattle.edge_laws.specs.Slots.{address_at, split_set, HasLeaf}
 use Rattle.force_split.specs.Chain.{chain_size}
 use Rattle.triangle_pool.specs.Answer.{numbers}
 use Rattle.triangle_pool.specs.Slots.{PoolState}
-use Rattle.roam_mesh.specs.Mesh.{slot_of, members_of}
+use Rattle.roam_mesh.specs.Mesh.{slot_of, pool_members}
 use Rattle.roam_mesh.specs.Parts.{PartsState, IsParts}
 use Rattle.edge_laws.proofs.SlotLemmas.{among-split_list, split_list-closed}
 use Rattle.roam_mesh.proofs.RoleLemmas.{leaf_at-of, leaf_live}
@@ -27,14 +27,14 @@ returns-in-Some-clause-gain c =
     let state = ap (λ z. z.parts) c.self-inside.view_is ∙ c.self.view_is in
     let valid = subst IsParts c.self.view_is c.self.invariant in
     let set = split_list-closed pool.n pool.pairs valid.pool in
-    let next = forced_list pool.n (members_of pool) c.args.t set.closed c.requires.splittable in
+    let next = forced_list pool.n (pool_members pool) c.args.t set.closed c.requires.splittable in
     let planned = subst (λ (z : PoolState). (members after : List ℕ) → IsAscending members → ((a : ℕ) → among members a ≡ split_set z.pairs a) →
     IsForced z.n members (address_at z.pairs c.in-Some.s.0) after → length after ≡ length members + c.plan.result.gain) (ap (λ (z : PartsState). z.pool) state) c.plan.ensures.members in
     record {
       after = next.0;
       forced = next.1;
-      grown = planned (members_of pool) next.0 set.ascending (λ a. among-split_list pool.n pool.pairs a valid.pool)
-          (subst (λ t. IsForced pool.n (members_of pool) t next.0) (sym c.in-Some.ensures.some) next.1);
+      grown = planned (pool_members pool) next.0 set.ascending (λ a. among-split_list pool.n pool.pairs a valid.pool)
+          (subst (λ t. IsForced pool.n (pool_members pool) t next.0) (sym c.in-Some.ensures.some) next.1);
     }
 
 pub returns-in-Some-clause-small : goal.returns-in-Some-clause-small

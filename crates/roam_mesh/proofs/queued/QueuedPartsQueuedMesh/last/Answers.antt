@@ -9,7 +9,7 @@ use Rattle.deferred_loop.specs.Seen.{IsLastHead}
 use Rattle.deferred_loop.specs.declared.queued.Last.{Last}
 use Rattle.roam_mesh.specs.contracts.parts.Parts.{the_view}
 use Rattle.roam_mesh.specs.declared.queued.QueuedParts.TheInside.{Inside}
-use Rattle.roam_mesh.specs.Mesh.{members_of}
+use Rattle.roam_mesh.specs.Mesh.{pool_members}
 use Rattle.roam_mesh.specs.Parts.{PartsState, IsParts, seen_parts, is_ready_at}
 use Rattle.roam_mesh.specs.Keys.{IsKnownRank, IsUnasked}
 use Rattle.roam_mesh.proofs.HeadLemmas.{settled_fresh}
@@ -24,7 +24,7 @@ returns-in_err-head c =
     let view : the_view c.self-inside.inside.0.0 ≡ c.args.self.now = ap (λ (z : Inside). z.parts) c.self-inside.view_is ∙ c.self.view_is in
     let none : c.args.self.now.fresh ≡ [] = settled_fresh c.args.self.now c.requires.settled in
     let empty : IsEmpty c.args.self.now.merge = subst (λ (z : PartsState). IsEmpty z.merge) view (c.in_err-head.ensures.empty.0 refl) in
-    subst (λ (o : Option Last). MatchOption o ((a : ℕ) → CanMerge c.args.self.now.pool.n (among (members_of c.args.self.now.pool)) a → ⊥) (IsLastHead (seen_parts c.args.self.now))) (sym c.from_residual.ensures)
+    subst (λ (o : Option Last). MatchOption o ((a : ℕ) → CanMerge c.args.self.now.pool.n (among (pool_members c.args.self.now.pool)) a → ⊥) (IsLastHead (seen_parts c.args.self.now))) (sym c.from_residual.ensures)
     (none_merges parts is none empty)
 
 pub unasked-requires : goal.unasked-requires

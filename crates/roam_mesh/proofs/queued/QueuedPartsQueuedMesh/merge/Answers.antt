@@ -3,7 +3,7 @@ use Rattle.mesh_defs.specs.ClosedSet.{among}
 use Rattle.closure_laws.specs.Diamond.{CanMerge}
 use Rattle.edge_laws.specs.Slots.{address_at}
 use Rattle.deferred_loop.specs.Seen.{IsMergeOf}
-use Rattle.roam_mesh.specs.Mesh.{members_of}
+use Rattle.roam_mesh.specs.Mesh.{pool_members}
 use Rattle.roam_mesh.specs.Parts.{PartsState, seen_parts, IsParts}
 use Rattle.roam_mesh.proofs.HeadLemmas.{settled_fresh}
 use Rattle.roam_mesh.proofs.MergeLaws.{can_slot, can_none}
@@ -14,7 +14,7 @@ merge-requires-clause-settled c = subst (λ (z : PartsState). z.fresh ≡ []) (s
 
 pub merge-requires-clause-ready : goal.merge-requires-clause-ready
 merge-requires-clause-ready c =
-    let can = subst (λ (z : PartsState). CanMerge z.pool.n (among (members_of z.pool)) c.args.t) (sym c.self.view_is) c.requires.can in
+    let can = subst (λ (z : PartsState). CanMerge z.pool.n (among (pool_members z.pool)) c.args.t) (sym c.self.view_is) c.requires.can in
     let at = subst (λ (z : PartsState). address_at z.pool.pairs c.in-Some.s.0 ≡ c.args.t) (sym c.self.view_is) c.in-Some.ensures.some in
     can_slot c.self.inside.parts.pool c.args.t c.in-Some.s.0 c.self.invariant.pool can at
 

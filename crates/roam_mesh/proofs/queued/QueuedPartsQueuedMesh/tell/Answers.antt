@@ -4,7 +4,7 @@ use Rattle.mesh_defs.specs.ClosedSet.{among}
 use Rattle.edge_laws.specs.Slots.{address_at, IsLive}
 use Rattle.frame_steps.specs.Deferred.{IsEntry}
 use Rattle.deferred_loop.specs.Seen.{IsTold}
-use Rattle.roam_mesh.specs.Mesh.{slot_of, members_of}
+use Rattle.roam_mesh.specs.Mesh.{slot_of, pool_members}
 use Rattle.roam_mesh.specs.Parts.{PartsState, IsParts, seen_parts, is_leaf_at, is_ready_at}
 use Rattle.roam_mesh.specs.Change.{told}
 use Rattle.roam_mesh.proofs.RoleLemmas.{entry_live, entry_cases}
@@ -15,7 +15,7 @@ use Rattle.roam_mesh.proofs.queued.QueuedPartsQueuedMesh.tell.Goals as goal
 
 pub hear-requires-clause-entry : goal.hear-requires-clause-entry
 hear-requires-clause-entry c =
-    let entry : IsEntry c.self.inside.parts.pool.n (among (members_of c.self.inside.parts.pool)) c.args.rank.tri = subst (λ (z : PartsState). IsEntry z.pool.n (among (members_of z.pool)) c.args.rank.tri) (sym c.self.view_is) c.requires.entry in
+    let entry : IsEntry c.self.inside.parts.pool.n (among (pool_members c.self.inside.parts.pool)) c.args.rank.tri = subst (λ (z : PartsState). IsEntry z.pool.n (among (pool_members z.pool)) c.args.rank.tri) (sym c.self.view_is) c.requires.entry in
     let at : address_at c.self.inside.parts.pool.pairs c.in-Some.s.0 ≡ c.args.rank.tri = subst (λ (z : PartsState). address_at z.pool.pairs c.in-Some.s.0 ≡ c.args.rank.tri) (sym c.self.view_is) c.in-Some.ensures.some in
     entry_told c.self.inside.parts c.in-Some.s.0 c.args.rank.tri c.self.invariant entry at
 
@@ -27,7 +27,7 @@ hear-requires-clause-leaf c leaf =
 pub hear-requires-clause-diamond : goal.hear-requires-clause-diamond
 hear-requires-clause-diamond c leaf =
     let none : c.self.inside.parts.fresh ≡ [] = ap (λ (z : PartsState). z.fresh) c.self.view_is ∙ settled_fresh c.args.self.now c.requires.settled in
-    let entry : IsEntry c.self.inside.parts.pool.n (among (members_of c.self.inside.parts.pool)) c.args.rank.tri = subst (λ (z : PartsState). IsEntry z.pool.n (among (members_of z.pool)) c.args.rank.tri) (sym c.self.view_is) c.requires.entry in
+    let entry : IsEntry c.self.inside.parts.pool.n (among (pool_members c.self.inside.parts.pool)) c.args.rank.tri = subst (λ (z : PartsState). IsEntry z.pool.n (among (pool_members z.pool)) c.args.rank.tri) (sym c.self.view_is) c.requires.entry in
     let at : address_at c.self.inside.parts.pool.pairs c.in-Some.s.0 ≡ c.args.rank.tri = subst (λ (z : PartsState). address_at z.pool.pairs c.in-Some.s.0 ≡ c.args.rank.tri) (sym c.self.view_is) c.in-Some.ensures.some in
     let ready : is_ready_at c.self.inside.parts.pool.pairs c.in-Some.s.0 ≡ true = ⊎_elim
     (λ (there : is_leaf_at c.self.inside.parts.pool.pairs c.in-Some.s.0 ≡ true). absurd (both_ways (is_leaf_at c.self.inside.parts.pool.pairs c.in-Some.s.0) leaf there))
@@ -38,14 +38,14 @@ hear-requires-clause-diamond c leaf =
 pub invariant_of-self : goal.invariant_of-self
 invariant_of-self c =
     let none : c.self.inside.parts.fresh ≡ [] = ap (λ (z : PartsState). z.fresh) c.self.view_is ∙ settled_fresh c.args.self.now c.requires.settled in
-    let entry : IsEntry c.self.inside.parts.pool.n (among (members_of c.self.inside.parts.pool)) c.args.rank.tri = subst (λ (z : PartsState). IsEntry z.pool.n (among (members_of z.pool)) c.args.rank.tri) (sym c.self.view_is) c.requires.entry in
+    let entry : IsEntry c.self.inside.parts.pool.n (among (pool_members c.self.inside.parts.pool)) c.args.rank.tri = subst (λ (z : PartsState). IsEntry z.pool.n (among (pool_members z.pool)) c.args.rank.tri) (sym c.self.view_is) c.requires.entry in
     let at : address_at c.self.inside.parts.pool.pairs c.in-Some.s.0 ≡ c.args.rank.tri = subst (λ (z : PartsState). address_at z.pool.pairs c.in-Some.s.0 ≡ c.args.rank.tri) (sym c.self.view_is) c.in-Some.ensures.some in
     subst IsParts (sym c.hear.ensures.told)
     (told_parts c.self.inside.parts c.in-Some.s.0 c.args.rank.p c.hear.ensures.whole c.self.invariant none (entry_told c.self.inside.parts c.in-Some.s.0 c.args.rank.tri c.self.invariant entry at))
 
 pub returns-in-Some : goal.returns-in-Some
 returns-in-Some c =
-    let entry : IsEntry c.self.inside.parts.pool.n (among (members_of c.self.inside.parts.pool)) c.args.rank.tri = subst (λ (z : PartsState). IsEntry z.pool.n (among (members_of z.pool)) c.args.rank.tri) (sym c.self.view_is) c.requires.entry in
+    let entry : IsEntry c.self.inside.parts.pool.n (among (pool_members c.self.inside.parts.pool)) c.args.rank.tri = subst (λ (z : PartsState). IsEntry z.pool.n (among (pool_members z.pool)) c.args.rank.tri) (sym c.self.view_is) c.requires.entry in
     let at : address_at c.self.inside.parts.pool.pairs c.in-Some.s.0 ≡ c.args.rank.tri = subst (λ (z : PartsState). address_at z.pool.pairs c.in-Some.s.0 ≡ c.args.rank.tri) (sym c.self.view_is) c.in-Some.ensures.some in
     let live : IsLive c.self.inside.parts.pool.pairs c.in-Some.s.0 = entry_live c.self.inside.parts.pool.pairs c.in-Some.s.0 (entry_told c.self.inside.parts c.in-Some.s.0 c.args.rank.tri c.self.invariant entry at) in
     let seen : IsTold (seen_parts c.self.inside.parts) (seen_parts (told c.self.inside.parts c.in-Some.s.0 c.args.rank.p)) c.args.rank =
