@@ -1,21 +1,14 @@
 -- What a caller knows of a frame: its mesh is a best one of the state, and the sight tells of it.
 -- All of it is this project's own.
--- Words: mesh_seen, IsBestSeen, IsBestFrom, AreBestFrom.
+-- Words: IsBestSeen, IsBestFrom, AreBestFrom.
 use Rattle.std.specs.Prelude.{◌≡◌, ℕ, List, length}
 use Rattle.std.specs.List.{AllZip}
 use Rattle.mesh_defs.specs.HeightField.{HeightField}
 use Rattle.mesh_defs.specs.BoundingBox.{CameraAt}
 use Rattle.mesh_defs.specs.State.{State, start_state, with_camera, priority_in}
-use Rattle.mesh_defs.specs.ClosedSet.{leaves_of, among}
 use Rattle.mesh_defs.specs.Priority.{worst_of}
 use Rattle.mesh_defs.specs.BestMesh.{IsBestMesh}
-use Rattle.roam_mesh.specs.Mesh.{pool_members}
-use Rattle.frame_loop.specs.Engine.{EngineState}
 use Rattle.engine_uses.specs.declared.step.Sight.{Sight}
-
--- the triangles of an engine's mesh, as its view has them
-abbrev pub mesh_seen : EngineState → List ℕ
-mesh_seen e = leaves_of e.state.grid.n (among (pool_members e.mesh.pool))
 
 -- The triangles are a best mesh of the state: conforming, within the budget, and no conforming list within the budget has a
 -- lower worst. The sight tells how many they are, and their worst.

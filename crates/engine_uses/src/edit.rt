@@ -2,7 +2,8 @@
 
 ghost use Rattle.std.specs.Prelude.{◌≡◌, ◌<◌, ◌≤◌, ◌^◌};
 ghost use Rattle.mesh_defs.specs.State.{with_height};
-ghost use Rattle.engine_uses.specs.Best.{IsBestSeen, mesh_seen};
+ghost use Rattle.frame_loop.specs.Engine.{mesh_seen};
+ghost use Rattle.engine_uses.specs.Best.{IsBestSeen};
 
 use crate::step::{Sight, best_frame};
 use frame_loop::Engine;

@@ -2,7 +2,8 @@
 
 ghost use Rattle.std.specs.Prelude.{◌≡◌, ◌+◌, ◌<◌, ◌≤◌, ◌^◌, length, IfOk};
 ghost use Rattle.mesh_defs.specs.State.{with_camera};
-ghost use Rattle.engine_uses.specs.Best.{AreBestFrom, IsBestSeen, mesh_seen};
+ghost use Rattle.frame_loop.specs.Engine.{mesh_seen};
+ghost use Rattle.engine_uses.specs.Best.{AreBestFrom, IsBestSeen};
 
 use crate::step::{Sight, best_frame};
 use frame_loop::{Camera, Engine, Grid, NoMemory};

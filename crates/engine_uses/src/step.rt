@@ -1,11 +1,10 @@
 //! One frame, and what its caller knows of it.
 
 ghost use Rattle.std.specs.Prelude.{◌≡◌, ◌+◌, ◌<◌};
-ghost use Rattle.engine_uses.specs.Best.{IsBestSeen, mesh_seen};
+ghost use Rattle.frame_loop.specs.Engine.{mesh_seen};
+ghost use Rattle.engine_uses.specs.Best.{IsBestSeen};
 
-use closure_laws::frame_laws;
 use frame_loop::Engine;
-use plain_mesh::falling_laws;
 
 /// What these callers keep of what a frame tells.
 #[derive(Clone, Copy, Debug)]
@@ -28,9 +27,6 @@ pub(crate) fn best_frame(engine: &mut Engine) -> Sight
     ensures odometer { engine.new.odometer ≡ engine.old.odometer }
     ensures frames { engine.new.frames ≡ engine.old.frames + 1 }
 {
-    frame_laws();
-    falling_laws();
-    let _budget = engine.budget_in_force();
     let note = engine.frame();
     Sight {
         triangles: note.triangles,

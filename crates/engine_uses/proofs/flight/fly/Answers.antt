@@ -3,7 +3,8 @@ use Rattle.std.proofs.Common.{◌≡◌, ◌+◌, ◌<◌, ◌∙◌, List, leng
 use Rattle.mesh_defs.specs.BoundingBox.{CameraAt}
 use Rattle.mesh_defs.specs.State.{State, start_state, with_camera}
 use Rattle.engine_uses.specs.declared.step.Sight.{Sight}
-use Rattle.engine_uses.specs.Best.{mesh_seen, IsBestSeen, IsBestFrom, AreBestFrom}
+use Rattle.frame_loop.specs.Engine.{mesh_seen}
+use Rattle.engine_uses.specs.Best.{IsBestSeen, IsBestFrom, AreBestFrom}
 use Rattle.engine_uses.proofs.FlightLemmas.{all-zip-take}
 use Rattle.engine_uses.proofs.flight.fly.Goals as goal
 
