@@ -18,9 +18,9 @@ make_cert-requires-clause-optimal c =
     let state : State = makes_at (making_seen words) c.args.grid in
     let same : c.camera.new.self.state ≡ state = ap (λ (e : EngineState). e.state) c.camera.ensures ∙ ap (with_camera words.camera) c.in_ok-engine.ensures.state in
     let listed = c.in_ok-leaves.ensures.items_if_clones_equal (λ x y h. h) ∙ c.view-view.ensures.members in
-    let grid : c.view-view.result.wedges.now ≡ c.args.grid = c.view-view.ensures.wedges ∙ ap (λ (s : State). s.grid) (c.frame-note.ensures.state ∙ same) in
+    let grid : c.view-view.result.wedges.now ≡ c.args.grid = c.view-view.ensures.wedges ∙ ap (λ (s : State). s.grid) (c.frame-note.ensures.done.state ∙ same) in
     subst (λ (w : HeightField). IsOptimal w.n words.budget (priority_of w.n w.heights (view_from words.camera words.spacing [])) c.in_ok-leaves.leaves.items) (sym grid)
-    (optimal-best _ _ _ _ (best-frame state c.camera.new.self c.frame-note.new.self c.frame-note.result c.in_ok-leaves.leaves.items same c.frame-note.ensures listed
+    (optimal-best _ _ _ _ (best-frame state c.camera.new.self c.frame-note.new.self c.frame-note.result c.in_ok-leaves.leaves.items same c.frame-note.ensures.done listed
     (c.falling_laws.ensures _ _ _) c.requires.bounds.budget_low))
 
 pub make_cert-requires-clause-worst : goal.make_cert-requires-clause-worst
@@ -29,9 +29,9 @@ make_cert-requires-clause-worst c =
     let state : State = makes_at (making_seen words) c.args.grid in
     let same : c.camera.new.self.state ≡ state = ap (λ (e : EngineState). e.state) c.camera.ensures ∙ ap (with_camera words.camera) c.in_ok-engine.ensures.state in
     let listed = c.in_ok-leaves.ensures.items_if_clones_equal (λ x y h. h) ∙ c.view-view.ensures.members in
-    let grid : c.view-view.result.wedges.now ≡ c.args.grid = c.view-view.ensures.wedges ∙ ap (λ (s : State). s.grid) (c.frame-note.ensures.state ∙ same) in
+    let grid : c.view-view.result.wedges.now ≡ c.args.grid = c.view-view.ensures.wedges ∙ ap (λ (s : State). s.grid) (c.frame-note.ensures.done.state ∙ same) in
     subst (λ (w : HeightField). c.frame-note.result.worst ≡ worst_of (priority_of w.n w.heights (view_from words.camera words.spacing [])) c.in_ok-leaves.leaves.items) (sym grid)
-    (worst-frame state c.camera.new.self c.frame-note.new.self c.frame-note.result c.in_ok-leaves.leaves.items same c.frame-note.ensures listed)
+    (worst-frame state c.camera.new.self c.frame-note.new.self c.frame-note.result c.in_ok-leaves.leaves.items same c.frame-note.ensures.done listed)
 
 pub returns : goal.returns
 returns c =
@@ -39,9 +39,9 @@ returns c =
     let state : State = makes_at (making_seen words) c.args.grid in
     let same : c.camera.new.self.state ≡ state = ap (λ (e : EngineState). e.state) c.camera.ensures ∙ ap (with_camera words.camera) c.in_ok-engine.ensures.state in
     let listed = c.in_ok-leaves.ensures.items_if_clones_equal (λ x y h. h) ∙ c.view-view.ensures.members in
-    let grid : c.view-view.result.wedges.now ≡ c.args.grid = c.view-view.ensures.wedges ∙ ap (λ (s : State). s.grid) (c.frame-note.ensures.state ∙ same) in
+    let grid : c.view-view.result.wedges.now ≡ c.args.grid = c.view-view.ensures.wedges ∙ ap (λ (s : State). s.grid) (c.frame-note.ensures.done.state ∙ same) in
     made-of (making_seen words) c.args.grid c.in_ok-leaves.leaves.items c.make_cert.result
-    (best-frame state c.camera.new.self c.frame-note.new.self c.frame-note.result c.in_ok-leaves.leaves.items same c.frame-note.ensures listed
+    (best-frame state c.camera.new.self c.frame-note.new.self c.frame-note.result c.in_ok-leaves.leaves.items same c.frame-note.ensures.done listed
     (c.falling_laws.ensures _ _ _) c.requires.bounds.budget_low)
     c.make_cert.ensures.camera c.make_cert.ensures.leaves
     (subst (λ (w : HeightField). IfOk c.make_cert.result (λ cert. IsSound w.n words.budget (priority_of w.n w.heights (view_from words.camera words.spacing [])) cert.leaves cert.reasons))
