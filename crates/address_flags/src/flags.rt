@@ -2,13 +2,14 @@
 
 ghost use Rattle.std.specs.Prelude.{◌≡◌, ℕ, ◌+◌, ◌*◌, ◌^◌, ◌<◌, ◌≤◌, length, true, set};
 ghost use Rattle.mesh_defs.specs.Greedy.{with_triangle};
+ghost use Rattle.mesh_defs.specs.declared.level.TheConstants.{GREATEST_LEVEL};
 ghost use Rattle.least_laws.specs.Sweep.{is_flagged, IsParentMarked};
 
 use bintree_addr::Tri;
 
 /// The first address past the splittable ones: the length of a table.
 pub fn end(n: u32) -> u32
-    requires in_grid { (1 ≤ n) × (n ≤ 11) }
+    requires in_grid { (1 ≤ n) × (n ≤ GREATEST_LEVEL) }
     ensures value { result ≡ 2 ^ (2 * n + 1) }
     ensures low { 2 ≤ result }
     ensures high { result ≤ 2 ^ 23 }

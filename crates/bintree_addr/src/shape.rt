@@ -1,6 +1,7 @@
 //! Corners by a step down the bintree, and the side of a line on which a point lies.
 
 ghost use Rattle.std.specs.Prelude.{◌≡◌, ◌+◌, ◌<◌, ◌^◌, if◌then◌else◌};
+ghost use Rattle.mesh_defs.specs.declared.level.TheConstants.{GREATEST_LEVEL};
 ghost use Rattle.mesh_defs.specs.Triangle.{midpoint, base_triangle, child};
 ghost use Rattle.bintree_laws.specs.Corners.{IsWithin, IsInSquare};
 ghost use Rattle.mesh_defs.specs.BoundingBox.{is_left_or_on};
@@ -43,7 +44,7 @@ pub fn half_square(side: u32, above: bool) -> Corners
 
 /// The corners of the left or the right child.
 pub fn child_corners(corners: Corners, right: bool) -> Corners
-    requires within { IsWithin (2 ^ 11) corners }
+    requires within { IsWithin (2 ^ GREATEST_LEVEL) corners }
     ensures { result ≡ child (if right then 1 else 0) corners }
 {
     let apex = point_between(corners.v0, corners.v1);
@@ -64,9 +65,9 @@ pub fn child_corners(corners: Corners, right: bool) -> Corners
 
 /// Whether r lies left of the line from p to q, or on it.
 pub fn is_left(r: Point, p: Point, q: Point) -> bool
-    requires r_in_square { IsInSquare (2 ^ 11) r }
-    requires p_in_square { IsInSquare (2 ^ 11) p }
-    requires q_in_square { IsInSquare (2 ^ 11) q }
+    requires r_in_square { IsInSquare (2 ^ GREATEST_LEVEL) r }
+    requires p_in_square { IsInSquare (2 ^ GREATEST_LEVEL) p }
+    requires q_in_square { IsInSquare (2 ^ GREATEST_LEVEL) q }
     ensures { result ≡ is_left_or_on r p q }
 {
     let right_side = p.y * q.x + q.y * r.x + r.y * p.x;

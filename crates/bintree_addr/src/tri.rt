@@ -3,6 +3,7 @@
 ghost use Rattle.std.specs.Prelude.{◌≡◌, ℕ, ◌+◌, ◌*◌, ◌^◌, ◌<◌, ◌≤◌, ◌/◌, ◌↔◌, IsSome, IsNone, IfSome};
 ghost use Rattle.mesh_defs.specs.Triangle.{level_of, corners_of, child, midpoint, IsMate, HasBorderBase};
 ghost use Rattle.mesh_defs.specs.BoundingBox.{holds_point, point};
+ghost use Rattle.mesh_defs.specs.declared.level.TheConstants.{GREATEST_LEVEL};
 ghost use Rattle.bintree_laws.specs.Corners.{IsWithin, HasEvenBase};
 
 use crate::pair::address_across;
@@ -34,6 +35,12 @@ impl Model for Tri {
 
 #[tactic(auto, using(bintree_laws::proofs::LatticeLemmas::corner_facts))]
 impl Tri {
+    /// The half of the square below its falling diagonal.
+    pub const LOWER: Self = Tri { number: 2 };
+
+    /// The half of the square above its falling diagonal.
+    pub const UPPER: Self = Tri { number: 3 };
+
     /// The triangle with this address.
     pub fn new(number: u32) -> Option<Self>
         ensures valid { IsSome result ↔ ((2 ≤ number) × (number < 2 ^ 24)) }
@@ -108,7 +115,7 @@ impl Tri {
     /// The mate of an address is the same in every grid that has it.
     /// Cost (not proved): a step for two levels at most, and two steps on average.
     pub fn mate(self, n: u32) -> Option<Self>
-        requires in_grid { (1 ≤ n) × (n ≤ 11) }
+        requires in_grid { (1 ≤ n) × (n ≤ GREATEST_LEVEL) }
         requires level { level_of self ≤ 2 * n }
         ensures mate { (c : ℕ) → ((result ≡ Some c) ↔ IsMate n self c) }
         ensures border { IsNone result ↔ HasBorderBase n self }
@@ -123,7 +130,7 @@ impl Tri {
     ///
     /// Cost (not proved): a step a level.
     pub fn corners(self, n: u32) -> Corners
-        requires in_grid { (1 ≤ n) × (n ≤ 11) }
+        requires in_grid { (1 ≤ n) × (n ≤ GREATEST_LEVEL) }
         requires level { level_of self ≤ 2 * n }
         ensures value { result ≡ corners_of n self }
         ensures within { IsWithin (2 ^ n) result }
@@ -140,7 +147,7 @@ impl Tri {
     ///
     /// Cost (not proved): a step a level.
     pub fn centre(self, n: u32) -> Point
-        requires in_grid { (1 ≤ n) × (n ≤ 11) }
+        requires in_grid { (1 ≤ n) × (n ≤ GREATEST_LEVEL) }
         requires splittable { level_of self < 2 * n }
         ensures value { result ≡ midpoint (corners_of n self).v0 (corners_of n self).v1 }
         ensures exact { HasEvenBase (corners_of n self) }
@@ -154,7 +161,7 @@ impl Tri {
     /// Cost (not proved): that of `corners`.
     #[tactic(auto, using(bintree_laws::proofs::CornerLemmas::side_small))]
     pub fn holds_point(self, n: u32, x: u32, y: u32) -> bool
-        requires in_grid { (1 ≤ n) × (n ≤ 11) }
+        requires in_grid { (1 ≤ n) × (n ≤ GREATEST_LEVEL) }
         requires level { level_of self ≤ 2 * n }
         requires x_in_grid { x ≤ 2 ^ n }
         requires y_in_grid { y ≤ 2 ^ n }
@@ -173,7 +180,7 @@ impl Default for Tri {
 
     /// The half of the square below its falling diagonal.
     fn default() -> Self {
-        Tri { number: 2 }
+        Tri::LOWER
     }
 }
 

@@ -3,6 +3,7 @@
 use Rattle.std.specs.Prelude.{ℕ, ◌≤◌, All, Bool, ◌&&◌, nat_lt, if◌then◌else◌, List, [], ◌∷◌, ◌++◌, length, ◌==◌, Option, Some, None, is_some, Result, Ok, Err}
 use Rattle.mesh_defs.specs.Triangle.{IsAddress, IsSplittable}
 use Rattle.mesh_defs.specs.BoundingBox.{CameraAt}
+use Rattle.mesh_defs.specs.declared.level.TheConstants.{GREATEST_LEVEL}
 use Rattle.certificate_laws.specs.declared.reason.Reason.{Reason}
 use Rattle.cert_text.specs.declared.limits.TheConstants.{MOST_LEAVES, MOST_REASONS}
 use Rattle.cert_text.specs.declared.line.CertLine.{CertLine}
@@ -27,7 +28,7 @@ nothing_read = read_so_far None [] []
 
 -- leaves and reasons of triangles of the grid with this n, no more than a certificate may have
 pub record AreFew (n : ℕ) (leaves : List ℕ) (reasons : List Reason) : Type 0 where
-  pub in_grid : (1 ≤ n) × (n ≤ 11)
+  pub in_grid : (1 ≤ n) × (n ≤ GREATEST_LEVEL)
   pub addresses : All (IsAddress n) leaves
   pub splittable : All (λ (r : Reason). IsSplittable n r.triangle) reasons
   pub few_leaves : length leaves ≤ MOST_LEAVES

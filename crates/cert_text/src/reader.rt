@@ -2,6 +2,7 @@
 
 ghost use Rattle.std.specs.Prelude.{◌≡◌, ◌≤◌, ◌++◌, ◌∷◌, [], ◌↔◌, ℕ, None, Some, Ok, Err, OnOk, OnErr, IfOk, IfErr, All};
 ghost use Rattle.mesh_defs.specs.Triangle.{IsAddress, IsSplittable};
+ghost use Rattle.mesh_defs.specs.declared.level.TheConstants.{GREATEST_LEVEL};
 ghost use Rattle.certificate_laws.specs.declared.reason.Reason.{Reason};
 ghost use Rattle.cert_text.specs.CertReader.{nothing_read, read_so_far, AreFew, taken, cert_line_in, finished};
 ghost use Rattle.cert_text.specs.CertLine.{IsLineOf};
@@ -48,7 +49,7 @@ impl Model for CertReader {
 impl CertReader {
     /// A reader that has read nothing, for the grid of side 2^n. Takes no memory.
     pub fn new(alloc: Global, n: u32) -> CertReader
-        requires in_grid { (1 ≤ n) × (n ≤ 11) }
+        requires in_grid { (1 ≤ n) × (n ≤ GREATEST_LEVEL) }
         ensures { result ≡ record { n = n; read = nothing_read; refusal = None } }
     {
         CertReader {

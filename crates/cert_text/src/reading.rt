@@ -1,6 +1,7 @@
 //! From the bytes of a line to what it says.
 
 ghost use Rattle.std.specs.Prelude.{◌≡◌, ℕ, ◌+◌, ◌*◌, ◌^◌, ◌<◌, ◌≤◌, IfSome};
+ghost use Rattle.mesh_defs.specs.declared.level.TheConstants.{GREATEST_LEVEL};
 ghost use Rattle.text_laws.specs.Fields.{fields_of};
 ghost use Rattle.cert_text.specs.CertLine.{word_of, camera_of, address_in, camera_fields, leaf_fields, reason_fields, word_line, fields_line, line_in, IsLineOf};
 
@@ -15,7 +16,7 @@ use view_priority::Camera;
 ///
 /// Cost (not proved): a few steps a byte. Takes no memory.
 pub(crate) fn read_line(bytes: &[u8], n: u32) -> Option<CertLine>
-    requires in_grid { (1 ≤ n) × (n ≤ 11) }
+    requires in_grid { (1 ≤ n) × (n ≤ GREATEST_LEVEL) }
     ensures value { result ≡ line_in n bytes.now }
     ensures of_grid { IfSome result (IsLineOf n) }
 {
@@ -27,7 +28,7 @@ pub(crate) fn read_line(bytes: &[u8], n: u32) -> Option<CertLine>
 
 /// The line of the fields of these bytes.
 fn line_of_fields(bytes: &[u8], n: u32) -> Option<CertLine>
-    requires in_grid { (1 ≤ n) × (n ≤ 11) }
+    requires in_grid { (1 ≤ n) × (n ≤ GREATEST_LEVEL) }
     ensures value { result ≡ fields_line n (fields_of bytes.now) }
     ensures of_grid { IfSome result (IsLineOf n) }
 {
@@ -92,7 +93,7 @@ fn camera_of(x: Option<i64>, y: Option<i64>, z: Option<i64>) -> Option<CertLine>
 
 /// The line of a leaf: one address.
 fn leaf_line(bytes: &[u8], n: u32) -> Option<CertLine>
-    requires in_grid { (1 ≤ n) × (n ≤ 11) }
+    requires in_grid { (1 ≤ n) × (n ≤ GREATEST_LEVEL) }
     ensures value { result ≡ leaf_fields n (fields_of bytes.now) }
     ensures of_grid { IfSome result (IsLineOf n) }
 {
@@ -110,7 +111,7 @@ fn leaf_line(bytes: &[u8], n: u32) -> Option<CertLine>
 
 /// The line of a reason: one address.
 fn reason_line(bytes: &[u8], n: u32, kind: Kind) -> Option<CertLine>
-    requires in_grid { (1 ≤ n) × (n ≤ 11) }
+    requires in_grid { (1 ≤ n) × (n ≤ GREATEST_LEVEL) }
     ensures value { result ≡ reason_fields n kind (fields_of bytes.now) }
     ensures of_grid { IfSome result (IsLineOf n) }
 {
@@ -141,7 +142,7 @@ fn read_address(field: &[u8], end: u32) -> Option<Tri>
 
 /// The first address past those of the grid.
 fn leaf_end(n: u32) -> u32
-    requires in_grid { (1 ≤ n) × (n ≤ 11) }
+    requires in_grid { (1 ≤ n) × (n ≤ GREATEST_LEVEL) }
     ensures value { result ≡ 2 ^ (2 * n + 2) }
     ensures high { result ≤ 2 ^ 24 }
 {
@@ -150,7 +151,7 @@ fn leaf_end(n: u32) -> u32
 
 /// The first address past those of the triangles that may be split.
 fn reason_end(n: u32) -> u32
-    requires in_grid { (1 ≤ n) × (n ≤ 11) }
+    requires in_grid { (1 ≤ n) × (n ≤ GREATEST_LEVEL) }
     ensures value { result ≡ 2 ^ (2 * n + 1) }
     ensures high { result ≤ 2 ^ 24 }
 {

@@ -12,6 +12,7 @@ ghost use Rattle.mesh_defs.specs.Greedy.{IsFirstLeaf, with_triangle, IsGreedyEnd
 ghost use Rattle.mesh_defs.specs.BestMesh.{IsBestMesh};
 ghost use Rattle.mesh_defs.specs.GridSet.{IsAscending, IsGain};
 ghost use Rattle.mesh_defs.specs.Falling.{IsFalling};
+ghost use Rattle.mesh_defs.specs.declared.level.TheConstants.{GREATEST_LEVEL};
 ghost use Rattle.bintree_addr.specs.declared.blocked.Blocked.{Blocked};
 ghost use Rattle.closure_laws.specs.Frame.{IsFrame};
 
@@ -129,7 +130,7 @@ pub fn frame_laws()
 /// `vertices` and `text` give the corners and the bytes of that mesh, where no plane is in force.
 pub fn base_mesh(n: u32)
     requires low { 1 ≤ n }
-    requires high { n ≤ 11 }
+    requires high { n ≤ GREATEST_LEVEL }
     ensures conforming { IsConforming n (2 ∷ (3 ∷ [])) }
     ensures only { (others : List ℕ) → IsConforming n others → length others ≤ 2 →
         (others ≡ 2 ∷ (3 ∷ [])) ⊎ (others ≡ 3 ∷ (2 ∷ [])) }

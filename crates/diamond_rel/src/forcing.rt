@@ -5,6 +5,7 @@ ghost use Rattle.mesh_defs.specs.Triangle.{IsSplittable};
 ghost use Rattle.mesh_defs.specs.ClosedSet.{IsClosed, IsLeastClosed, among};
 ghost use Rattle.mesh_defs.specs.Greedy.{with_triangle};
 ghost use Rattle.mesh_defs.specs.GridSet.{IsAscending};
+ghost use Rattle.mesh_defs.specs.declared.level.TheConstants.{GREATEST_LEVEL};
 ghost use Rattle.closure_laws.specs.Forcing.{IsPrepared};
 
 use crate::members::{contains, insert};
@@ -18,7 +19,7 @@ use roam_edge::NoMemory;
 /// Source: Duchaineau et al., "ROAMing Terrain", IEEE Visualization 1997, section 4 (forced splits).
 #[cycle(force)]
 pub fn force(members: &mut Vec<Tri>, n: u32, t: Tri) -> Result<(), NoMemory>
-    requires in_grid { (1 ≤ n) × (n ≤ 11) }
+    requires in_grid { (1 ≤ n) × (n ≤ GREATEST_LEVEL) }
     requires splittable { IsSplittable n t }
     requires ascending { IsAscending members.old.items }
     requires closed { IsClosed n (among members.old.items) }
@@ -47,7 +48,7 @@ pub fn force(members: &mut Vec<Tri>, n: u32, t: Tri) -> Result<(), NoMemory>
 /// Splits the triangle's parent, where it has one, and what that stands on.
 #[cycle(force)]
 fn force_parent(members: &mut Vec<Tri>, n: u32, t: Tri) -> Result<(), NoMemory>
-    requires in_grid { (1 ≤ n) × (n ≤ 11) }
+    requires in_grid { (1 ≤ n) × (n ≤ GREATEST_LEVEL) }
     requires splittable { IsSplittable n t }
     requires ascending { IsAscending members.old.items }
     requires closed { IsClosed n (among members.old.items) }

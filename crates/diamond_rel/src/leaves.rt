@@ -4,6 +4,7 @@ ghost use Rattle.std.specs.Prelude.{◌≡◌, ◌+◌, ◌*◌, ◌≤◌, ◌+
 ghost use Rattle.mesh_defs.specs.Triangle.{level_of};
 ghost use Rattle.mesh_defs.specs.ClosedSet.{leaves_under, leaves_of, among};
 ghost use Rattle.mesh_defs.specs.GridSet.{IsAscending};
+ghost use Rattle.mesh_defs.specs.declared.level.TheConstants.{GREATEST_LEVEL};
 
 use crate::members::contains;
 use bintree_addr::Tri;
@@ -26,27 +27,11 @@ fn push_leaves(members: &[Tri], levels: u32, t: Tri, out: &mut Vec<Tri>) -> Resu
 
 /// Adds all leaves of the set in the grid of side 2^n.
 pub fn push_all_leaves(members: &[Tri], n: u32, out: &mut Vec<Tri>) -> Result<(), NoMemory>
-    requires in_grid { n ≤ 11 }
+    requires in_grid { n ≤ GREATEST_LEVEL }
     requires ascending { IsAscending members.now }
     ensures { OnOk result (out.new.items ≡ out.old.items ++ leaves_of n (among members.now)) }
 {
-    push_leaves(members, 2 * n, lower_half(), out)?;
-    push_leaves(members, 2 * n, upper_half(), out)?;
+    push_leaves(members, 2 * n, Tri::LOWER, out)?;
+    push_leaves(members, 2 * n, Tri::UPPER, out)?;
     Ok(())
-}
-
-/// The half of the square below its falling diagonal.
-fn lower_half() -> Tri
-    ensures value { result ≡ 2 }
-    ensures level { level_of result ≡ 0 }
-{
-    Tri::new(2).unwrap()
-}
-
-/// The half of the square above its falling diagonal.
-fn upper_half() -> Tri
-    ensures value { result ≡ 3 }
-    ensures level { level_of result ≡ 0 }
-{
-    Tri::new(3).unwrap()
 }

@@ -6,6 +6,7 @@ ghost use Rattle.mesh_defs.specs.Tiling.{IsConforming};
 ghost use Rattle.mesh_defs.specs.ClosedSet.{IsClosed, leaves_of, among};
 ghost use Rattle.tiling_laws.specs.Ancestors.{ancestors_of, AreLeaves};
 ghost use Rattle.mesh_defs.specs.GridSet.{IsGridSet, IsForced, IsGain};
+ghost use Rattle.mesh_defs.specs.declared.level.TheConstants.{GREATEST_LEVEL};
 
 use crate::forcing::force;
 use crate::leaves::push_all_leaves;
@@ -39,7 +40,7 @@ impl Model for Split {
 impl Split {
     /// The empty set of the grid of side 2^n: its leaves are the two halves of the square.
     pub fn base(alloc: Global, n: u32) -> Self
-        requires in_grid { (1 ≤ n) × (n ≤ 11) }
+        requires in_grid { (1 ≤ n) × (n ≤ GREATEST_LEVEL) }
         ensures n { result.n ≡ n }
         ensures empty { result.members ≡ [] }
     {

@@ -4,6 +4,7 @@
 use Rattle.std.specs.Prelude.{◌≡◌, ◌≢◌, ◌⊎◌, ℕ, ◌+◌, ◌*◌, ◌/◌, ◌%◌, ◌^◌, ◌<◌, ◌≤◌, Bool, ◌&&◌, true, false, nat_lt, nat_eq, List, slice_index, count_by}
 use Rattle.std.specs.List.{filter, range_with_len}
 use Rattle.mesh_defs.specs.ClosedSet.{among, IsClosed}
+use Rattle.mesh_defs.specs.declared.level.TheConstants.{GREATEST_LEVEL}
 use Rattle.edge_laws.specs.Edge.{mate_of}
 use Rattle.edge_laws.specs.LeafAcross.{IsGrown}
 
@@ -50,7 +51,7 @@ pub record IsSplit (before after : List ℕ) (a : ℕ) : Type 0 where
 -- has a slot needs no saying: it stands in the pair of its parent.
 pub record IsPool (n : ℕ) (pairs : List ℕ) : Type 0 where
   pub n_low : 1 ≤ n
-  pub n_high : n ≤ 11
+  pub n_high : n ≤ GREATEST_LEVEL
   pub closed : IsClosed n (split_set pairs)
   pub root : has_children pairs 1 ≡ true
   pub once : (q r : ℕ) → IsLive pairs q → address_at pairs q ≡ address_at pairs r → q ≡ r

@@ -6,6 +6,7 @@ use Rattle.mesh_defs.specs.declared.mark.Mark.TheVariants.{Inside, Cut, Outside}
 use Rattle.mesh_defs.specs.State.{State, priority_in}
 use Rattle.mesh_defs.specs.ClosedSet.{leaves_of, among}
 use Rattle.mesh_defs.specs.MeshText.{vertices_of}
+use Rattle.mesh_defs.specs.declared.level.TheConstants.{GREATEST_LEVEL}
 use Rattle.edge_laws.specs.Slots.{split_set}
 use Rattle.closure_laws.specs.Frame.{IsFrame}
 use Rattle.frame_steps.specs.Stamps.{Stamp}
@@ -36,7 +37,7 @@ mesh_seen e = leaves_of e.state.grid.n (among (pool_members e.mesh.pool))
 -- What holds of every engine: its budgets, its counts after so many frames, and that its stamps bracket the priorities.
 pub record IsEngine (e : EngineState) : Type 0 where
   pub n_low : 1 ≤ e.state.grid.n
-  pub n_high : e.state.grid.n ≤ 11
+  pub n_high : e.state.grid.n ≤ GREATEST_LEVEL
   pub n : e.mesh.pool.n ≡ e.state.grid.n
   pub most_low : 2 ≤ e.most
   pub most_high : e.most ≤ 1048576

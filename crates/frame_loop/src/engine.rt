@@ -8,6 +8,7 @@ ghost use Rattle.mesh_defs.specs.ClosedSet.{leaves_of, among};
 ghost use Rattle.edge_laws.specs.Slots.{split_set};
 ghost use Rattle.obj_write.specs.Numbers.{numbers_of};
 ghost use Rattle.mesh_defs.specs.HeightField.{side_of};
+ghost use Rattle.mesh_defs.specs.declared.level.TheConstants.{GREATEST_LEVEL};
 ghost use Rattle.roam_mesh.specs.Mesh.{stamp_of, pool_members, OnlyEntriesStamped};
 ghost use Rattle.frame_loop.specs.Outlook.{outlook_of, AreBracketed};
 
@@ -238,7 +239,7 @@ fn start_outlook(wedges: Wedges, spacing: u32) -> Outlook
 
 /// For how many leaves a mesh has room: for those of the budget, or for all that there can be.
 fn room(n: u32, budget: u32) -> u32
-    requires in_grid { n ≤ 11 }
+    requires in_grid { n ≤ GREATEST_LEVEL }
     requires some { 2 ≤ budget }
     ensures value { result ≡ min budget (2 * 4 ^ n) }
     ensures some { 2 ≤ result }

@@ -5,6 +5,7 @@ ghost use Rattle.mesh_defs.specs.Triangle.{IsAddress, level_of, corners_of};
 ghost use Rattle.mesh_defs.specs.Thickness.{thickness_of};
 ghost use Rattle.mesh_defs.specs.BoundingBox.{box_of};
 ghost use Rattle.mesh_defs.specs.State.{raised_heights};
+ghost use Rattle.mesh_defs.specs.declared.level.TheConstants.{GREATEST_LEVEL};
 ghost use Rattle.bintree_laws.specs.Areas.{MeetsArea};
 ghost use Rattle.wedgie_tree.specs.Edits.{area_of};
 
@@ -17,7 +18,7 @@ use wedgie_tree::{Area, Wedges, edit_laws};
 ///
 /// Cost (not proved): that of `Tri::corners`.
 pub fn meets(t: Tri, n: u32, x0: u32, y0: u32, x1: u32, y1: u32) -> bool
-    requires in_grid { (1 ≤ n) × (n ≤ 11) }
+    requires in_grid { (1 ≤ n) × (n ≤ GREATEST_LEVEL) }
     requires level { level_of t ≤ 2 * n }
     requires columns { x0 ≤ x1 }
     requires rows { y0 ≤ y1 }

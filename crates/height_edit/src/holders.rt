@@ -3,6 +3,7 @@
 ghost use Rattle.std.specs.Prelude.{◌≡◌, ℕ, ◌+◌, ◌*◌, ◌^◌, ◌<◌, ◌≤◌, ◌++◌, length, All};
 ghost use Rattle.mesh_defs.specs.Triangle.{level_of};
 ghost use Rattle.mesh_defs.specs.BoundingBox.{point};
+ghost use Rattle.mesh_defs.specs.declared.level.TheConstants.{GREATEST_LEVEL};
 ghost use Rattle.height_edit.specs.Holders.{held_from, holders};
 ghost use Rattle.height_edit.specs.Weights.{offspring, weights};
 
@@ -19,7 +20,7 @@ pub const HOLDERS: usize = 192;
 
 /// All triangles that hold the point, by address.
 pub fn holders(n: u32, x: u32, y: u32) -> ArrayVec<Tri, HOLDERS>
-    requires in_grid { (1 ≤ n) × (n ≤ 11) }
+    requires in_grid { (1 ≤ n) × (n ≤ GREATEST_LEVEL) }
     requires in_columns { x ≤ 2 ^ n }
     requires in_rows { y ≤ 2 ^ n }
     ensures { result.items ≡ holders n (point x y) }
@@ -39,7 +40,7 @@ pub fn holders(n: u32, x: u32, y: u32) -> ArrayVec<Tri, HOLDERS>
 
 /// The halves of the square that hold the point.
 fn bases(n: u32, x: u32, y: u32) -> ArrayVec<Tri, AROUND>
-    requires in_grid { (1 ≤ n) × (n ≤ 11) }
+    requires in_grid { (1 ≤ n) × (n ≤ GREATEST_LEVEL) }
     requires in_columns { x ≤ 2 ^ n }
     requires in_rows { y ≤ 2 ^ n }
     ensures { result.items ≡ held_from n (point x y) 2 2 }
@@ -62,7 +63,7 @@ fn append(all: &mut ArrayVec<Tri, HOLDERS>, level: &[Tri])
 
 /// The children of these triangles that hold the point.
 fn children(level: &[Tri], n: u32, x: u32, y: u32) -> ArrayVec<Tri, AROUND>
-    requires in_grid { (1 ≤ n) × (n ≤ 11) }
+    requires in_grid { (1 ≤ n) × (n ≤ GREATEST_LEVEL) }
     requires in_columns { x ≤ 2 ^ n }
     requires in_rows { y ≤ 2 ^ n }
     requires splittable { All (λ a. level_of a < 2 * n) level.now }
@@ -79,7 +80,7 @@ fn children(level: &[Tri], n: u32, x: u32, y: u32) -> ArrayVec<Tri, AROUND>
 
 /// Adds those of the triangles `left` and `left` + 1 that hold the point.
 fn push_pair(held: &mut ArrayVec<Tri, AROUND>, left: u32, n: u32, x: u32, y: u32)
-    requires in_grid { (1 ≤ n) × (n ≤ 11) }
+    requires in_grid { (1 ≤ n) × (n ≤ GREATEST_LEVEL) }
     requires in_columns { x ≤ 2 ^ n }
     requires in_rows { y ≤ 2 ^ n }
     requires low { 2 ≤ left }
@@ -93,7 +94,7 @@ fn push_pair(held: &mut ArrayVec<Tri, AROUND>, left: u32, n: u32, x: u32, y: u32
 
 /// Adds a triangle where it holds the point.
 fn push_held(held: &mut ArrayVec<Tri, AROUND>, number: u32, n: u32, x: u32, y: u32)
-    requires in_grid { (1 ≤ n) × (n ≤ 11) }
+    requires in_grid { (1 ≤ n) × (n ≤ GREATEST_LEVEL) }
     requires in_columns { x ≤ 2 ^ n }
     requires in_rows { y ≤ 2 ^ n }
     requires low { 2 ≤ number }

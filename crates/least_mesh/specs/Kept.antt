@@ -3,6 +3,7 @@
 use Rattle.std.specs.Prelude.{◌≡◌, ℕ, ◌+◌, ◌*◌, ◌^◌, ◌≤◌, Bool, List, length, take}
 use Rattle.mesh_defs.specs.HeightField.{side_of}
 use Rattle.mesh_defs.specs.Tiling.{IsConforming}
+use Rattle.mesh_defs.specs.declared.level.TheConstants.{GREATEST_LEVEL}
 use Rattle.obj_write.specs.Numbers.{numbers_of}
 
 -- a mesh of the grid of side 2 ^ n: its triangles, by address
@@ -14,7 +15,7 @@ pub record GridMesh : Type 0 where
 -- the numbers of its vertices
 pub record IsKept (n : ℕ) (flags : List Bool) (room : List ℕ) (count : ℕ) (numbers : List ℕ) : Type 0 where
   pub n_low : 1 ≤ n
-  pub n_high : n ≤ 11
+  pub n_high : n ≤ GREATEST_LEVEL
   pub flagged : length flags ≡ 2 ^ (2 * n + 1)
   pub roomy : length room ≡ 2 ^ (2 * n + 1)
   pub within : count ≤ length room

@@ -4,13 +4,14 @@ ghost use Rattle.std.specs.Prelude.{◌≡◌, ◌+◌, ◌*◌, ◌^◌, ◌≤
 ghost use Rattle.mesh_defs.specs.Tiling.{IsConforming};
 ghost use Rattle.mesh_defs.specs.MeshText.{vertices_of};
 ghost use Rattle.mesh_defs.specs.Priority.{priority_of, worst_of};
+ghost use Rattle.mesh_defs.specs.declared.level.TheConstants.{GREATEST_LEVEL};
 ghost use Rattle.wedgie_tree.specs.declared.wedges.TheConstants.{GREATEST_SPACING};
 ghost use Rattle.view_priority.specs.Camera.{view_from};
 ghost use Rattle.obj_write.specs.Numbers.{numbers_of};
 ghost use Rattle.least_laws.specs.Least.{IsLeastList, IsLeastMesh};
 
 use crate::flags::sweep;
-use crate::list::{list_leaves, lower_half, worst_leaf};
+use crate::list::{list_leaves, worst_leaf};
 use crate::worse::flag_worse;
 use address_flags::end;
 use bintree_addr::{Tri, level_laws};
@@ -66,14 +67,14 @@ pub struct LeastNote {
 impl Least {
     /// Room for the grid of side 2^n; the mesh is the two halves of the square.
     pub fn make(alloc: Global, n: u32) -> Result<Least, NoMemory>
-        requires in_grid { (1 ≤ n) × (n ≤ 11) }
+        requires in_grid { (1 ≤ n) × (n ≤ GREATEST_LEVEL) }
         ensures n { IfOk result (λ l. l.n ≡ n) }
         ensures base { IfOk result (λ l. l.leaves ≡ 2 ∷ (3 ∷ [])) }
     {
         level_laws();
         base_mesh(n);
         let flags = vec![in alloc; false; end(n) as usize]?;
-        let mut room = vec![in alloc; lower_half(); end(n) as usize]?;
+        let mut room = vec![in alloc; Tri::LOWER; end(n) as usize]?;
         let count = list_leaves(&flags, n, &mut room);
         let mut numbers = vec![in alloc; 0; side_for(n) * side_for(n)]?;
         number_vertices(&room[..count], n, &mut numbers);

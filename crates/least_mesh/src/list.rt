@@ -4,6 +4,7 @@ ghost use Rattle.std.specs.Prelude.{◌≡◌, ◌+◌, ◌*◌, ◌^◌, ◌≤
 ghost use Rattle.mesh_defs.specs.Triangle.{level_of};
 ghost use Rattle.mesh_defs.specs.ClosedSet.{leaves_under, leaves_of};
 ghost use Rattle.mesh_defs.specs.Priority.{priority_of, worst_of};
+ghost use Rattle.mesh_defs.specs.declared.level.TheConstants.{GREATEST_LEVEL};
 ghost use Rattle.wedgie_tree.specs.declared.wedges.TheConstants.{GREATEST_SPACING};
 ghost use Rattle.view_priority.specs.Camera.{view_from};
 ghost use Rattle.least_laws.specs.Sweep.{is_flagged};
@@ -16,14 +17,14 @@ use wedgie_tree::Wedges;
 
 /// Puts the leaves of the flagged set to the front of the list, and answers how many there are.
 pub fn list_leaves(flags: &[bool], n: u32, list: &mut [Tri]) -> usize
-    requires in_grid { n ≤ 11 }
+    requires in_grid { n ≤ GREATEST_LEVEL }
     requires room { length list.old ≡ 2 ^ (2 * n + 1) }
     ensures listed { take result list.new ≡ leaves_of n (is_flagged flags.now) }
     ensures count { result ≡ length (leaves_of n (is_flagged flags.now)) }
     ensures within { result ≤ length list.new }
 {
-    let between = put_leaves(flags, 2 * n, lower_half(), list, 0);
-    put_leaves(flags, 2 * n, upper_half(), list, between)
+    let between = put_leaves(flags, 2 * n, Tri::LOWER, list, 0);
+    put_leaves(flags, 2 * n, Tri::UPPER, list, between)
 }
 
 /// Puts the leaves at and below the triangle, which has so many levels below it, behind the first ones.
@@ -41,22 +42,6 @@ fn put_leaves(flags: &[bool], levels: u32, t: Tri, list: &mut [Tri], count: usiz
     }
     let between = put_leaves(flags, levels - 1, t.left(), list, count);
     put_leaves(flags, levels - 1, t.right(), list, between)
-}
-
-/// The half of the square below its falling diagonal.
-pub fn lower_half() -> Tri
-    ensures value { result ≡ 2 }
-    ensures level { level_of result ≡ 0 }
-{
-    Tri::new(2).unwrap()
-}
-
-/// The half of the square above its falling diagonal.
-fn upper_half() -> Tri
-    ensures value { result ≡ 3 }
-    ensures level { level_of result ≡ 0 }
-{
-    Tri::new(3).unwrap()
 }
 
 /// The greatest priority of a triangle of the list.

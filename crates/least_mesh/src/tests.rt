@@ -1,6 +1,7 @@
 //! Least meshes of small grids, worked by hand.
 
 ghost use Rattle.std.specs.Prelude.{◌≡◌, ◌^◌, ◌≤◌, IfOk};
+ghost use Rattle.mesh_defs.specs.declared.level.TheConstants.{GREATEST_LEVEL};
 
 use crate::Least;
 use cull_marks::{Plane, Planes};
@@ -13,7 +14,7 @@ use wedgie_tree::Wedges;
 
 /// The grid of side 2^n with one point of height 10, seen from the origin at spacing 1.
 fn hill(alloc: Global, n: u32, x: u32, y: u32) -> Result<Wedges, Fail>
-    requires in_grid { (1 ≤ n) × (n ≤ 11) }
+    requires in_grid { (1 ≤ n) × (n ≤ GREATEST_LEVEL) }
     requires in_columns { x ≤ 2 ^ n }
     requires in_rows { y ≤ 2 ^ n }
     ensures { IfOk result (λ w. w.n ≡ n) }

@@ -5,7 +5,7 @@ ghost use Rattle.mesh_defs.specs.HeightField.{side_of};
 ghost use Rattle.mesh_defs.specs.Triangle.{level_of};
 ghost use Rattle.mesh_defs.specs.MeshText.{mesh_text};
 ghost use Rattle.roam_edge.specs.Fault.{HasCause, Rose};
-ghost use Rattle.pgm_header.specs.declared.accepted.TheConstants.{GREATEST_LEVEL};
+ghost use Rattle.mesh_defs.specs.declared.level.TheConstants.{GREATEST_LEVEL};
 ghost use Rattle.wedgie_tree.specs.declared.wedges.TheConstants.{GREATEST_SPACING};
 ghost use Rattle.mesh_compare.specs.Differs.{IsFirstDifference, IsCutShort, left_of};
 ghost use Rattle.mesh_compare.specs.declared.comparing.CompareFault.{CompareFault};

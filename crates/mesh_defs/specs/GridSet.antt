@@ -4,6 +4,7 @@
 use Rattle.std.specs.Prelude.{◌≡◌, ℕ, ◌+◌, ◌<◌, ◌≤◌, List, [], ◌∷◌, length, All}
 use Rattle.mesh_defs.specs.ClosedSet.{IsClosed, IsLeastClosed, among}
 use Rattle.mesh_defs.specs.Greedy.{with_triangle}
+use Rattle.mesh_defs.specs.declared.level.TheConstants.{GREATEST_LEVEL}
 
 -- a set of triangles of the grid with this n: its members in ascending order
 pub record GridSet : Type 0 where
@@ -18,7 +19,7 @@ IsAscending (x ∷ xs) = All (λ y. x < y) xs × IsAscending xs
 -- a closed set of a grid of side 2 ^ n
 pub record IsGridSet (n : ℕ) (members : List ℕ) : Type 0 where
   pub n_low : 1 ≤ n
-  pub n_high : n ≤ 11
+  pub n_high : n ≤ GREATEST_LEVEL
   pub ascending : IsAscending members
   pub closed : IsClosed n (among members)
 

@@ -1,6 +1,7 @@
 -- A grid of heights (a height field), the surface that is meshed. This project's own profile of the
 -- square grids of Duchaineau et al., "ROAMing Terrain", IEEE Visualization 1997: side 2 ^ n + 1.
 use Rattle.std.specs.Prelude.{◌≡◌, ℕ, ◌+◌, ◌-◌, ◌*◌, ◌^◌, ◌≤◌, List, length, All, slice_index}
+use Rattle.mesh_defs.specs.declared.level.TheConstants.{GREATEST_LEVEL}
 
 -- Heights in file order: rows from the top, each from left to right. Each is at most maxval, in units of height.
 pub record HeightField : Type 0 where
@@ -23,7 +24,7 @@ height_at n heights x y = slice_index heights (place_of n x y)
 -- n is 1 to 11, maxval 1 to 65535, and each point has a height of at most maxval
 pub record IsHeightField (g : HeightField) : Type 0 where
   pub n_low : 1 ≤ g.n
-  pub n_high : g.n ≤ 11
+  pub n_high : g.n ≤ GREATEST_LEVEL
   pub maxval_low : 1 ≤ g.maxval
   pub maxval_high : g.maxval ≤ 65535
   pub count : length g.heights ≡ side_of g.n * side_of g.n

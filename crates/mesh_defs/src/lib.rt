@@ -2,17 +2,19 @@
 //!
 //! `specs/` has the words that contracts cite: height fields, triangles and their mates, tilings,
 //! closed sets, thickness, boxes, distance, marks, priority, ranking, greedy refinement and the
-//! text of a mesh. The code here is `Point`, `Corners`, `Mark` and small law functions.
+//! text of a mesh. The code here is `Point`, `Corners`, `Mark`, the greatest level and small law functions.
 //! No algorithm of the mesher is here.
 
 #![tactic(auto)]
 
 mod laws;
+mod level;
 mod mark;
 mod point;
 #[cfg(test)]
 mod worked_numbers;
 
 pub use laws::roots;
+pub use level::GREATEST_LEVEL;
 pub use mark::Mark;
 pub use point::{Corners, Point};

@@ -25,9 +25,9 @@ impl Across {
 
     /// Of the edge from p to q.
     pub(crate) fn of(r: Point, p: Point, q: Point) -> Self
-        requires r_in_grid { IsInSquare (2 ^ 11) r }
-        requires p_in_grid { IsInSquare (2 ^ 11) p }
-        requires q_in_grid { IsInSquare (2 ^ 11) q }
+        requires r_in_grid { IsInSquare (2 ^ GREATEST_LEVEL) r }
+        requires p_in_grid { IsInSquare (2 ^ GREATEST_LEVEL) p }
+        requires q_in_grid { IsInSquare (2 ^ GREATEST_LEVEL) q }
         ensures value { IsAcross r p q result }
         ensures small { result.high ≤ 12582912 }
     {
@@ -72,8 +72,8 @@ impl Areas {
 
     /// At a point.
     pub(crate) fn of(corners: Corners, r: Point) -> Self
-        requires in_grid { IsWithin (2 ^ 11) corners }
-        requires point_in_grid { IsInSquare (2 ^ 11) r }
+        requires in_grid { IsWithin (2 ^ GREATEST_LEVEL) corners }
+        requires point_in_grid { IsInSquare (2 ^ GREATEST_LEVEL) r }
         ensures { AreAcross corners r result }
     {
         Areas {

@@ -3,6 +3,7 @@
 ghost use Rattle.std.specs.Prelude.{◌≡◌, ◌+◌, ◌-◌, ◌*◌, ◌^◌, ◌<◌, ◌≤◌, ℕ, true, pos};
 ghost use Rattle.mesh_defs.specs.Triangle.{level_of, corners_of};
 ghost use Rattle.mesh_defs.specs.BoundingBox.{point, holds_point};
+ghost use Rattle.mesh_defs.specs.declared.level.TheConstants.{GREATEST_LEVEL};
 ghost use Rattle.deviation_laws.specs.PlaneHeight.{plane_height};
 ghost use Rattle.mesh_measure.specs.Areas.{AreSmall, sum_of_weighted};
 ghost use Rattle.mesh_measure.specs.Facet.{IsFacet};
@@ -43,7 +44,7 @@ pub(crate) fn weighted(facet: Facet, areas: Areas) -> u64
 /// 2^n.
 #[tactic(auto, using(bintree_laws::proofs::CornerLemmas::side_small))]
 pub(crate) fn side(n: u32) -> u64
-    requires { n ≤ 11 }
+    requires { n ≤ GREATEST_LEVEL }
     ensures value { result ≡ 2 ^ n }
     ensures small { result ≤ 2048 }
 {

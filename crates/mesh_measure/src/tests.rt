@@ -2,6 +2,7 @@
 //! all points.
 
 ghost use Rattle.std.specs.Prelude.{◌≡◌, ◌<◌, ◌≤◌};
+ghost use Rattle.mesh_defs.specs.declared.level.TheConstants.{GREATEST_LEVEL};
 
 use crate::{deviation, plane_height, thickest};
 use bintree_addr::Tri;
@@ -68,7 +69,7 @@ fn put(grid: &mut Grid, surface: Surface, x: u32, y: u32) -> Result<(), Fail> {
 /// A grid with this surface.
 fn wedges(alloc: Global, n: u32, surface: Surface) -> Result<Wedges, Fail>
     requires low { 1 ≤ n }
-    requires high { n ≤ 11 }
+    requires high { n ≤ GREATEST_LEVEL }
 {
     let mut grid = Grid::flat(alloc, n, 65_535)?;
     let side = grid.side() as u32;
@@ -158,7 +159,7 @@ fn worked_numbers(rt: HostRuntime) -> Result<(), Fail> {
 /// A closed set with some triangles below this address.
 fn of_seed(alloc: Global, n: u32, end: u32, seed: u32) -> Result<Split, Fail>
     requires low { 1 ≤ n }
-    requires high { n ≤ 11 }
+    requires high { n ≤ GREATEST_LEVEL }
     requires some { 2 < end }
 {
     let mut set = Split::base(alloc, n);

@@ -6,7 +6,7 @@ ghost use Rattle.mesh_defs.specs.HeightField.{side_of};
 ghost use Rattle.mesh_defs.specs.Triangle.{level_of, corners_of};
 ghost use Rattle.mesh_defs.specs.MeshText.{numbers_line, vertex_line, vertex_number, face_line, group_line, is_mark_before, triangle_mark, vertices_of};
 ghost use Rattle.bintree_laws.specs.Corners.{IsInSquare};
-ghost use Rattle.pgm_header.specs.declared.accepted.TheConstants.{GREATEST_LEVEL};
+ghost use Rattle.mesh_defs.specs.declared.level.TheConstants.{GREATEST_LEVEL};
 ghost use Rattle.wedgie_tree.specs.declared.wedges.TheConstants.{GREATEST_SPACING};
 ghost use Rattle.obj_write.specs.Numbers.{numbers_of};
 ghost use Rattle.obj_write.specs.MeshView.{view_text, IsView, IsShown, group_text};

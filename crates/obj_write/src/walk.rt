@@ -2,6 +2,7 @@
 
 ghost use Rattle.std.specs.Prelude.{◌≡◌, ◌*◌, ◌^◌, ◌≤◌, length};
 ghost use Rattle.mesh_defs.specs.Triangle.{corners_of, level_of};
+ghost use Rattle.mesh_defs.specs.declared.level.TheConstants.{GREATEST_LEVEL};
 ghost use Rattle.bintree_laws.specs.Corners.{IsWithin};
 ghost use Rattle.obj_write.specs.Walk.{AreCorners};
 
@@ -19,7 +20,7 @@ pub(crate) struct Step {
 
 /// Steps before any triangle was asked for: each has a half of the square.
 pub(crate) fn first_steps(n: u32) -> [Step; LEVELS]
-    requires in_grid { (1 ≤ n) × (n ≤ 11) }
+    requires in_grid { (1 ≤ n) × (n ≤ GREATEST_LEVEL) }
     ensures levels { length result ≡ 23 }
     ensures known { AreCorners n result }
 {
@@ -34,7 +35,7 @@ pub(crate) fn first_steps(n: u32) -> [Step; LEVELS]
 /// Cost (not proved): a step for each level at which the way down is another than the last one that was asked for. For triangles
 /// in depth-first order these are two for each triangle at most, by and large.
 pub(crate) fn corners_on_the_way(steps: &mut [Step], n: u32, t: Tri) -> Corners
-    requires in_grid { (1 ≤ n) × (n ≤ 11) }
+    requires in_grid { (1 ≤ n) × (n ≤ GREATEST_LEVEL) }
     requires level { level_of t ≤ 2 * n }
     requires levels { length steps.old ≡ 23 }
     requires known { AreCorners n steps.old }

@@ -2,7 +2,7 @@
 
 ghost use Rattle.std.specs.Prelude.{◌≡◌, ◌<◌, ◌≤◌, ◌^◌, ◌*◌, ℕ, length, replicate, slice_set, IfOk};
 ghost use Rattle.mesh_defs.specs.HeightField.{IsHeightField, height_at, place_of, side_of};
-ghost use Rattle.pgm_header.specs.declared.accepted.TheConstants.{GREATEST_LEVEL};
+ghost use Rattle.mesh_defs.specs.declared.level.TheConstants.{GREATEST_LEVEL};
 ghost use Rattle.pgm_grid.specs.declared.grid.TheConstants.{MOST_SIDE, MOST_POINTS};
 ghost use Rattle.pgm_grid.specs.PgmText.{points_of};
 

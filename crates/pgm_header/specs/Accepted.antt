@@ -2,7 +2,8 @@
 --
 -- Words: IsLevel, IsMaxval, IsHeader, Accepts, level_of, judged, HeaderAnswer.
 use Rattle.std.specs.Prelude.{◌≡◌, ℕ, ◌≤◌, ◌==◌, ◌||◌, not, nat_lt, if◌then◌else◌, List, Option, Some, None, Result, Ok, Err}
-use Rattle.pgm_header.specs.declared.accepted.TheConstants.{GREATEST_LEVEL, GREATEST_MAXVAL}
+use Rattle.pgm_header.specs.declared.accepted.TheConstants.{GREATEST_MAXVAL}
+use Rattle.mesh_defs.specs.declared.level.TheConstants.{GREATEST_LEVEL}
 use Rattle.mesh_defs.specs.HeightField.{side_of}
 use Rattle.pgm_header.specs.declared.machine.HeaderValues.{HeaderValues}
 use Rattle.pgm_header.specs.declared.accepted.Header.{Header}

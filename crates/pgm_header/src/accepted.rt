@@ -5,9 +5,7 @@ ghost use Rattle.pgm_header.specs.Accepted.{level_of, judged};
 
 use crate::fault::HeaderFault;
 use crate::machine::HeaderValues;
-
-/// The greatest n of a grid: its side is 2^n + 1.
-pub const GREATEST_LEVEL: u32 = 11;
+use mesh_defs::GREATEST_LEVEL;
 
 /// The greatest maxval: a sample has at most two bytes.
 pub const GREATEST_MAXVAL: u32 = 65_535;

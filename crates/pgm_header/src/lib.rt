@@ -14,7 +14,7 @@ mod laws;
 mod machine;
 mod reader;
 
-pub use accepted::{GREATEST_LEVEL, GREATEST_MAXVAL, Header};
+pub use accepted::{GREATEST_MAXVAL, Header};
 pub use fault::HeaderFault;
 pub use laws::header_laws;
 pub use machine::HeaderValues;

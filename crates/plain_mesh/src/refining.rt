@@ -4,6 +4,7 @@ ghost use Rattle.std.specs.Prelude.{◌≡◌, ◌<◌, ◌≤◌, IfOk, IfSome,
 ghost use Rattle.mesh_defs.specs.Triangle.{IsSplittable};
 ghost use Rattle.mesh_defs.specs.ClosedSet.{leaves_of, among};
 ghost use Rattle.mesh_defs.specs.GridSet.{IsForced};
+ghost use Rattle.mesh_defs.specs.declared.level.TheConstants.{GREATEST_LEVEL};
 ghost use Rattle.plain_mesh.specs.Stop.{IsOver, IsStop};
 
 use crate::PlainFrame;
@@ -14,7 +15,7 @@ use std::alloc::Global;
 
 /// From the empty set, the triangles in turn, up to the first that does not fit.
 pub fn refined(alloc: Global, n: u32, ranking: &[Rank], budget: u32) -> Result<PlainFrame, NoMemory>
-    requires in_grid { (1 ≤ n) × (n ≤ 11) }
+    requires in_grid { (1 ≤ n) × (n ≤ GREATEST_LEVEL) }
     requires splittable { All (λ r. IsSplittable n r.tri) ranking.now }
     requires budget { 2 ≤ budget }
     ensures n { IfOk result (λ f. f.split.n ≡ n) }

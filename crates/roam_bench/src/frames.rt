@@ -2,6 +2,7 @@
 
 ghost use Rattle.std.specs.Prelude.{◌≡◌, ℕ, ◌≤◌, ◌^◌, None, IfSome};
 ghost use Rattle.mesh_defs.specs.State.{move_length};
+ghost use Rattle.mesh_defs.specs.declared.level.TheConstants.{GREATEST_LEVEL};
 ghost use Rattle.roam_mesh.specs.Mesh.{stamp_of};
 
 use crate::gauge::{SPACING, ViewGauge, gauge_laws};
@@ -48,7 +49,7 @@ pub struct Timed {
 /// The case of a word, if it has one.
 pub fn case_of(word: &str) -> Option<Case>
     ensures low { IfSome result (λ it. 1 ≤ it.n) }
-    ensures high { IfSome result (λ it. it.n ≤ 11) }
+    ensures high { IfSome result (λ it. it.n ≤ GREATEST_LEVEL) }
 {
     let (n, step, second) = match word {
         "frame_first_9" => (9, 0, false),
@@ -65,7 +66,7 @@ pub fn case_of(word: &str) -> Option<Case>
 /// Makes heights, wedges and a mesh, and times a frame; None where memory runs out.
 pub fn frame(rt: &HostRuntime, case: Case) -> io::Result<Option<Timed>>
     requires low { 1 ≤ case.n }
-    requires high { case.n ≤ 11 }
+    requires high { case.n ≤ GREATEST_LEVEL }
 {
     let Some((from, to)) = cameras(case.n, case.step) else {
         return Ok(None);
@@ -85,7 +86,7 @@ pub fn frame(rt: &HostRuntime, case: Case) -> io::Result<Option<Timed>>
 
 /// Two cameras, a third along the grid and half across it, the second one so much farther along x.
 fn cameras(n: u32, step: u32) -> Option<(Camera, Camera)>
-    requires high { n ≤ 11 }
+    requires high { n ≤ GREATEST_LEVEL }
     ensures way { IfSome result (λ pair. move_length pair.0 pair.1 ≤ step) }
 {
     let width = SPACING << n;

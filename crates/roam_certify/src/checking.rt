@@ -2,6 +2,7 @@
 
 ghost use Rattle.std.specs.Prelude.{◌≡◌, ℕ, ◌+◌, ◌*◌, ◌^◌, ◌≤◌, ◌↔◌, IsTrue, IfSome, IfNone, false, [], length};
 ghost use Rattle.mesh_defs.specs.Triangle.{IsSplittable};
+ghost use Rattle.mesh_defs.specs.declared.level.TheConstants.{GREATEST_LEVEL};
 ghost use Rattle.least_laws.specs.Sweep.{is_flagged};
 ghost use Rattle.certificate_laws.specs.Certificate.{IsReason, AreReasons, IsFirstBad};
 ghost use Rattle.cert_text.specs.declared.limits.TheConstants.{MOST_REASONS};
@@ -22,7 +23,7 @@ pub fn first_bad(
     worst: u64,
     reasons: &[Reason],
 ) -> Option<u32>
-    requires in_grid { (1 ≤ n) × (n ≤ 11) }
+    requires in_grid { (1 ≤ n) × (n ≤ GREATEST_LEVEL) }
     requires room { length flags.old ≡ 2 ^ (2 * n + 1) }
     requires seen { IsSeen n view.now }
     requires empty { (a : ℕ) → is_flagged flags.old a ≡ false }
@@ -42,7 +43,7 @@ pub fn first_bad(
 
 /// Whether this is a reason behind those of the flagged triangles.
 fn is_reason(n: u32, flags: &[bool], view: &Sight<'_>, worst: u64, kind: Kind, t: Tri) -> bool
-    requires in_grid { (1 ≤ n) × (n ≤ 11) }
+    requires in_grid { (1 ≤ n) × (n ≤ GREATEST_LEVEL) }
     requires room { length flags.now ≡ 2 ^ (2 * n + 1) }
     requires seen { IsSeen n view.now }
     requires addresses { (a : ℕ) → IsTrue (is_flagged flags.now a) → IsSplittable n a }
@@ -58,7 +59,7 @@ fn is_reason(n: u32, flags: &[bool], view: &Sight<'_>, worst: u64, kind: Kind, t
 
 /// The same, for a triangle that may be split.
 fn has_cause(n: u32, flags: &[bool], view: &Sight<'_>, worst: u64, kind: Kind, t: Tri) -> bool
-    requires in_grid { (1 ≤ n) × (n ≤ 11) }
+    requires in_grid { (1 ≤ n) × (n ≤ GREATEST_LEVEL) }
     requires room { length flags.now ≡ 2 ^ (2 * n + 1) }
     requires seen { IsSeen n view.now }
     requires addresses { (a : ℕ) → IsTrue (is_flagged flags.now a) → IsSplittable n a }

@@ -3,6 +3,7 @@
 ghost use Rattle.std.specs.Prelude.{◌≡◌, ℕ, ◌+◌, ◌*◌, ◌^◌, ◌<◌, ◌≤◌, ◌↔◌, List, IsTrue, IfSome, IfNone, true, false, length, All};
 ghost use Rattle.mesh_defs.specs.Triangle.{IsAddress, IsSplittable, IsMate};
 ghost use Rattle.mesh_defs.specs.Tiling.{IsConforming};
+ghost use Rattle.mesh_defs.specs.declared.level.TheConstants.{GREATEST_LEVEL};
 ghost use Rattle.tiling_laws.specs.Ancestors.{ancestors_of};
 ghost use Rattle.least_laws.specs.Sweep.{is_flagged};
 ghost use Rattle.roam_certify.specs.Climb.{IsEntered, IsClimbed, IsCounted, AreLeavesOf};
@@ -14,7 +15,7 @@ use bintree_addr::Tri;
 ///
 /// At first no flag is set; at the end those of the split triangles, and in `seen` those of entries.
 pub fn is_conforming(n: u32, flags: &mut [bool], seen: &mut [bool], triangles: &[Tri]) -> bool
-    requires in_grid { (1 ≤ n) × (n ≤ 11) }
+    requires in_grid { (1 ≤ n) × (n ≤ GREATEST_LEVEL) }
     requires room { length flags.old ≡ 2 ^ (2 * n + 1) }
     requires seen_room { All (λ t. t < length seen.old) triangles.now }
     requires empty { (a : ℕ) → is_flagged flags.old a ≡ false }
@@ -32,7 +33,7 @@ pub fn is_conforming(n: u32, flags: &mut [bool], seen: &mut [bool], triangles: &
 
 /// Flags the parent of each entry.
 fn flag_parents(flags: &mut [bool], n: u32, triangles: &[Tri])
-    requires in_grid { (1 ≤ n) × (n ≤ 11) }
+    requires in_grid { (1 ≤ n) × (n ≤ GREATEST_LEVEL) }
     requires room { length flags.old ≡ 2 ^ (2 * n + 1) }
     requires empty { (a : ℕ) → is_flagged flags.old a ≡ false }
     requires addresses { All (IsAddress n) triangles.now }
@@ -46,7 +47,7 @@ fn flag_parents(flags: &mut [bool], n: u32, triangles: &[Tri])
 
 /// Flags the parents of flagged triangles, and theirs, from the last address down.
 fn climb(flags: &mut [bool], n: u32)
-    requires in_grid { (1 ≤ n) × (n ≤ 11) }
+    requires in_grid { (1 ≤ n) × (n ≤ GREATEST_LEVEL) }
     requires room { length flags.old ≡ 2 ^ (2 * n + 1) }
     ensures room { length flags.new ≡ length flags.old }
     ensures climbed { (triangles : List ℕ) → All (IsAddress n) triangles →
@@ -61,7 +62,7 @@ fn climb(flags: &mut [bool], n: u32)
 
 /// How many triangles are flagged, if each has its mate.
 fn count_splits(flags: &[bool], n: u32) -> Option<u32>
-    requires in_grid { (1 ≤ n) × (n ≤ 11) }
+    requires in_grid { (1 ≤ n) × (n ≤ GREATEST_LEVEL) }
     requires room { length flags.now ≡ 2 ^ (2 * n + 1) }
     requires splittable { (a : ℕ) → IsTrue (is_flagged flags.now a) → IsSplittable n a }
     ensures some { IfSome result (λ count. IsCounted n (is_flagged flags.now) (2 ^ (2 * n + 1)) count) }
@@ -82,7 +83,7 @@ fn count_splits(flags: &[bool], n: u32) -> Option<u32>
 
 /// Whether the triangle's mate is flagged, where it has one.
 fn has_mate(flags: &[bool], n: u32, t: Tri) -> bool
-    requires in_grid { (1 ≤ n) × (n ≤ 11) }
+    requires in_grid { (1 ≤ n) × (n ≤ GREATEST_LEVEL) }
     requires splittable { IsSplittable n t }
     ensures mate { result ≡ true → (b : ℕ) → IsMate n t b → IsTrue (is_flagged flags.now b) }
     ensures lacks { result ≡ false → ((b : ℕ) × IsMate n t b × (is_flagged flags.now b ≡ false)) }

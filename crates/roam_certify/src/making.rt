@@ -2,6 +2,7 @@
 
 ghost use Rattle.std.specs.Prelude.{◌≡◌, ℕ, ◌+◌, ◌*◌, ◌/◌, ◌^◌, ◌<◌, ◌≤◌, ◌⊎◌, ◌↔◌, Bool, List, IsTrue, IfOk, OnOk, false, [], length};
 ghost use Rattle.mesh_defs.specs.Triangle.{IsSplittable, IsMate};
+ghost use Rattle.mesh_defs.specs.declared.level.TheConstants.{GREATEST_LEVEL};
 ghost use Rattle.least_laws.specs.Sweep.{is_flagged};
 ghost use Rattle.certificate_laws.specs.declared.reason.Reason.{Reason};
 ghost use Rattle.certificate_laws.specs.Certificate.{named_in, AreReasons, AreAllReasons};
@@ -27,7 +28,7 @@ pub fn make_reasons(
     worst: u64,
     budget: u32,
 ) -> Result<Vec<Reason>, NoMemory>
-    requires in_grid { (1 ≤ n) × (n ≤ 11) }
+    requires in_grid { (1 ≤ n) × (n ≤ GREATEST_LEVEL) }
     requires room { length flags.old ≡ 2 ^ (2 * n + 1) }
     requires seen { IsSeen n view.now }
     requires empty { (a : ℕ) → is_flagged flags.old a ≡ false }
@@ -55,7 +56,7 @@ fn push_wants(
     view: &Sight<'_>,
     worst: u64,
 ) -> Result<(), NoMemory>
-    requires in_grid { (1 ≤ n) × (n ≤ 11) }
+    requires in_grid { (1 ≤ n) × (n ≤ GREATEST_LEVEL) }
     requires seen { IsSeen n view.now }
     requires listed { IsListed n limit flags.old reasons.old.items }
     requires reasoned { AreReasons n (seen_by view.now) worst [] reasons.old.items }
@@ -83,7 +84,7 @@ fn push_wanted(
     worst: u64,
     t: Tri,
 ) -> Result<(), NoMemory>
-    requires in_grid { (1 ≤ n) × (n ≤ 11) }
+    requires in_grid { (1 ≤ n) × (n ≤ GREATEST_LEVEL) }
     requires seen { IsSeen n view.now }
     requires listed { IsListed n limit flags.old reasons.old.items }
     requires reasoned { AreReasons n (seen_by view.now) worst [] reasons.old.items }
@@ -124,7 +125,7 @@ fn follow(
     limit: usize,
     n: u32,
 ) -> Result<(), NoMemory>
-    requires in_grid { (1 ≤ n) × (n ≤ 11) }
+    requires in_grid { (1 ≤ n) × (n ≤ GREATEST_LEVEL) }
     requires listed { IsListed n limit flags.old reasons.old.items }
     ensures short { OnOk result (length reasons.new.items ≤ limit) }
     ensures reasoned { OnOk result (KeepsReasons n reasons.old.items reasons.new.items) }
@@ -148,7 +149,7 @@ fn push_causes(
     n: u32,
     t: Tri,
 ) -> Result<(), NoMemory>
-    requires in_grid { (1 ≤ n) × (n ≤ 11) }
+    requires in_grid { (1 ≤ n) × (n ≤ GREATEST_LEVEL) }
     requires listed { IsListed n limit flags.old reasons.old.items }
     requires named { IsTrue (named_in reasons.old.items t) }
     ensures listed { OnOk result (IsListed n limit flags.new reasons.new.items) }
@@ -169,7 +170,7 @@ fn push_parent(
     n: u32,
     t: Tri,
 ) -> Result<(), NoMemory>
-    requires in_grid { (1 ≤ n) × (n ≤ 11) }
+    requires in_grid { (1 ≤ n) × (n ≤ GREATEST_LEVEL) }
     requires listed { IsListed n limit flags.old reasons.old.items }
     requires named { IsTrue (named_in reasons.old.items t) }
     ensures listed { OnOk result (IsListed n limit flags.new reasons.new.items) }
@@ -195,7 +196,7 @@ fn push_mate(
     n: u32,
     t: Tri,
 ) -> Result<(), NoMemory>
-    requires in_grid { (1 ≤ n) × (n ≤ 11) }
+    requires in_grid { (1 ≤ n) × (n ≤ GREATEST_LEVEL) }
     requires listed { IsListed n limit flags.old reasons.old.items }
     requires named { IsTrue (named_in reasons.old.items t) }
     ensures listed { OnOk result (IsListed n limit flags.new reasons.new.items) }

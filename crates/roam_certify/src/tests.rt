@@ -1,6 +1,7 @@
 //! Certificates of small grids, worked by hand, seen from the origin at spacing 1.
 
 ghost use Rattle.std.specs.Prelude.{◌≡◌, ◌^◌, ◌≤◌, IfOk};
+ghost use Rattle.mesh_defs.specs.declared.level.TheConstants.{GREATEST_LEVEL};
 
 use crate::{Reject, Verdict, check, make_cert};
 use cert_text::CertReader;
@@ -16,7 +17,7 @@ use wedgie_tree::Wedges;
 
 /// The grid of side 2^n with one point of height 10.
 fn hill(alloc: Global, n: u32, x: u32, y: u32) -> Result<Wedges, Fail>
-    requires in_grid { (1 ≤ n) × (n ≤ 11) }
+    requires in_grid { (1 ≤ n) × (n ≤ GREATEST_LEVEL) }
     requires in_columns { x ≤ 2 ^ n }
     requires in_rows { y ≤ 2 ^ n }
     ensures { IfOk result (λ w. w.n ≡ n) }

@@ -3,6 +3,7 @@
 ghost use Rattle.std.specs.Prelude.{◌≡◌, ℕ, ◌+◌, ◌*◌, ◌^◌, ◌<◌, ◌≤◌, false, [], All, IfOk, length, max};
 ghost use Rattle.mesh_defs.specs.Triangle.{level_of, IsAddress};
 ghost use Rattle.mesh_defs.specs.Priority.{priority_of, worst_of};
+ghost use Rattle.mesh_defs.specs.declared.level.TheConstants.{GREATEST_LEVEL};
 ghost use Rattle.wedgie_tree.specs.declared.wedges.TheConstants.{GREATEST_SPACING};
 ghost use Rattle.view_priority.specs.Camera.{view_from};
 ghost use Rattle.least_laws.specs.Sweep.{is_flagged};
@@ -78,7 +79,7 @@ fn verdict(
     reasons: &[Reason],
     budget: u32,
 ) -> Verdict
-    requires in_grid { (1 ≤ n) × (n ≤ 11) }
+    requires in_grid { (1 ≤ n) × (n ≤ GREATEST_LEVEL) }
     requires seen { IsSeen n view.now }
     requires splits_room { length splits.old ≡ 2 ^ (2 * n + 1) }
     requires seen_room { All (λ t. t < length seen.old) leaves.now }

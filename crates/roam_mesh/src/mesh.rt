@@ -3,6 +3,7 @@
 ghost use Rattle.std.specs.Prelude.{◌≡◌, ℕ, ◌+◌, ◌-◌, ◌*◌, ◌^◌, ◌<◌, ◌≤◌, false, None, cond, nat_eq, option_map, slice_index, ◌↔◌, All, IsNone, IfOk};
 ghost use Rattle.mesh_defs.specs.ClosedSet.{leaves_of, among};
 ghost use Rattle.mesh_defs.specs.Falling.{IsFalling};
+ghost use Rattle.mesh_defs.specs.declared.level.TheConstants.{GREATEST_LEVEL};
 ghost use Rattle.edge_laws.specs.Slots.{split_set, IsPool};
 ghost use Rattle.closure_laws.specs.Frame.{IsFrame};
 ghost use Rattle.frame_steps.specs.Steps.{IsFrameRun};
@@ -43,7 +44,7 @@ impl Model for Mesh {
 impl Mesh {
     /// The two halves of the square, with room for as many leaves as asked; no triangle has a stamp.
     pub fn make(alloc: Global, n: u32, leaves: u32) -> Result<Mesh, NoMemory>
-        requires n { (1 ≤ n) × (n ≤ 11) }
+        requires n { (1 ≤ n) × (n ≤ GREATEST_LEVEL) }
         requires some { 2 ≤ leaves }
         requires few { leaves ≤ 1048576 }
         ensures n { IfOk result (λ m. m.pool.n ≡ n) }

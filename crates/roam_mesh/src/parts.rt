@@ -1,6 +1,7 @@
 //! A mesh half way through a frame, by the slots of its pool.
 
 ghost use Rattle.std.specs.Prelude.{◌≡◌, ℕ, ◌+◌, ◌*◌, ◌<◌, ◌≤◌, ◌^◌, IfOk, [], None, Some, cond, nat_lt, false, replicate, slice_index, slice_index_or, slice_set};
+ghost use Rattle.mesh_defs.specs.declared.level.TheConstants.{GREATEST_LEVEL};
 ghost use Rattle.edge_laws.specs.Slots.{IsLive, IsPool};
 ghost use Rattle.roam_mesh.specs.Parts.{IsParts, blank, entry_at, leaf_rank};
 ghost use Rattle.roam_mesh.specs.Base.{AreEmpty};
@@ -54,7 +55,7 @@ impl Model for Parts {
 impl Parts {
     /// The two halves of the square, leaves without a stamp, in their places.
     pub fn new(alloc: Global, n: u32, leaves: u32) -> Result<Parts, NoMemory>
-        requires n { (1 ≤ n) × (n ≤ 11) }
+        requires n { (1 ≤ n) × (n ≤ GREATEST_LEVEL) }
         requires some { 2 ≤ leaves }
         requires few { leaves ≤ 1048576 }
         ensures n { IfOk result (λ m. m.pool.n ≡ n) }
@@ -74,7 +75,7 @@ impl Parts {
 
     /// The two halves of the square, with nothing in its place.
     fn empty(alloc: Global, n: u32, leaves: u32) -> Result<Parts, NoMemory>
-        requires n { (1 ≤ n) × (n ≤ 11) }
+        requires n { (1 ≤ n) × (n ≤ GREATEST_LEVEL) }
         requires some { 2 ≤ leaves }
         requires few { leaves ≤ 1048576 }
         ensures n { IfOk result (λ m. m.pool.n ≡ n) }

@@ -1,6 +1,7 @@
 //! The parts between two frames, when nothing is known and nothing fresh.
 
 ghost use Rattle.std.specs.Prelude.{◌≡◌, ℕ, ◌≤◌, false, None, cond, nat_eq, option_map, slice_index, IfOk};
+ghost use Rattle.mesh_defs.specs.declared.level.TheConstants.{GREATEST_LEVEL};
 ghost use Rattle.edge_laws.specs.Slots.{split_set, IsPool};
 ghost use Rattle.deferred_loop.specs.Seen.{IsQuiet};
 ghost use Rattle.roam_mesh.specs.Mesh.{stamp_of, with_expired, OnlyEntriesStamped};
@@ -17,7 +18,7 @@ use triangle_pool::Pool;
 impl QueuedParts {
     /// The two halves of the square, with room for as many leaves as asked; no triangle has a stamp.
     pub fn make(alloc: Global, n: u32, leaves: u32) -> Result<QueuedParts, NoMemory>
-        requires n { (1 ≤ n) × (n ≤ 11) }
+        requires n { (1 ≤ n) × (n ≤ GREATEST_LEVEL) }
         requires some { 2 ≤ leaves }
         requires few { leaves ≤ 1048576 }
         ensures n { IfOk result (λ m. m.pool.n ≡ n) }

@@ -1,9 +1,8 @@
--- The least and the greatest of a list, and the level of the base triangles.
+-- The least and the greatest of a list.
 use Rattle.std.proofs.Common.{◌≡◌, ℕ, zero, suc, ◌*◌, ◌<◌, ◌≤◌, List, [], ◌∷◌, length, slice_index_or, refl, sym, ◌∙◌, subst, arith, inl, inr}
 use Rattle.std.proofs.lemmas.Bool.{cases_lt}
 use Rattle.roam_lanes.specs.Extremes.{IsLeast, IsGreatest}
 use Rattle.mesh_defs.specs.BoundingBox.{least, greatest}
-use Rattle.mesh_defs.specs.Triangle.{level_of}
 
 -- no element is less than the least
 least-at : (xs : List ℕ) (k d : ℕ) → k < length xs → least xs ≤ slice_index_or xs k d
@@ -53,16 +52,3 @@ greatest-is xs high some is =
     let found = greatest-some xs some in
     let bound = is.bound found.0 0 found.1 in
     omega (arith, held, is.held.2, bound, found.2 0)
-
--- a base triangle has the level 0
-pub base-level : (a n : ℕ) → (a ≡ 2) → level_of a ≤ 2 * n
-unfolding level_of
-base-level a n is =
-    let P : ℕ → Type 0 = λ b. level_of b ≤ 2 * n in
-    subst P (sym is) (omega arith)
-
-pub upper-level : (a n : ℕ) → (a ≡ 3) → level_of a ≤ 2 * n
-unfolding level_of
-upper-level a n is =
-    let P : ℕ → Type 0 = λ b. level_of b ≤ 2 * n in
-    subst P (sym is) (omega arith)

@@ -1,6 +1,7 @@
 -- What contracts see of a stage, and how it and what makes the frames show a place of a script.
 -- Words: refusal, IsStage, TellsFrames, Shows, IsAt, Starts, Begins.
 use Rattle.std.specs.Prelude.{◌≡◌, ℕ, ◌≤◌, List, [], length, None}
+use Rattle.mesh_defs.specs.declared.level.TheConstants.{GREATEST_LEVEL}
 use Rattle.roam_script.specs.declared.limits.TheConstants.{MOST_LINES, MOST_LINE_BYTES}
 use Rattle.roam_script.specs.declared.script_fault.ScriptFault.{ScriptFault}
 use Rattle.run_laws.specs.Walk.{Refusal, Walk}
@@ -41,7 +42,7 @@ pub record IsAt (before now : Told) (show : Show) (follows : Show → Walk → L
 pub record Starts (start : Walk) : Type 0 where
   pub keeps : KeepsStates start.state.grid.n start
   pub n_low : 1 ≤ start.state.grid.n
-  pub n_high : start.state.grid.n ≤ 11
+  pub n_high : start.state.grid.n ≤ GREATEST_LEVEL
 
 -- the walk is at its beginning, and what makes the frames follows it
 pub record Begins (show : Show) (follows : Show → Walk → List Picture → Type 0) (start : Walk) : Type 0 where

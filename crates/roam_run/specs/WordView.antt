@@ -1,6 +1,7 @@
 -- The commands of the code in the words of a run, and what the code knows of them.
 -- Words: show_for, IsMaking, scripted_seen, command_seen, IsFrameCommand, IsAccepted.
 use Rattle.std.specs.Prelude.{◌≤◌}
+use Rattle.mesh_defs.specs.declared.level.TheConstants.{GREATEST_LEVEL}
 use Rattle.wedgie_tree.specs.declared.wedges.TheConstants.{GREATEST_SPACING}
 use Rattle.roam_run.specs.declared.words.FrameWords.{FrameWords}
 use Rattle.roam_run.specs.declared.words.Command.{Command}
@@ -49,6 +50,6 @@ pub record IsFrameCommand (command : FrameWords) : Type 0 where
 abbrev pub IsAccepted : Command → Type 0
 IsAccepted (Frames command) = IsFrameCommand command
 IsAccepted (Info grid) = Unit {0}
-IsAccepted (Try n seed) = (1 ≤ n) × (n ≤ 11)
+IsAccepted (Try n seed) = (1 ≤ n) × (n ≤ GREATEST_LEVEL)
 IsAccepted (Make w) = AreInBounds w.budget w.spacing
 IsAccepted (Check w) = AreInBounds w.budget w.spacing

@@ -2,6 +2,7 @@
 
 ghost use Rattle.std.specs.Prelude.{◌≡◌, ◌≢◌, ◌+◌, ◌*◌, ◌≤◌, ◌++◌, ◌∷◌, [], ℕ, List, All, IfOk, OnOk, Some, None, Ok, Err, length};
 ghost use Rattle.mesh_defs.specs.Triangle.{IsAddress};
+ghost use Rattle.mesh_defs.specs.declared.level.TheConstants.{GREATEST_LEVEL};
 ghost use Rattle.roam_edge.specs.Fault.{Rose, next_count};
 ghost use Rattle.roam_edge.specs.Shelf.{NamedFile, bytes_of};
 ghost use Rattle.cert_text.specs.CertReader.{cert_line_in, nothing_read};
@@ -40,7 +41,7 @@ pub(crate) struct CertStage {
 impl CertStage {
     /// Before the first line of a certificate of the grid of side 2^n.
     fn new(alloc: Global, n: u32) -> CertStage
-        requires in_grid { (1 ≤ n) × (n ≤ 11) }
+        requires in_grid { (1 ≤ n) × (n ≤ GREATEST_LEVEL) }
         ensures place { place_seen result ≡ record { said = nothing_read; lines = 0; begun = [] } }
         ensures n { result.reader.n ≡ n }
         ensures counted { IsCounted result }
@@ -154,7 +155,7 @@ pub(crate) fn read_cert<F: Shelf>(
     name: &str,
     shelf: &mut F,
 ) -> Result<Cert, CertStop>
-    requires in_grid { (1 ≤ n) × (n ≤ 11) }
+    requires in_grid { (1 ≤ n) × (n ≤ GREATEST_LEVEL) }
     ensures ok { IfOk result (λ cert. (files : List NamedFile) → F.files shelf.old ≡ Some files →
         cert_in n (bytes_of files name.now) ≡ Ok cert) }
     ensures leaves { IfOk result (λ cert. All (IsAddress n) cert.leaves) }

@@ -2,6 +2,7 @@
 
 ghost use Rattle.std.specs.Prelude.{◌≡◌, ◌*◌, ◌^◌, ◌≤◌, min, true, [], length, IfOk};
 ghost use Rattle.mesh_defs.specs.State.{start_state};
+ghost use Rattle.mesh_defs.specs.declared.level.TheConstants.{GREATEST_LEVEL};
 ghost use Rattle.wedgie_tree.specs.declared.wedges.TheConstants.{GREATEST_SPACING};
 ghost use Rattle.run_laws.specs.Walk.{start_walk};
 ghost use Rattle.run_laws.specs.Words.{least_budget, greatest_budget};
@@ -108,7 +109,7 @@ fn strip_room(alloc: Global, showing: Showing<'_>, engine: &Engine) -> Result<Ve
 
 /// How many finest triangles a grid has.
 fn finest_triangles(n: u32) -> u32
-    requires in_grid { n ≤ 11 }
+    requires in_grid { n ≤ GREATEST_LEVEL }
     ensures { result ≡ 2 * 4 ^ n }
 {
     2 * 4u32.pow(n)

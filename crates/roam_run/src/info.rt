@@ -38,9 +38,7 @@ pub(crate) fn info_report(wedges: &Wedges) -> Text
 fn base_thickness(wedges: &Wedges) -> u32
     ensures { result ≡ max (thickness_of wedges.now.n wedges.now.heights 2) (thickness_of wedges.now.n wedges.now.heights 3) }
 {
-    let lower = Tri::new(2).unwrap();
-    let upper = Tri::new(3).unwrap();
-    wedges.thickness(lower).max(wedges.thickness(upper))
+    wedges.thickness(Tri::LOWER).max(wedges.thickness(Tri::UPPER))
 }
 
 /// The least and the greatest height, of which there is one at least.

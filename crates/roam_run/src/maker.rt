@@ -1,6 +1,7 @@
 //! What makes the frames of a script, and shows them.
 
 ghost use Rattle.std.specs.Prelude.{◌≡◌, ◌≢◌, ◌+◌, ◌<◌, ◌≤◌, ℕ, List, false, OnOk};
+ghost use Rattle.mesh_defs.specs.declared.level.TheConstants.{GREATEST_LEVEL};
 ghost use Rattle.roam_script.specs.declared.limits.Limits.{Limits as LimitsSeen};
 ghost use Rattle.roam_script.specs.declared.limits.TheConstants.{MOST_LINES};
 ghost use Rattle.roam_script.specs.Laws.{LiesInRange};
@@ -32,7 +33,7 @@ pub(crate) trait FrameMaker {
         ensures value { (show : Show) (walk : Walk) (pictures : List Picture) →
             follows self.now show walk pictures → lines ≡ walk.lines → result ≡ limits_of walk }
         ensures line { result.line ≡ lines + 1 }
-        ensures level { result.n ≤ 11 };
+        ensures level { result.n ≤ GREATEST_LEVEL };
 
     /// Carries out a line that makes no frame.
     fn carry_out(&mut self, line: Line)

@@ -2,6 +2,7 @@
 
 ghost use Rattle.std.specs.Prelude.{◌≡◌, ◌≢◌, ◌+◌, ◌-◌, ◌^◌, ◌<◌, ◌≤◌, ◌⊎◌, ◌↔◌, ◌&&◌, ℕ, List, Option, map, option_map, [], ◌∷◌, Some, None, All, IsTrue, IsSome, is_some, true, false, if◌then◌else◌, string_bytes};
 ghost use Rattle.mesh_defs.specs.HeightField.{HeightField};
+ghost use Rattle.mesh_defs.specs.declared.level.TheConstants.{GREATEST_LEVEL};
 ghost use Rattle.roam_edge.specs.MeshSink.{Mesh};
 ghost use Rattle.roam_edge.specs.Shelf.{NamedFile, bytes_of};
 ghost use Rattle.run_laws.specs.Act.{ReportText, told};
@@ -340,7 +341,7 @@ fn run_info<F: Shelf, R: Sink>(alloc: Global, name: &str, shelf: &mut F, report:
 /// Carries out the command `try`, which opens no file and writes no mesh.
 fn run_try<R: Sink>(alloc: Global, n: u32, seed: u32, report: &mut R) -> Run
     requires n_low { 1 ≤ n }
-    requires n_high { n ≤ 11 }
+    requires n_high { n ≤ GREATEST_LEVEL }
     ensures outcome { (meshes : Option (List Mesh)) (shelf : Seen) (files : List NamedFile) →
         CommandEnds (told meshes (R.contents report.old)) (told meshes (R.contents report.new))
         shelf shelf (Generated n seed) files result.status result.engine }

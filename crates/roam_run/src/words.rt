@@ -9,6 +9,7 @@ ghost use Rattle.roam_run.specs.WordView.{command_seen, show_for, IsMaking, IsAc
 
 use crate::certify_words::{CheckWords, MakeWords, certify_in};
 use crate::showing::{Making, Showing};
+use mesh_defs::GREATEST_LEVEL;
 use roam_edge::LONGEST_PREFIX;
 use roam_num::read_dec;
 use wedgie_tree::GREATEST_SPACING;
@@ -52,9 +53,6 @@ pub(crate) const GREATEST_BUDGET: u32 = 1 << 20;
 
 /// The greatest tolerance.
 const GREATEST_TOLERANCE: u64 = 999_999_999_999;
-
-/// The greatest level of a grid.
-const GREATEST_LEVEL: u32 = 11;
 
 /// The greatest seed.
 const GREATEST_SEED: u32 = u32::MAX;

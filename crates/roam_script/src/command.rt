@@ -1,6 +1,7 @@
 //! The commands of a script, and the numbers that stand behind each.
 
 ghost use Rattle.std.specs.Prelude.{◌≡◌, ◌≤◌, ℕ, List, length};
+ghost use Rattle.mesh_defs.specs.declared.level.TheConstants.{GREATEST_LEVEL};
 ghost use Rattle.text_laws.specs.Fields.{fields_of};
 ghost use Rattle.roam_script.specs.LineText.{command_of, ranges_of, line_of};
 
@@ -63,7 +64,7 @@ impl Command {
 
     /// The line of this command and these fields, or the first fault of a field.
     pub(crate) fn line(self, fields: &mut Fields<'_>, limits: &Limits) -> Result<Line, ScriptFault>
-        requires level { limits.now.n ≤ 11 }
+        requires level { limits.now.n ≤ GREATEST_LEVEL }
         requires first { fields.old.next ≡ 1 }
         requires count { length (fields_of fields.old.rest.now)
             ≡ length (ranges_of limits.now self (fields_of fields.old.rest.now)) }
@@ -96,7 +97,7 @@ fn camera(fields: &mut Fields<'_>) -> Result<Line, ScriptFault>
 
 /// The line `set X Y H`.
 fn set(fields: &mut Fields<'_>, limits: &Limits) -> Result<Line, ScriptFault>
-    requires level { limits.now.n ≤ 11 }
+    requires level { limits.now.n ≤ GREATEST_LEVEL }
     requires first { fields.old.next ≡ 1 }
     requires count { length (fields_of fields.old.rest.now) ≡ 3 }
     ensures { result ≡ line_of limits.now Command.Set (fields_of fields.old.rest.now) }
@@ -134,7 +135,7 @@ fn budget(fields: &mut Fields<'_>, limits: &Limits) -> Result<Line, ScriptFault>
 
 /// The line `raise X0 Y0 X1 Y1 DZ`.
 fn raise(fields: &mut Fields<'_>, limits: &Limits) -> Result<Line, ScriptFault>
-    requires level { limits.now.n ≤ 11 }
+    requires level { limits.now.n ≤ GREATEST_LEVEL }
     requires first { fields.old.next ≡ 1 }
     requires count { length (fields_of fields.old.rest.now) ≡ 5 }
     ensures { result ≡ line_of limits.now Command.Raise (fields_of fields.old.rest.now) }

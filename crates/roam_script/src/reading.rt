@@ -1,6 +1,7 @@
 //! From the bytes of a line to what it says.
 
 ghost use Rattle.std.specs.Prelude.{◌≡◌, ◌≤◌};
+ghost use Rattle.mesh_defs.specs.declared.level.TheConstants.{GREATEST_LEVEL};
 ghost use Rattle.text_laws.specs.Fields.{fields_of};
 ghost use Rattle.roam_script.specs.LineText.{line_in, fields_line, counted_line};
 
@@ -15,7 +16,7 @@ use crate::script_fault::ScriptFault;
 /// Of a line of more than 200 bytes the first 201 are enough: what follows changes no answer.
 /// Cost (not proved): a few steps a byte. Takes no memory.
 pub fn read_line(bytes: &[u8], limits: &Limits) -> Result<Line, ScriptFault>
-    requires level { limits.now.n ≤ 11 }
+    requires level { limits.now.n ≤ GREATEST_LEVEL }
     ensures same { result ≡ line_in limits.now bytes.now }
 {
     if limits.line > MOST_LINES {
@@ -29,7 +30,7 @@ pub fn read_line(bytes: &[u8], limits: &Limits) -> Result<Line, ScriptFault>
 
 /// The line of the fields of these bytes.
 fn line_of_fields(bytes: &[u8], limits: &Limits) -> Result<Line, ScriptFault>
-    requires level { limits.now.n ≤ 11 }
+    requires level { limits.now.n ≤ GREATEST_LEVEL }
     ensures { result ≡ fields_line limits.now (fields_of bytes.now) }
 {
     let Some((word, rest)) = first_field(bytes) else {

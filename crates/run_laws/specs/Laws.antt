@@ -6,6 +6,7 @@ use Rattle.mesh_defs.specs.HeightField.{HeightField}
 use Rattle.mesh_defs.specs.State.{State, priority_in, text_in}
 use Rattle.mesh_defs.specs.ClosedSet.{IsClosed, among}
 use Rattle.mesh_defs.specs.GridSet.{IsGridSet}
+use Rattle.mesh_defs.specs.declared.level.TheConstants.{GREATEST_LEVEL}
 use Rattle.closure_laws.specs.Frame.{IsFrame}
 use Rattle.frame_steps.specs.Steps.{IsFrameRun}
 use Rattle.strip_laws.specs.Strip.{strip_of}
@@ -65,7 +66,7 @@ SetsStayClosed = (n budget : ℕ) (priority : ℕ → ℕ) (before after : List 
 
 -- a grid that is read has a side of 3 to 2049
 abbrev pub LevelsAreInRange : Type 0
-LevelsAreInRange = (grid : HeightField) (bytes : List ℕ) → grid_of bytes ≡ Ok grid → (1 ≤ grid.n) × (grid.n ≤ 11)
+LevelsAreInRange = (grid : HeightField) (bytes : List ℕ) → grid_of bytes ≡ Ok grid → (1 ≤ grid.n) × (grid.n ≤ GREATEST_LEVEL)
 
 -- an accepted line sets no budget below 2
 abbrev pub BudgetsAreTwo : Type 0
@@ -127,5 +128,5 @@ CertifiedFollows = (words : List (List ℕ)) (files : List NamedFile) (c : Check
 -- What `certify make` writes for a grid `certify check` accepts over it, at the same budget and spacing and with the mesh that it is of.
 abbrev pub MadeIsAccepted : Type 0
 MadeIsAccepted = (words : List (List ℕ)) (name : List ℕ) (m : Making) (grid : HeightField) (cert : Certificate) (c : Checking) (files : List NamedFile)
-    → command_of words ≡ Some (OnGrid name (Make m)) → (1 ≤ grid.n) × (grid.n ≤ 11) → IsMade m grid cert → c.budget ≡ m.budget → c.spacing ≡ m.spacing
+    → command_of words ≡ Some (OnGrid name (Make m)) → (1 ≤ grid.n) × (grid.n ≤ GREATEST_LEVEL) → IsMade m grid cert → c.budget ≡ m.budget → c.spacing ≡ m.spacing
     → bytes_of files c.certificate ≡ cert_text cert → bytes_of files c.mesh ≡ text_in (makes_at m grid) cert.leaves → IsAcceptedCheck c grid files

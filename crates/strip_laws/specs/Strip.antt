@@ -6,6 +6,7 @@ use Rattle.std.specs.Prelude.{◌≡◌, ℕ, zero, suc, ◌+◌, ◌*◌, ◌%�
 use Rattle.mesh_defs.specs.declared.point.Point.{Point}
 use Rattle.mesh_defs.specs.Triangle.{level_of, corners_of, IsEdge}
 use Rattle.mesh_defs.specs.ClosedSet.{IsClosed, leaves_of}
+use Rattle.mesh_defs.specs.declared.level.TheConstants.{GREATEST_LEVEL}
 
 -- the level of a is even
 abbrev pub has_even_level : ℕ → Bool
@@ -28,7 +29,7 @@ strip_of n has = strip_under (2 * n) has 2 ++ strip_under (2 * n) has 3
 
 -- the list is the leaves of a closed set, depth first, in a grid of at most the largest side
 pub record AreLeavesInOrder (n : ℕ) (has : ℕ → Bool) (leaves : List ℕ) : Type 0 where
-  pub in_grid : n ≤ 11
+  pub in_grid : n ≤ GREATEST_LEVEL
   pub closed : IsClosed n has
   pub is : leaves ≡ leaves_of n has
 

@@ -2,6 +2,7 @@
 //! edges by their corners.
 
 ghost use Rattle.std.specs.Prelude.{◌≡◌, ◌<◌, ◌≤◌};
+ghost use Rattle.mesh_defs.specs.declared.level.TheConstants.{GREATEST_LEVEL};
 
 use crate::{Turns, strip, turns};
 use bintree_addr::{Corners, Point, Tri};
@@ -106,7 +107,7 @@ fn of_mask(alloc: Global, mask: u32) -> Result<Split, Fail> {
 /// A closed set with some triangles below this address.
 fn of_seed(alloc: Global, n: u32, end: u32, seed: u32) -> Result<Split, Fail>
     requires in_grid { (1 ≤ n) }
-    requires in_largest { n ≤ 11 }
+    requires in_largest { n ≤ GREATEST_LEVEL }
     requires some { 2 < end }
 {
     let mut set = Split::base(alloc, n);

@@ -4,6 +4,7 @@ ghost use Rattle.std.specs.Prelude.{◌≡◌, ◌≢◌, ◌≤◌, ◌↔◌, 
 ghost use Rattle.mesh_defs.specs.ClosedSet.{IsClosed, leaves_of};
 ghost use Rattle.mesh_defs.specs.declared.point.Point.{Point};
 ghost use Rattle.mesh_defs.specs.Triangle.{level_of, IsEdge};
+ghost use Rattle.mesh_defs.specs.declared.level.TheConstants.{GREATEST_LEVEL};
 ghost use Rattle.strip_laws.specs.Strip.{SharesEdge, strip_of};
 ghost use Rattle.strip_laws.specs.Turn.{HasEdgeBack, IsLeftTurn, IsRightTurn, HasTurns};
 ghost use Rattle.strip_order.specs.declared.sides.Turn.TheVariants.{Left, Right};
@@ -16,7 +17,7 @@ use strip_laws::Edge;
 ///
 /// Cost (not proved): that of three times `Tri::corners`.
 pub fn turn(before: Tri, t: Tri, after: Tri, n: u32) -> Turn
-    requires in_grid { (1 ≤ n) × (n ≤ 11) }
+    requires in_grid { (1 ≤ n) × (n ≤ GREATEST_LEVEL) }
     requires levels { (level_of before ≤ 2 * n) × ((level_of t ≤ 2 * n) × (level_of after ≤ 2 * n)) }
     requires mesh { (has : ℕ → Bool) × IsClosed n has × (Contains (leaves_of n has) before
         × (Contains (leaves_of n has) t × Contains (leaves_of n has) after)) }
@@ -41,7 +42,7 @@ pub fn turn(before: Tri, t: Tri, after: Tri, n: u32) -> Turn
 ///
 /// Cost (not proved): that of `turn` for each triangle.
 pub fn turns(order: &[Tri], n: u32) -> Turns
-    requires in_grid { (1 ≤ n) × (n ≤ 11) }
+    requires in_grid { (1 ≤ n) × (n ≤ GREATEST_LEVEL) }
     requires strip { (has : ℕ → Bool) × IsClosed n has × (order.now ≡ strip_of n has) }
     ensures turns { HasTurns n order.now result.left result.right }
     ensures all { length order.now ≡ result.left + result.right + 2 }

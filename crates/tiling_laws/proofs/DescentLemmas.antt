@@ -1,5 +1,5 @@
 -- Down the bintree: levels and addresses below a triangle, samples in it, and what holds of leaves.
-use Rattle.std.proofs.Common.{◌≡◌, ℕ, zero, suc, ◌+◌, ◌-◌, ◌*◌, ◌^◌, ◌<◌, ◌≤◌, ◌⊎◌, inl, inr, Bool, true, false, cond, List, [], ◌∷◌, ◌++◌, All, refl, ◌∙◌, ap, ap₂, append_assoc, arith, pow_mono, pow-add, count_by}
+use Rattle.std.proofs.Common.{◌≡◌, ℕ, zero, suc, ◌+◌, ◌-◌, ◌*◌, ◌^◌, ◌<◌, ◌≤◌, ◌⊎◌, inl, inr, Bool, true, false, cond, List, [], ◌∷◌, ◌++◌, All, refl, ◌∙◌, ap, append_assoc, arith, pow_mono, pow-add, count_by}
 use Rattle.std.proofs.lemmas.List.Elements.{All-cons, All-nil, All-append}
 use Rattle.std.proofs.lemmas.List.Sums.{sum_by-append}
 use Rattle.mesh_defs.specs.Triangle.{level_of, IsAddress, IsSplittable, child, corners_of}
@@ -212,11 +212,9 @@ Tiles-leaves_of n has x y s =
     sum_by-append (λ t. cond (is_inside n x y t) 1 0) (leaves_under (2 * n) has 2) (leaves_under (2 * n) has 3) ∙ omega arith
 
 -- all leaves, after others
-pub append-leaves_of : (n : ℕ) (has : ℕ → Bool) (out first second : List ℕ) (lower upper : ℕ) → lower ≡ 2 → upper ≡ 3 →
-    first ≡ out ++ leaves_under (2 * n) has lower → second ≡ first ++ leaves_under (2 * n) has upper → second ≡ out ++ leaves_of n has
+pub append-leaves_of : (n : ℕ) (has : ℕ → Bool) (out first second : List ℕ) →
+    first ≡ out ++ leaves_under (2 * n) has 2 → second ≡ first ++ leaves_under (2 * n) has 3 → second ≡ out ++ leaves_of n has
 unfolding leaves_of
-append-leaves_of n has out first second lower upper two three f g =
-    let left : leaves_under (2 * n) has lower ≡ leaves_under (2 * n) has 2 = ap (leaves_under (2 * n) has) two in
-    let right : leaves_under (2 * n) has upper ≡ leaves_under (2 * n) has 3 = ap (leaves_under (2 * n) has) three in
-    g ∙ ap₂ (λ (x y : List ℕ). x ++ y) (f ∙ ap (λ (x : List ℕ). out ++ x) left) right
+append-leaves_of n has out first second f g =
+    g ∙ ap (λ (x : List ℕ). x ++ leaves_under (2 * n) has 3) f
     ∙ append_assoc out (leaves_under (2 * n) has 2) (leaves_under (2 * n) has 3)

@@ -7,6 +7,7 @@ use Rattle.edge_laws.specs.Slots.{address_at, has_children, IsLive, split_set}
 use Rattle.triangle_pool.specs.Slots.{FreeState, IsFree}
 use Rattle.mesh_defs.specs.ClosedSet.{IsClosed}
 use Rattle.mesh_defs.specs.Triangle.{level_of}
+use Rattle.mesh_defs.specs.declared.level.TheConstants.{GREATEST_LEVEL}
 
 abbrev pub blank : Node
 blank = record { children = 0; base = 0; left = 0; right = 0 }
@@ -99,7 +100,7 @@ pub record IsPlaced (before after : List Node) (s k : ℕ) (one two : Node) : Ty
 -- what the fields of the nodes are
 pub record IsMesh (n : ℕ) (pairs parents : List ℕ) (nodes : List Node) : Type 0 where
   pub n_low : 1 ≤ n
-  pub n_high : n ≤ 11
+  pub n_high : n ≤ GREATEST_LEVEL
   pub forest : IsForest pairs parents nodes
   pub closed : IsClosed n (split_set pairs)
 
@@ -115,7 +116,7 @@ pub record MaySplit (n : ℕ) (pairs : List ℕ) (s k a : ℕ) : Type 0 where
   pub address : address_at pairs s ≡ a
   pub low : 2 ≤ a
   pub coarse : level_of a < 2 * n
-  pub n_high : n ≤ 11
+  pub n_high : n ≤ GREATEST_LEVEL
   pub leaf : has_children pairs a ≡ false
   pub within : k < length pairs
   pub free : slice_index pairs k ≡ 0

@@ -5,6 +5,7 @@ ghost use Rattle.mesh_defs.specs.Triangle.{level_of};
 ghost use Rattle.edge_laws.specs.Slots.{address_at, IsLive, split_set};
 ghost use Rattle.triangle_pool.specs.Links.{node_at, with_link, ArePairs, IsAcross, IsRelinked, IsForest, MayHalve, IsInner, IsPlaced, MaySplit, MaySplitMate, MayJoin, IsLeafAgain, MayMerge};
 ghost use Rattle.mesh_defs.specs.ClosedSet.{IsClosed};
+ghost use Rattle.mesh_defs.specs.declared.level.TheConstants.{GREATEST_LEVEL};
 ghost use Rattle.std.specs.Prelude.{◌≢◌};
 ghost use Rattle.edge_laws.specs.Net.{nowhere};
 ghost use Rattle.edge_laws.specs.Edge.{mate_of};
@@ -192,7 +193,7 @@ pub fn join(pairs: &mut [u32], parents: &[u32], nodes: &mut [Node], s: u32, k: u
 
 /// Merges the triangle at s, whose base lies on the border.
 pub fn merge_border(n: u32, pairs: &mut [u32], parents: &[u32], nodes: &mut [Node], s: u32, k: u32)
-    requires n { n ≤ 11 }
+    requires n { n ≤ GREATEST_LEVEL }
     requires forest { IsForest pairs.old parents.now nodes.old }
     requires closed { IsClosed n (split_set pairs.old) }
     requires may_merge { MayMerge pairs.old s k (address_at pairs.old s) }
@@ -216,7 +217,7 @@ pub fn merge_diamond(
     k: u32,
     j: u32,
 )
-    requires n { n ≤ 11 }
+    requires n { n ≤ GREATEST_LEVEL }
     requires forest { IsForest pairs.old parents.now nodes.old }
     requires closed { IsClosed n (split_set pairs.old) }
     requires may_merge { MayMerge pairs.old s k (address_at pairs.old s) }

@@ -1,6 +1,7 @@
 //! The nodes, linked right and closed.
 
 ghost use Rattle.std.specs.Prelude.{◌≡◌, ◌≢◌, ◌⊎◌, ◌↔◌, ℕ, ◌+◌, ◌-◌, ◌*◌, ◌/◌, ◌%◌, ◌^◌, ◌<◌, ◌≤◌, IfOk, IsTrue, false, true, length, slice_index, slice_set};
+ghost use Rattle.mesh_defs.specs.declared.level.TheConstants.{GREATEST_LEVEL};
 ghost use Rattle.edge_laws.specs.Edge.{mate_of, owner};
 ghost use Rattle.edge_laws.specs.Net.{nowhere};
 ghost use Rattle.edge_laws.specs.Slots.{address_at, has_children, IsLive};
@@ -46,7 +47,7 @@ fn half(other: u32) -> Node
 impl Nodes {
     /// The two halves of the square, and so many pairs of slots.
     pub fn new(alloc: Global, n: u32, how_many: usize) -> Result<Nodes, NoMemory>
-        requires n { (1 ≤ n) × (n ≤ 11) }
+        requires n { (1 ≤ n) × (n ≤ GREATEST_LEVEL) }
         requires some { 1 ≤ how_many }
         requires few { how_many < 2 ^ 20 }
         ensures n { IfOk result (λ r. r.n ≡ n) }
@@ -91,7 +92,7 @@ impl Nodes {
     #[tactic(auto, using(crate::proofs::PoolLemmas::base_across))]
     pub fn base(&self, s: u32) -> u32
         requires live { IsLive self.now.pairs s }
-        ensures grid { self.now.n ≤ 11 }
+        ensures grid { self.now.n ≤ GREATEST_LEVEL }
         ensures root { has_children self.now.pairs 1 ≡ true }
         ensures base { ((mate_of (address_at self.now.pairs s) ≡ 0) × (result ≡ nowhere))
             ⊎ ((1 ≤ mate_of (address_at self.now.pairs s)) × (address_at self.now.pairs result ≡ owner (has_children self.now.pairs) (mate_of (address_at self.now.pairs s)))) }

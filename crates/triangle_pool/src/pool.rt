@@ -3,6 +3,7 @@
 ghost use Rattle.std.specs.Prelude.{◌≡◌, ◌≢◌, ◌↔◌, ℕ, ◌+◌, ◌-◌, ◌*◌, ◌/◌, ◌%◌, ◌^◌, ◌<◌, ◌≤◌, ◌++◌, IsTrue, OnOk, IfOk, IfSome, IsNone, false, true, List, [], length, map, slice_index, slice_set, ◌∷◌, replicate};
 ghost use Rattle.mesh_defs.specs.Triangle.{level_of, corners_of, OnOneSide};
 ghost use Rattle.mesh_defs.specs.ClosedSet.{IsClosed, leaves_of};
+ghost use Rattle.mesh_defs.specs.declared.level.TheConstants.{GREATEST_LEVEL};
 ghost use Rattle.arrayvec.specs.ArrayVec.{array_vec_len};
 ghost use Rattle.edge_laws.specs.Edge.{mate_of, owner};
 ghost use Rattle.edge_laws.specs.Net.{nowhere};
@@ -73,7 +74,7 @@ impl Pool {
     ///
     /// Cost (not proved): 22 bytes a slot, two slots a leaf; all memory of the pool is taken here.
     pub fn new(alloc: Global, n: u32, leaves: u32) -> Result<Pool, NoMemory>
-        requires n { (1 ≤ n) × (n ≤ 11) }
+        requires n { (1 ≤ n) × (n ≤ GREATEST_LEVEL) }
         requires some { 2 ≤ leaves }
         requires few { leaves ≤ 1048576 }
         ensures n { IfOk result (λ p. p.n ≡ n) }

@@ -2,6 +2,7 @@
 
 ghost use Rattle.std.specs.Prelude.{pos, ◌≡◌, ◌+◌, ◌*◌, ◌^◌, ◌<◌, ◌≤◌};
 ghost use Rattle.mesh_defs.specs.HeightField.{HeightField};
+ghost use Rattle.mesh_defs.specs.declared.level.TheConstants.{GREATEST_LEVEL};
 ghost use Rattle.mesh_defs.specs.Thickness.{height_of, deviation};
 ghost use Rattle.mesh_defs.specs.BoundingBox.{least_of_3, greatest_of_3};
 ghost use Rattle.bintree_laws.specs.Corners.{IsWithin, IsInSquare};
@@ -35,7 +36,7 @@ pub fn deviation_of(grid: &Grid, corners: Corners) -> u32
 
 /// The box around the surface over these corners, in world units, where the heights are from low to high.
 pub fn box_around(corners: Corners, spacing: u32, low: u16, high: u16) -> Cuboid
-    requires within { IsWithin (2 ^ 11) corners }
+    requires within { IsWithin (2 ^ GREATEST_LEVEL) corners }
     requires spacing_high { spacing ≤ GREATEST_SPACING }
     requires ordered { low ≤ high }
     ensures x0 { result.x0 ≡ pos (spacing * least_of_3 corners.apex.x corners.v0.x corners.v1.x) }

@@ -2,6 +2,7 @@
 
 ghost use Rattle.std.specs.Prelude.{◌≡◌, ℕ, ◌+◌, ◌-◌, ◌*◌, ◌^◌, ◌<◌, ◌≤◌, length};
 ghost use Rattle.mesh_defs.specs.Triangle.{level_of, corners_of};
+ghost use Rattle.mesh_defs.specs.declared.level.TheConstants.{GREATEST_LEVEL};
 ghost use Rattle.wedgie_tree.specs.Table.{IsWedge, HasEntry, AllUnder, IsTable, IsRightOff};
 
 use crate::Area;
@@ -13,7 +14,7 @@ use pgm_grid::Grid;
 
 /// The number of places in the table: one for each address below the finest level, and two unused ones.
 pub fn places(n: u32) -> usize
-    requires { n ≤ 11 }
+    requires { n ≤ GREATEST_LEVEL }
     ensures { result ≡ 2 ^ (2 * n + 1) }
 {
     1 << (2 * n + 1)

@@ -1,34 +1,35 @@
 -- The leaves below 2, and then those below 3; there is room for all.
-use Rattle.std.proofs.Common.{◌*◌, [], length, ap, arith}
-use Rattle.mesh_defs.specs.ClosedSet.{leaves_under}
-use Rattle.tiling_laws.proofs.DescentLemmas.{append-leaves_of}
+use Rattle.std.proofs.Common.{[], arith}
+use Rattle.bintree_laws.proofs.LevelLemmas.{level_of-root}
 use Rattle.least_laws.specs.Sweep.{is_flagged}
+use Rattle.tiling_laws.proofs.DescentLemmas.{append-leaves_of}
 use Rattle.least_mesh.proofs.LeafListLemmas.{leaves-room, leaves-halves}
 use Rattle.least_mesh.proofs.list.list_leaves.Goals as goal
+
+pub put_leaves-between-requires-clause-deep : goal.put_leaves-between-requires-clause-deep
+put_leaves-between-requires-clause-deep c = let level = level_of-root 2 (omega arith) (omega arith) in let n_high = c.requires.in_grid in omega arith
+
+pub put_leaves-requires-clause-deep : goal.put_leaves-requires-clause-deep
+put_leaves-requires-clause-deep c = let level = level_of-root 3 (omega arith) (omega arith) in let n_high = c.requires.in_grid in omega arith
 
 pub put_leaves-between-requires-clause-room : goal.put_leaves-between-requires-clause-room
 put_leaves-between-requires-clause-room c =
     let has = is_flagged c.args.flags.now in
-    let lower = ap (λ a. length (leaves_under (2 * c.args.n) has a)) c.lower_half.ensures.value in
     let all = leaves-halves c.args.n has in let most = leaves-room c.args.n has in let room = c.requires.room in omega arith
 
 pub put_leaves-requires-clause-room : goal.put_leaves-requires-clause-room
 put_leaves-requires-clause-room c =
     let has = is_flagged c.args.flags.now in
-    let lower = ap (λ a. length (leaves_under (2 * c.args.n) has a)) c.lower_half.ensures.value in
-    let upper = ap (λ a. length (leaves_under (2 * c.args.n) has a)) c.upper_half.ensures.value in
     let count = c.put_leaves-between.ensures.count in let same = c.put_leaves-between.auto.list in
     let all = leaves-halves c.args.n has in let most = leaves-room c.args.n has in let room = c.requires.room in omega arith
 
 pub returns-clause-listed : goal.returns-clause-listed
 returns-clause-listed c =
-    append-leaves_of c.args.n (is_flagged c.args.flags.now) [] _ _ c.lower_half.result c.upper_half.result
-    c.lower_half.ensures.value c.upper_half.ensures.value c.put_leaves-between.ensures.listed c.put_leaves.ensures.listed
+    append-leaves_of c.args.n (is_flagged c.args.flags.now) [] _ _
+    c.put_leaves-between.ensures.listed c.put_leaves.ensures.listed
 
 pub returns-clause-count : goal.returns-clause-count
 returns-clause-count c =
     let has = is_flagged c.args.flags.now in
-    let lower = ap (λ a. length (leaves_under (2 * c.args.n) has a)) c.lower_half.ensures.value in
-    let upper = ap (λ a. length (leaves_under (2 * c.args.n) has a)) c.upper_half.ensures.value in
     let count = c.put_leaves-between.ensures.count in let next = c.put_leaves.ensures.count in
     let all = leaves-halves c.args.n has in omega arith
