@@ -47,22 +47,8 @@ corners_of-right n a low = rw (level_of-right a low, add-one (level_of a)) (corn
 
 -- a base triangle lies within the square
 pub IsWithin-base : (m half : ℕ) → IsWithin m (base_triangle m half)
-IsWithin-base m zero = record {
-  apex_x = omega arith;
-  apex_y = omega arith;
-  v0_x = omega arith;
-  v0_y = omega arith;
-  v1_x = omega arith;
-  v1_y = omega arith;
-}
-IsWithin-base m (suc _) = record {
-  apex_x = omega arith;
-  apex_y = omega arith;
-  v0_x = omega arith;
-  v0_y = omega arith;
-  v1_x = omega arith;
-  v1_y = omega arith;
-}
+IsWithin-base m zero = grind arith
+IsWithin-base m (suc _) = grind arith
 
 -- a child lies where its parent does
 pub IsWithin-child : (m side : ℕ) (c : Corners) → IsWithin m c → IsWithin m (child side c)
@@ -96,14 +82,7 @@ IsWithin-corners_of n a = IsWithin-corners_at (level_of a) (2 ^ n) a
 
 -- and within a wider one
 pub IsWithin-wider : (m k : ℕ) (c : Corners) → m ≤ k → IsWithin m c → IsWithin k c
-IsWithin-wider m k c le w = record {
-  apex_x = omega arith;
-  apex_y = omega arith;
-  v0_x = omega arith;
-  v0_y = omega arith;
-  v1_x = omega arith;
-  v1_y = omega arith;
-}
+IsWithin-wider m k c le w = grind arith
 
 -- and within the largest square
 pub IsWithin-largest : (n : ℕ) (c : Corners) → n ≤ 11 → IsWithin (2 ^ n) c → IsWithin (2 ^ 11) c

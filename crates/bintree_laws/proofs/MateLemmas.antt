@@ -123,15 +123,7 @@ SameSum-frame level a b same =
 
 turned_halves : (k : ℕ) (c d e f : Corners) → AllTurned k c e → AllTurned k d f → AreHalves e f → AreHalves c d
 turned_halves k c d e f t u halves =
-    let a = t.apex in let b = t.v0 in let g = t.v1 in let h = u.apex in let i = u.v0 in let j = u.v1 in
-    record {
-      v0_x = omega arith;
-      v0_y = omega arith;
-      v1_x = omega arith;
-      v1_y = omega arith;
-      apex_x = omega arith;
-      apex_y = omega arith;
-    }
+    let a = t.apex in let b = t.v0 in let g = t.v1 in let h = u.apex in let i = u.v0 in let j = u.v1 in grind arith
 
 AreHalves-lattice : (level a b : ℕ) → AreHalves (frame level a) (frame level b) → AreHalves (lattice level a)
     (lattice level b)
@@ -171,38 +163,10 @@ IsWithin-quarter : (half side : ℕ) → IsWithin 2 (child side (base_triangle 2
 IsWithin-quarter half side = IsWithin-child 2 side (base_triangle 2 half) (IsWithin-base 2 half)
 
 IsWithin-grandchild : (which m : ℕ) (c : Corners) → IsWithin m c → IsWithin (2 * m) (grandchild which c)
-IsWithin-grandchild zero m c w = record {
-  apex_x = omega arith;
-  apex_y = omega arith;
-  v0_x = omega arith;
-  v0_y = omega arith;
-  v1_x = omega arith;
-  v1_y = omega arith;
-}
-IsWithin-grandchild (suc zero) m c w = record {
-  apex_x = omega arith;
-  apex_y = omega arith;
-  v0_x = omega arith;
-  v0_y = omega arith;
-  v1_x = omega arith;
-  v1_y = omega arith;
-}
-IsWithin-grandchild (suc (suc zero)) m c w = record {
-  apex_x = omega arith;
-  apex_y = omega arith;
-  v0_x = omega arith;
-  v0_y = omega arith;
-  v1_x = omega arith;
-  v1_y = omega arith;
-}
-IsWithin-grandchild (suc (suc (suc _))) m c w = record {
-  apex_x = omega arith;
-  apex_y = omega arith;
-  v0_x = omega arith;
-  v0_y = omega arith;
-  v1_x = omega arith;
-  v1_y = omega arith;
-}
+IsWithin-grandchild zero m c w = grind arith
+IsWithin-grandchild (suc zero) m c w = grind arith
+IsWithin-grandchild (suc (suc zero)) m c w = grind arith
+IsWithin-grandchild (suc (suc (suc _))) m c w = grind arith
 
 IsWithin-lattice : (level a : ℕ) → IsWithin (2 ^ halved level) (lattice level a)
 IsWithin-lattice zero a = IsWithin-base 1 (a % 2)

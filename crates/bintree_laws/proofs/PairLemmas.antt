@@ -77,34 +77,20 @@ pair_unique (suc (suc level)) a b c p q =
 
 AreHalves-base : (half other : ℕ) → half + other ≡ 1 → AreHalves (base_triangle 1 half) (base_triangle 1 other)
 AreHalves-base zero zero sum = absurd (omega (arith, sum))
-AreHalves-base zero (suc _) sum = record {
-  v0_x = refl;
-  v0_y = refl;
-  v1_x = refl;
-  v1_y = refl;
-  apex_x = refl;
-  apex_y = refl;
-}
-AreHalves-base (suc _) zero sum = record {
-  v0_x = refl;
-  v0_y = refl;
-  v1_x = refl;
-  v1_y = refl;
-  apex_x = refl;
-  apex_y = refl;
-}
+AreHalves-base zero (suc _) sum = grind arith
+AreHalves-base (suc _) zero sum = grind arith
 AreHalves-base (suc _) (suc _) sum = absurd (omega (arith, sum))
 
 AreHalves-inner : (which other : ℕ) (c : Corners) → which < 4 → which + other ≡ 3 → IsInner which → AreHalves
     (grandchild which c) (grandchild other c)
 AreHalves-inner zero other c low sum inner =
     let last : other ≡ 3 = omega arith in
-    rw last (record { v0_x = refl; v0_y = refl; v1_x = refl; v1_y = refl; apex_x = omega arith; apex_y = omega arith })
+    rw last (grind arith)
 AreHalves-inner (suc zero) other c low sum inner = absurd inner
 AreHalves-inner (suc (suc zero)) other c low sum inner = absurd inner
 AreHalves-inner (suc (suc (suc zero))) other c low sum inner =
     let first : other ≡ 0 = omega (arith, sum) in
-    rw first (record { v0_x = refl; v0_y = refl; v1_x = refl; v1_y = refl; apex_x = omega arith; apex_y = omega arith })
+    rw first (grind arith)
 AreHalves-inner (suc (suc (suc (suc _)))) other c low sum inner = absurd (omega (arith, low))
 
 AreHalves-outer : (which other : ℕ) (c d : Corners) → which + other ≡ 3 → IsOuter which → AreHalves c d → AreHalves
@@ -112,24 +98,10 @@ AreHalves-outer : (which other : ℕ) (c d : Corners) → which + other ≡ 3 �
 AreHalves-outer zero other c d sum outer halves = absurd outer
 AreHalves-outer (suc zero) other c d sum outer halves =
     let third : other ≡ 2 = omega (arith, sum) in
-    rw third (record {
-      v0_x = omega arith;
-      v0_y = omega arith;
-      v1_x = omega arith;
-      v1_y = omega arith;
-      apex_x = omega arith;
-      apex_y = omega arith;
-    })
+    rw third (grind arith)
 AreHalves-outer (suc (suc zero)) other c d sum outer halves =
     let second : other ≡ 1 = omega (arith, sum) in
-    rw second (record {
-      v0_x = omega arith;
-      v0_y = omega arith;
-      v1_x = omega arith;
-      v1_y = omega arith;
-      apex_x = omega arith;
-      apex_y = omega arith;
-    })
+    rw second (grind arith)
 AreHalves-outer (suc (suc (suc _))) other c d sum outer halves = absurd outer
 
 -- a pair are the halves of one square of the frame

@@ -40,40 +40,16 @@ abbrev pub IsSomeHalf : Corners → Type 0
 IsSomeHalf c = (i : ℕ) × (j : ℕ) × IsHalf i j c
 
 apart_apex : (i apex v0 v1 : ℕ) → IsApart i apex v0 v1 → IsApart (i + apex) (apex + v0) (v0 + v1) (2 * apex)
-apart_apex i apex v0 v1 h = record {
-  apex_low = omega arith;
-  apex_high = omega arith;
-  v0_low = omega arith;
-  v0_high = omega arith;
-  sum = omega arith;
-}
+apart_apex i apex v0 v1 h = grind arith
 
 apart_v0 : (i apex v0 v1 : ℕ) → IsApart i apex v0 v1 → IsApart (i + v0) (apex + v0) (2 * v0) (v0 + v1)
-apart_v0 i apex v0 v1 h = record {
-  apex_low = omega arith;
-  apex_high = omega arith;
-  v0_low = omega arith;
-  v0_high = omega arith;
-  sum = omega arith;
-}
+apart_v0 i apex v0 v1 h = grind arith
 
 apart_v1 : (i apex v0 v1 : ℕ) → IsApart i apex v0 v1 → IsApart (i + v1) (v1 + apex) (v0 + v1) (2 * v1)
-apart_v1 i apex v0 v1 h = record {
-  apex_low = omega arith;
-  apex_high = omega arith;
-  v0_low = omega arith;
-  v0_high = omega arith;
-  sum = omega arith;
-}
+apart_v1 i apex v0 v1 h = grind arith
 
 apart_apex_turned : (i apex v0 v1 : ℕ) → IsApart i apex v0 v1 → IsApart (i + apex) (v1 + apex) (2 * apex) (v0 + v1)
-apart_apex_turned i apex v0 v1 h = record {
-  apex_low = omega arith;
-  apex_high = omega arith;
-  v0_low = omega arith;
-  v0_high = omega arith;
-  sum = omega arith;
-}
+apart_apex_turned i apex v0 v1 h = grind arith
 
 -- a grandchild of a half is a half, of a square of half the side
 IsHalf-grandchild : (which i j : ℕ) (c : Corners) → IsHalf i j c → IsSomeHalf (grandchild which c)
@@ -119,134 +95,14 @@ IsHalf-grandchild (suc (suc (suc _))) i j c h = (
 )
 
 IsHalf-base : (half : ℕ) → IsSomeHalf (base_triangle 1 half)
-IsHalf-base zero = (
-  0,
-  0,
-  record {
-    x = record {
-      apex_low = omega arith;
-      apex_high = omega arith;
-      v0_low = omega arith;
-      v0_high = omega arith;
-      sum = refl;
-    };
-    y = record {
-      apex_low = omega arith;
-      apex_high = omega arith;
-      v0_low = omega arith;
-      v0_high = omega arith;
-      sum = refl;
-    };
-    right = inr (refl, refl);
-  },
-)
-IsHalf-base (suc _) = (
-  0,
-  0,
-  record {
-    x = record {
-      apex_low = omega arith;
-      apex_high = omega arith;
-      v0_low = omega arith;
-      v0_high = omega arith;
-      sum = refl;
-    };
-    y = record {
-      apex_low = omega arith;
-      apex_high = omega arith;
-      v0_low = omega arith;
-      v0_high = omega arith;
-      sum = refl;
-    };
-    right = inr (refl, refl);
-  },
-)
+IsHalf-base zero = (0, 0, record { x = grind arith; y = grind arith; right = inr (refl, refl) })
+IsHalf-base (suc _) = (0, 0, record { x = grind arith; y = grind arith; right = inr (refl, refl) })
 
 IsHalf-quarter : (which : ℕ) → IsSomeHalf (quarter which)
-IsHalf-quarter zero = (
-  0,
-  1,
-  record {
-    x = record {
-      apex_low = omega arith;
-      apex_high = omega arith;
-      v0_low = omega arith;
-      v0_high = omega arith;
-      sum = refl;
-    };
-    y = record {
-      apex_low = omega arith;
-      apex_high = omega arith;
-      v0_low = omega arith;
-      v0_high = omega arith;
-      sum = refl;
-    };
-    right = inr (refl, refl);
-  },
-)
-IsHalf-quarter (suc zero) = (
-  0,
-  0,
-  record {
-    x = record {
-      apex_low = omega arith;
-      apex_high = omega arith;
-      v0_low = omega arith;
-      v0_high = omega arith;
-      sum = refl;
-    };
-    y = record {
-      apex_low = omega arith;
-      apex_high = omega arith;
-      v0_low = omega arith;
-      v0_high = omega arith;
-      sum = refl;
-    };
-    right = inl (refl, refl);
-  },
-)
-IsHalf-quarter (suc (suc zero)) = (
-  1,
-  0,
-  record {
-    x = record {
-      apex_low = omega arith;
-      apex_high = omega arith;
-      v0_low = omega arith;
-      v0_high = omega arith;
-      sum = refl;
-    };
-    y = record {
-      apex_low = omega arith;
-      apex_high = omega arith;
-      v0_low = omega arith;
-      v0_high = omega arith;
-      sum = refl;
-    };
-    right = inr (refl, refl);
-  },
-)
-IsHalf-quarter (suc (suc (suc _))) = (
-  1,
-  1,
-  record {
-    x = record {
-      apex_low = omega arith;
-      apex_high = omega arith;
-      v0_low = omega arith;
-      v0_high = omega arith;
-      sum = refl;
-    };
-    y = record {
-      apex_low = omega arith;
-      apex_high = omega arith;
-      v0_low = omega arith;
-      v0_high = omega arith;
-      sum = refl;
-    };
-    right = inl (refl, refl);
-  },
-)
+IsHalf-quarter zero = (0, 1, record { x = grind arith; y = grind arith; right = inr (refl, refl) })
+IsHalf-quarter (suc zero) = (0, 0, record { x = grind arith; y = grind arith; right = inl (refl, refl) })
+IsHalf-quarter (suc (suc zero)) = (1, 0, record { x = grind arith; y = grind arith; right = inr (refl, refl) })
+IsHalf-quarter (suc (suc (suc _))) = (1, 1, record { x = grind arith; y = grind arith; right = inl (refl, refl) })
 
 -- every triangle is half of a unit square of its frame
 pub IsHalf-frame : (level a : ℕ) → IsSomeHalf (frame level a)
