@@ -1,38 +1,11 @@
 -- The two base triangles tile the square: a sample lies strictly inside 2 below the falling diagonal, and
 -- strictly inside 3 above it.
-use Rattle.std.proofs.Common.{◌≡◌, ℕ, zero, suc, ◌+◌, ◌*◌, ◌%◌, ◌^◌, ◌<◌, ◌≤◌, inl, inr, [], ◌∷◌, true, ◌&&◌, ap, arith, ltb-true, lt-ltb, ⊎_elim, pow_pos, mul-le-mul_left}
-use Rattle.std.proofs.lemmas.Bool.{and_parts, and_from, cases_lt}
-use Rattle.mesh_defs.specs.declared.point.Point.{Point}
-use Rattle.mesh_defs.specs.declared.point.Corners.{Corners}
+use Rattle.std.proofs.Common.{◌≡◌, ℕ, zero, suc, ◌+◌, ◌*◌, ◌%◌, ◌^◌, ◌<◌, ◌≤◌, inl, inr, [], ◌∷◌, true, ap, arith, ⊎_elim, pow_pos, mul-le-mul_left}
+use Rattle.std.proofs.lemmas.Bool.{cases_lt}
 use Rattle.mesh_defs.specs.Triangle.{level_of, base_triangle, corners_of}
-use Rattle.mesh_defs.specs.Tiling.{IsSample, is_left, is_within, is_inside, Tiles}
+use Rattle.mesh_defs.specs.Tiling.{IsSample, is_inside, Tiles}
 use Rattle.mesh_defs.proofs.ListLemmas.{one_if, one_if-no}
-use Rattle.tiling_laws.proofs.WayLemmas.{lt-scaled}
-
--- strictly inside a triangle: the three tests as orders
-
--- the test of one edge
-abbrev pub IsLeft : ℕ → ℕ → Point → Point → Type 0
-IsLeft x y p q = 4 * p.y * q.x + q.y * x + y * p.x < 4 * p.x * q.y + q.x * y + x * p.y
-
--- the tests of the three edges
-pub record IsBounded (x y : ℕ) (c : Corners) : Type 0 where
-  pub leg : IsLeft x y c.apex c.v0
-  pub base : IsLeft x y c.v0 c.v1
-  pub other : IsLeft x y c.v1 c.apex
-
--- from the test
-pub IsBounded-from : (x y : ℕ) (c : Corners) → is_within x y c ≡ true → IsBounded x y c
-IsBounded-from x y c h =
-    let first : (is_left x y c.apex c.v0 ≡ true) × ((is_left x y c.v0 c.v1 && is_left x y c.v1 c.apex) ≡ true) =
-    and_parts (is_left x y c.apex c.v0) (is_left x y c.v0 c.v1 && is_left x y c.v1 c.apex) h in
-    let second : (is_left x y c.v0 c.v1 ≡ true) × (is_left x y c.v1 c.apex ≡ true) =
-    and_parts (is_left x y c.v0 c.v1) (is_left x y c.v1 c.apex) first.1 in
-    record {
-      leg = ltb-true _ _ first.0;
-      base = ltb-true _ _ second.0;
-      other = ltb-true _ _ second.1;
-    }
+use Rattle.tiling_laws.proofs.WayLemmas.{lt-scaled, IsBounded, IsBounded-from, IsBounded-to}
 
 -- by half: on which side of the falling diagonal
 abbrev IsInHalf : ℕ → ℕ → ℕ → ℕ → Type 0
@@ -59,12 +32,6 @@ IsInHalf-inside-3 : (n x y : ℕ) → is_inside n x y 3 ≡ true → 4 * 2 ^ n <
 unfolding corners_of level_of
 IsInHalf-inside-3 n x y is =
     IsInHalf-bounded 1 (2 ^ n) x y (IsBounded-from x y (base_triangle (2 ^ n) 1) is)
-
--- to the test
-IsBounded-to : (x y : ℕ) (c : Corners) → IsBounded x y c → is_within x y c ≡ true
-IsBounded-to x y c w =
-    and_from (is_left x y c.apex c.v0) (is_left x y c.v0 c.v1 && is_left x y c.v1 c.apex) (lt-ltb _ _ w.leg)
-    (and_from (is_left x y c.v0 c.v1) (is_left x y c.v1 c.apex) (lt-ltb _ _ w.base) (lt-ltb _ _ w.other))
 
 -- each point below the falling diagonal and off the sides is strictly inside 2
 IsBounded-lower : (m x y : ℕ) → 0 < m → 0 < x → 0 < y → x + y < 4 * m → IsBounded x y (base_triangle m zero)

@@ -5,7 +5,7 @@ use Rattle.mesh_defs.specs.declared.point.Corners.{Corners}
 use Rattle.mesh_defs.specs.Triangle.{level_of, corners_of, IsAddress}
 use Rattle.bintree_laws.specs.Corners.{IsCounterclockwise, AreApart}
 use Rattle.bintree_laws.proofs.MateLemmas.{coordinates}
-use Rattle.tiling_laws.proofs.BaseLemmas.{IsBounded, IsBounded-from}
+use Rattle.tiling_laws.proofs.WayLemmas.{IsBounded, IsBounded-from}
 use Rattle.tiling_laws.proofs.DescentLemmas.{IsDown-address, sample_of}
 
 -- what has a point strictly inside is counterclockwise

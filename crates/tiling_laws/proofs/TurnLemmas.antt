@@ -1,57 +1,41 @@
 -- Triangles by the way from the apex to v0: their edges, their children, and the samples strictly inside them.
-use Rattle.std.proofs.Common.{◌≡◌, ◌≢◌, ℕ, zero, suc, ◌+◌, ◌-◌, ◌*◌, ◌/◌, ◌%◌, ◌^◌, ◌<◌, ◌≤◌, ◌⊎◌, inl, inr, Bool, true, false, ◌&&◌, refl, subst, arith, ⊎_elim, pow_pos, ltb-true, lt-ltb}
-use Rattle.std.proofs.lemmas.Bool.{cases_lt, and_parts, and_from, false≢true}
+use Rattle.std.proofs.Common.{◌≡◌, ◌≢◌, ℕ, zero, suc, ◌+◌, ◌-◌, ◌*◌, ◌/◌, ◌%◌, ◌^◌, ◌<◌, ◌≤◌, ◌⊎◌, inl, inr, Bool, true, false, refl, subst, arith, ⊎_elim, pow_pos}
+use Rattle.std.proofs.lemmas.Bool.{cases_lt, false≢true}
+use Rattle.mesh_defs.specs.declared.point.Point.{Point}
 use Rattle.mesh_defs.specs.declared.point.Corners.{Corners}
 use Rattle.mesh_defs.specs.Triangle.{base_triangle, child, corners_at}
-use Rattle.mesh_defs.specs.Tiling.{IsSample, is_left, is_within}
+use Rattle.mesh_defs.specs.Tiling.{IsSample, is_within}
 use Rattle.bintree_laws.specs.Corners.{IsWithin}
 use Rattle.std.proofs.Math.Nat.{pow-succ'}
 use Rattle.mesh_defs.proofs.ListLemmas.{one_if}
-use Rattle.tiling_laws.proofs.WayLemmas.{Way, east, north_east, north, north_west, west, south_west, south, south_east, IsRun, IsBeside, IsBeside-left, IsLeft-beside}
+use Rattle.tiling_laws.proofs.WayLemmas.{Way, east, north_east, north, north_west, west, south_west, south, south_east, IsRun, sides, IsBeside, IsBeside-left, IsLeft-beside, IsBounded-from, IsBounded-to}
+
+-- an eighth of a turn to the left
+abbrev pub eighth : Way → Way
+eighth east = north_east
+eighth north_east = north
+eighth north = north_west
+eighth north_west = west
+eighth west = south_west
+eighth south_west = south
+eighth south = south_east
+eighth south_east = east
 
 -- a quarter turn to the left
 abbrev pub quarter : Way → Way
-quarter east = north
-quarter north_east = north_west
-quarter north = west
-quarter north_west = south_west
-quarter west = south
-quarter south_west = south_east
-quarter south = east
-quarter south_east = north_east
+quarter w = eighth (eighth w)
 
 -- three eighths of a turn to the left
 abbrev pub three : Way → Way
-three east = north_west
-three north_east = west
-three north = south_west
-three north_west = south
-three west = south_east
-three south_west = east
-three south = north_east
-three south_east = north
+three w = eighth (quarter w)
 
 -- five eighths of a turn to the left
 abbrev pub five : Way → Way
-five east = south_west
-five north_east = south
-five north = south_east
-five north_west = east
-five west = north_east
-five south_west = north
-five south = north_west
-five south_east = west
+five w = three (quarter w)
 
 -- three quarters of a turn to the left
 abbrev pub six : Way → Way
-six east = south
-six north_east = south_east
-six north = east
-six north_west = north_east
-six west = north
-six south_west = north_west
-six south = west
-six south_east = south_west
+six w = three (three w)
 
 -- the way from the apex to v0 is w, both legs have k steps, and v1 lies a quarter turn to the left
 abbrev pub IsTurned : Way → ℕ → Corners → Type 0
@@ -158,23 +142,22 @@ IsIn w x y c = IsBeside w c.apex x y × IsBeside (three w) c.v0 x y × IsBeside 
 -- from the test
 pub IsIn-test : (w : Way) (k x y : ℕ) (c : Corners) → 0 < k → IsTurned w k c → is_within x y c ≡ true → IsIn w x y c
 IsIn-test w k x y c some t h =
-    let first = and_parts (is_left x y c.apex c.v0) (is_left x y c.v0 c.v1 && is_left x y c.v1 c.apex) h in
-    let second = and_parts (is_left x y c.v0 c.v1) (is_left x y c.v1 c.apex) first.1 in
+    let test = IsBounded-from x y c h in
     let base = IsRun-some_base w k c some t in (
-      IsBeside-left w k x y c.apex c.v0 t.0 (ltb-true _ _ first.0),
-      IsBeside-left (three w) base.0 x y c.v0 c.v1 base.2 (ltb-true _ _ second.0),
-      IsBeside-left (six w) k x y c.v1 c.apex (IsRun-right_leg w k c t) (ltb-true _ _ second.1),
+      IsBeside-left w k x y c.apex c.v0 t.0 test.leg,
+      IsBeside-left (three w) base.0 x y c.v0 c.v1 base.2 test.base,
+      IsBeside-left (six w) k x y c.v1 c.apex (IsRun-right_leg w k c t) test.other,
     )
 
 -- to the test
 pub test-IsIn : (w : Way) (k x y : ℕ) (c : Corners) → 0 < k → IsTurned w k c → IsIn w x y c → is_within x y c ≡ true
 test-IsIn w k x y c some t h =
     let base = IsRun-some_base w k c some t in
-    and_from (is_left x y c.apex c.v0) (is_left x y c.v0 c.v1 && is_left x y c.v1 c.apex)
-    (lt-ltb _ _ (IsLeft-beside w k x y c.apex c.v0 some t.0 h.0))
-    (and_from (is_left x y c.v0 c.v1) (is_left x y c.v1 c.apex)
-    (lt-ltb _ _ (IsLeft-beside (three w) base.0 x y c.v0 c.v1 base.1 base.2 h.1))
-    (lt-ltb _ _ (IsLeft-beside (six w) k x y c.v1 c.apex some (IsRun-right_leg w k c t) h.2)))
+    IsBounded-to x y c (record {
+      leg = IsLeft-beside w k x y c.apex c.v0 some t.0 h.0;
+      base = IsLeft-beside (three w) base.0 x y c.v0 c.v1 base.1 base.2 h.1;
+      other = IsLeft-beside (six w) k x y c.v1 c.apex some (IsRun-right_leg w k c t) h.2;
+    })
 
 -- in the left child is in the triangle
 IsIn-left : (w : Way) (k x y : ℕ) (c : Corners) → IsTurned w (leg w k) c → IsIn (five w) x y (child 0 c) → IsIn w x y c
@@ -222,82 +205,50 @@ IsOff-sample n x y s = elim s.placed [
   | inr e ↦ record { row = λ z. omega arith; column = λ z. omega arith; diagonal = omega arith }
 ]
 
--- no sample is on a split line
-IsIn-child-east : (x y : ℕ) (c : Corners) → IsOff x y → 4 * c.apex.x + y ≢ 4 * c.apex.y + x
-IsIn-child-east x y c off e = let r = off.row in let l = off.column in let d = off.diagonal in omega arith
+-- no sample is on a line through grid points
+sides-apart : (w : Way) (p : Point) (x y : ℕ) → IsOff x y → (sides w p x y).0 ≢ (sides w p x y).1
+sides-apart east p x y off e = let r = off.row in let l = off.column in let d = off.diagonal in omega arith
+sides-apart north_east p x y off e = let r = off.row in let l = off.column in let d = off.diagonal in omega arith
+sides-apart north p x y off e = let r = off.row in let l = off.column in let d = off.diagonal in omega arith
+sides-apart north_west p x y off e = let r = off.row in let l = off.column in let d = off.diagonal in omega arith
+sides-apart west p x y off e = let r = off.row in let l = off.column in let d = off.diagonal in omega arith
+sides-apart south_west p x y off e = let r = off.row in let l = off.column in let d = off.diagonal in omega arith
+sides-apart south p x y off e = let r = off.row in let l = off.column in let d = off.diagonal in omega arith
+sides-apart south_east p x y off e = let r = off.row in let l = off.column in let d = off.diagonal in omega arith
 
-IsIn-child-north_east : (x y : ℕ) (c : Corners) → IsOff x y → 4 * c.apex.x ≢ x
-IsIn-child-north_east x y c off e = let r = off.row in let l = off.column in let d = off.diagonal in omega arith
+-- the split line goes from the apex: in a triangle and right of it is in the left child
+in-left : (w : Way) (k x y : ℕ) (c : Corners) → IsTurned w (leg w k) c → IsIn w x y c →
+    (sides (eighth w) c.apex x y).1 < (sides (eighth w) c.apex x y).0 → IsIn (five w) x y (child 0 c)
+in-left east k x y c t h right = (omega arith, omega arith, omega arith)
+in-left north_east k x y c t h right = (omega arith, omega arith, omega arith)
+in-left north k x y c t h right = (omega arith, omega arith, omega arith)
+in-left north_west k x y c t h right = (omega arith, omega arith, omega arith)
+in-left west k x y c t h right = (omega arith, omega arith, omega arith)
+in-left south_west k x y c t h right = (omega arith, omega arith, omega arith)
+in-left south k x y c t h right = (omega arith, omega arith, omega arith)
+in-left south_east k x y c t h right = (omega arith, omega arith, omega arith)
 
-IsIn-child-north : (x y : ℕ) (c : Corners) → IsOff x y → 4 * c.apex.x + 4 * c.apex.y ≢ x + y
-IsIn-child-north x y c off e = let r = off.row in let l = off.column in let d = off.diagonal in omega arith
-
-IsIn-child-north_west : (x y : ℕ) (c : Corners) → IsOff x y → 4 * c.apex.y ≢ y
-IsIn-child-north_west x y c off e = let r = off.row in let l = off.column in let d = off.diagonal in omega arith
-
-IsIn-child-west : (x y : ℕ) (c : Corners) → IsOff x y → 4 * c.apex.y + x ≢ 4 * c.apex.x + y
-IsIn-child-west x y c off e = let r = off.row in let l = off.column in let d = off.diagonal in omega arith
-
-IsIn-child-south_west : (x y : ℕ) (c : Corners) → IsOff x y → x ≢ 4 * c.apex.x
-IsIn-child-south_west x y c off e = let r = off.row in let l = off.column in let d = off.diagonal in omega arith
-
-IsIn-child-south : (x y : ℕ) (c : Corners) → IsOff x y → x + y ≢ 4 * c.apex.x + 4 * c.apex.y
-IsIn-child-south x y c off e = let r = off.row in let l = off.column in let d = off.diagonal in omega arith
-
-IsIn-child-south_east : (x y : ℕ) (c : Corners) → IsOff x y → y ≢ 4 * c.apex.y
-IsIn-child-south_east x y c off e = let r = off.row in let l = off.column in let d = off.diagonal in omega arith
+-- and left of it is in the right child
+in-right : (w : Way) (k x y : ℕ) (c : Corners) → IsTurned w (leg w k) c → IsIn w x y c →
+    IsBeside (eighth w) c.apex x y → IsIn (three w) x y (child 1 c)
+in-right east k x y c t h left = (omega arith, omega arith, omega arith)
+in-right north_east k x y c t h left = (omega arith, omega arith, omega arith)
+in-right north k x y c t h left = (omega arith, omega arith, omega arith)
+in-right north_west k x y c t h left = (omega arith, omega arith, omega arith)
+in-right west k x y c t h left = (omega arith, omega arith, omega arith)
+in-right south_west k x y c t h left = (omega arith, omega arith, omega arith)
+in-right south k x y c t h left = (omega arith, omega arith, omega arith)
+in-right south_east k x y c t h left = (omega arith, omega arith, omega arith)
 
 -- what is in a triangle and off the lines is in one of its children
 IsIn-child : (w : Way) (k x y : ℕ) (c : Corners) → IsOff x y → IsTurned w (leg w k) c → IsIn w x y c →
     IsIn (five w) x y (child 0 c) ⊎ IsIn (three w) x y (child 1 c)
-IsIn-child east k x y c off t h =
-    let r = off.row in let l = off.column in let d = off.diagonal in
+IsIn-child w k x y c off t h =
+    let apart = sides-apart (eighth w) c.apex x y off in
     ⊎_elim
-    (λ under. inl (omega arith, omega arith, omega arith))
-    (λ over. let strict : 4 * c.apex.y + x < 4 * c.apex.x + y = (let ne : 4 * c.apex.x + y ≢ 4 * c.apex.y + x = IsIn-child-east x y c off in omega arith) in inr (omega arith, omega arith, omega arith))
-    (cases_lt (4 * c.apex.x + y) (4 * c.apex.y + x))
-IsIn-child north_east k x y c off t h =
-    let r = off.row in let l = off.column in let d = off.diagonal in
-    ⊎_elim
-    (λ under. inl (omega arith, omega arith, omega arith))
-    (λ over. let strict : x < 4 * c.apex.x = (let ne : 4 * c.apex.x ≢ x = IsIn-child-north_east x y c off in omega arith) in inr (omega arith, omega arith, omega arith))
-    (cases_lt (4 * c.apex.x) (x))
-IsIn-child north k x y c off t h =
-    let r = off.row in let l = off.column in let d = off.diagonal in
-    ⊎_elim
-    (λ under. inl (omega arith, omega arith, omega arith))
-    (λ over. let strict : x + y < 4 * c.apex.x + 4 * c.apex.y = (let ne : 4 * c.apex.x + 4 * c.apex.y ≢ x + y = IsIn-child-north x y c off in omega arith) in inr (omega arith, omega arith, omega arith))
-    (cases_lt (4 * c.apex.x + 4 * c.apex.y) (x + y))
-IsIn-child north_west k x y c off t h =
-    let r = off.row in let l = off.column in let d = off.diagonal in
-    ⊎_elim
-    (λ under. inl (omega arith, omega arith, omega arith))
-    (λ over. let strict : y < 4 * c.apex.y = (let ne : 4 * c.apex.y ≢ y = IsIn-child-north_west x y c off in omega arith) in inr (omega arith, omega arith, omega arith))
-    (cases_lt (4 * c.apex.y) (y))
-IsIn-child west k x y c off t h =
-    let r = off.row in let l = off.column in let d = off.diagonal in
-    ⊎_elim
-    (λ under. inl (omega arith, omega arith, omega arith))
-    (λ over. let strict : 4 * c.apex.x + y < 4 * c.apex.y + x = (let ne : 4 * c.apex.y + x ≢ 4 * c.apex.x + y = IsIn-child-west x y c off in omega arith) in inr (omega arith, omega arith, omega arith))
-    (cases_lt (4 * c.apex.y + x) (4 * c.apex.x + y))
-IsIn-child south_west k x y c off t h =
-    let r = off.row in let l = off.column in let d = off.diagonal in
-    ⊎_elim
-    (λ under. inl (omega arith, omega arith, omega arith))
-    (λ over. let strict : 4 * c.apex.x < x = (let ne : x ≢ 4 * c.apex.x = IsIn-child-south_west x y c off in omega arith) in inr (omega arith, omega arith, omega arith))
-    (cases_lt (x) (4 * c.apex.x))
-IsIn-child south k x y c off t h =
-    let r = off.row in let l = off.column in let d = off.diagonal in
-    ⊎_elim
-    (λ under. inl (omega arith, omega arith, omega arith))
-    (λ over. let strict : 4 * c.apex.x + 4 * c.apex.y < x + y = (let ne : x + y ≢ 4 * c.apex.x + 4 * c.apex.y = IsIn-child-south x y c off in omega arith) in inr (omega arith, omega arith, omega arith))
-    (cases_lt (x + y) (4 * c.apex.x + 4 * c.apex.y))
-IsIn-child south_east k x y c off t h =
-    let r = off.row in let l = off.column in let d = off.diagonal in
-    ⊎_elim
-    (λ under. inl (omega arith, omega arith, omega arith))
-    (λ over. let strict : 4 * c.apex.y < y = (let ne : y ≢ 4 * c.apex.y = IsIn-child-south_east x y c off in omega arith) in inr (omega arith, omega arith, omega arith))
-    (cases_lt (y) (4 * c.apex.y))
+    (λ left. inr (in-right w k x y c t h left))
+    (λ upto. inl (in-left w k x y c t h (omega arith)))
+    (cases_lt (sides (eighth w) c.apex x y).0 (sides (eighth w) c.apex x y).1)
 
 -- levels
 

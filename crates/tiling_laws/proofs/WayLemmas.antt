@@ -1,10 +1,11 @@
 -- Runs of grid points: from a point so many steps in one of the eight ways. The edges of triangles are runs,
 -- and on a run each fact of lines and sides is linear.
-use Rattle.std.proofs.Common.{◌≡◌, ℕ, suc, ◌+◌, ◌*◌, ◌-◌, ◌<◌, ◌≤◌, ◌⊎◌, inl, inr, ap, subst, arith, ⊎_elim, mul-le-mul_left}
-use Rattle.std.proofs.lemmas.Bool.{cases_lt}
+use Rattle.std.proofs.Common.{◌≡◌, ℕ, suc, ◌+◌, ◌*◌, ◌-◌, ◌<◌, ◌≤◌, ◌⊎◌, inl, inr, true, ◌&&◌, ap, subst, arith, ⊎_elim, ltb-true, lt-ltb, mul-le-mul_left}
+use Rattle.std.proofs.lemmas.Bool.{cases_lt, and_parts, and_from}
 use Rattle.mesh_defs.specs.declared.point.Point.{Point}
+use Rattle.mesh_defs.specs.declared.point.Corners.{Corners}
 use Rattle.mesh_defs.specs.Triangle.{midpoint}
-use Rattle.mesh_defs.specs.Tiling.{IsStrictlyBetween, IsBetween}
+use Rattle.mesh_defs.specs.Tiling.{is_left, is_within, IsOnLine, IsStrictlyBetween, IsBetween}
 use Rattle.bintree_laws.proofs.LatticeLemmas.{same_point}
 use Rattle.bintree_laws.proofs.MateLemmas.{cancel}
 
@@ -53,90 +54,83 @@ scaled-lt k a b some h = let le : k * suc a ≤ k * b = mul-le-mul_left k h in o
 
 -- sides of runs
 
--- the point (x, y), in quarters of a grid step, lies left of the line that goes this way from p
+-- the two sides of the line that goes this way from p, at (x, y) in quarters of a grid step: left of the line the
+-- first is less, on the line they are equal
+abbrev pub sides : Way → Point → ℕ → ℕ → ℕ × ℕ
+sides east p x y = (4 * p.y, y)
+sides north_east p x y = (4 * p.y + x, 4 * p.x + y)
+sides north p x y = (x, 4 * p.x)
+sides north_west p x y = (x + y, 4 * p.x + 4 * p.y)
+sides west p x y = (y, 4 * p.y)
+sides south_west p x y = (4 * p.x + y, 4 * p.y + x)
+sides south p x y = (4 * p.x, x)
+sides south_east p x y = (4 * p.x + 4 * p.y, x + y)
+
+-- (x, y) lies left of the line
 abbrev pub IsBeside : Way → Point → ℕ → ℕ → Type 0
-IsBeside east p x y = 4 * p.y < y
-IsBeside north_east p x y = 4 * p.y + x < 4 * p.x + y
-IsBeside north p x y = x < 4 * p.x
-IsBeside north_west p x y = x + y < 4 * p.x + 4 * p.y
-IsBeside west p x y = y < 4 * p.y
-IsBeside south_west p x y = 4 * p.x + y < 4 * p.y + x
-IsBeside south p x y = 4 * p.x < x
-IsBeside south_east p x y = 4 * p.x + 4 * p.y < x + y
+IsBeside w p x y = (sides w p x y).0 < (sides w p x y).1
 
 -- the test of one edge, as an order
 abbrev pub IsLeft : ℕ → ℕ → Point → Point → Type 0
 IsLeft x y p q = 4 * p.y * q.x + q.y * x + y * p.x < 4 * p.x * q.y + q.x * y + x * p.y
 
+-- the terms of that test differ by the two sides, k times
+sides-scaled : (w : Way) (k x y : ℕ) (p q : Point) → IsRun w k p q →
+    4 * p.y * q.x + q.y * x + y * p.x + k * (sides w p x y).1 ≡ 4 * p.x * q.y + q.x * y + x * p.y + k * (sides w p x y).0
+sides-scaled east k x y p q r =
+    let f0 = times y q.x (p.x + k) r.0 in let f1 = times p.y q.x (p.x + k) r.0 in
+    let f2 = times x q.y p.y r.1 in let f3 = times p.x q.y p.y r.1 in omega arith
+sides-scaled north_east k x y p q r =
+    let f0 = times y q.x (p.x + k) r.0 in let f1 = times p.y q.x (p.x + k) r.0 in
+    let f2 = times x q.y (p.y + k) r.1 in let f3 = times p.x q.y (p.y + k) r.1 in omega arith
+sides-scaled north k x y p q r =
+    let f0 = times y q.x p.x r.0 in let f1 = times p.y q.x p.x r.0 in
+    let f2 = times x q.y (p.y + k) r.1 in let f3 = times p.x q.y (p.y + k) r.1 in omega arith
+sides-scaled north_west k x y p q r =
+    let f0 = times y p.x (q.x + k) r.0 in let f1 = times p.y p.x (q.x + k) r.0 in
+    let f2 = times x q.y (p.y + k) r.1 in let f3 = times p.x q.y (p.y + k) r.1 in omega arith
+sides-scaled west k x y p q r =
+    let f0 = times y p.x (q.x + k) r.0 in let f1 = times p.y p.x (q.x + k) r.0 in
+    let f2 = times x q.y p.y r.1 in let f3 = times p.x q.y p.y r.1 in omega arith
+sides-scaled south_west k x y p q r =
+    let f0 = times y p.x (q.x + k) r.0 in let f1 = times p.y p.x (q.x + k) r.0 in
+    let f2 = times x p.y (q.y + k) r.1 in let f3 = times p.x p.y (q.y + k) r.1 in omega arith
+sides-scaled south k x y p q r =
+    let f0 = times y q.x p.x r.0 in let f1 = times p.y q.x p.x r.0 in
+    let f2 = times x p.y (q.y + k) r.1 in let f3 = times p.x p.y (q.y + k) r.1 in omega arith
+sides-scaled south_east k x y p q r =
+    let f0 = times y q.x (p.x + k) r.0 in let f1 = times p.y q.x (p.x + k) r.0 in
+    let f2 = times x p.y (q.y + k) r.1 in let f3 = times p.x p.y (q.y + k) r.1 in omega arith
+
 -- left of an edge is beside its run
 pub IsBeside-left : (w : Way) (k x y : ℕ) (p q : Point) → IsRun w k p q → IsLeft x y p q → IsBeside w p x y
-IsBeside-left east k x y p q r h =
-    let f0 = times y q.x (p.x + k) r.0 in let f1 = times p.y q.x (p.x + k) r.0 in
-    let f2 = times x q.y p.y r.1 in let f3 = times p.x q.y p.y r.1 in
-    lt-scaled k (4 * p.y) y (omega arith)
-IsBeside-left north_east k x y p q r h =
-    let f0 = times y q.x (p.x + k) r.0 in let f1 = times p.y q.x (p.x + k) r.0 in
-    let f2 = times x q.y (p.y + k) r.1 in let f3 = times p.x q.y (p.y + k) r.1 in
-    lt-scaled k (4 * p.y + x) (4 * p.x + y) (omega arith)
-IsBeside-left north k x y p q r h =
-    let f0 = times y q.x p.x r.0 in let f1 = times p.y q.x p.x r.0 in
-    let f2 = times x q.y (p.y + k) r.1 in let f3 = times p.x q.y (p.y + k) r.1 in
-    lt-scaled k x (4 * p.x) (omega arith)
-IsBeside-left north_west k x y p q r h =
-    let f0 = times y p.x (q.x + k) r.0 in let f1 = times p.y p.x (q.x + k) r.0 in
-    let f2 = times x q.y (p.y + k) r.1 in let f3 = times p.x q.y (p.y + k) r.1 in
-    lt-scaled k (x + y) (4 * p.x + 4 * p.y) (omega arith)
-IsBeside-left west k x y p q r h =
-    let f0 = times y p.x (q.x + k) r.0 in let f1 = times p.y p.x (q.x + k) r.0 in
-    let f2 = times x q.y p.y r.1 in let f3 = times p.x q.y p.y r.1 in
-    lt-scaled k y (4 * p.y) (omega arith)
-IsBeside-left south_west k x y p q r h =
-    let f0 = times y p.x (q.x + k) r.0 in let f1 = times p.y p.x (q.x + k) r.0 in
-    let f2 = times x p.y (q.y + k) r.1 in let f3 = times p.x p.y (q.y + k) r.1 in
-    lt-scaled k (4 * p.x + y) (4 * p.y + x) (omega arith)
-IsBeside-left south k x y p q r h =
-    let f0 = times y q.x p.x r.0 in let f1 = times p.y q.x p.x r.0 in
-    let f2 = times x p.y (q.y + k) r.1 in let f3 = times p.x p.y (q.y + k) r.1 in
-    lt-scaled k (4 * p.x) x (omega arith)
-IsBeside-left south_east k x y p q r h =
-    let f0 = times y q.x (p.x + k) r.0 in let f1 = times p.y q.x (p.x + k) r.0 in
-    let f2 = times x p.y (q.y + k) r.1 in let f3 = times p.x p.y (q.y + k) r.1 in
-    lt-scaled k (4 * p.x + 4 * p.y) (x + y) (omega arith)
+IsBeside-left w k x y p q r h =
+    let e = sides-scaled w k x y p q r in lt-scaled k (sides w p x y).0 (sides w p x y).1 (omega arith)
 
 -- beside a run is left of an edge
 pub IsLeft-beside : (w : Way) (k x y : ℕ) (p q : Point) → 0 < k → IsRun w k p q → IsBeside w p x y → IsLeft x y p q
-IsLeft-beside east k x y p q some r h =
-    let f0 = times y q.x (p.x + k) r.0 in let f1 = times p.y q.x (p.x + k) r.0 in
-    let f2 = times x q.y p.y r.1 in let f3 = times p.x q.y p.y r.1 in
-    let s = scaled-lt k (4 * p.y) y some h in omega arith
-IsLeft-beside north_east k x y p q some r h =
-    let f0 = times y q.x (p.x + k) r.0 in let f1 = times p.y q.x (p.x + k) r.0 in
-    let f2 = times x q.y (p.y + k) r.1 in let f3 = times p.x q.y (p.y + k) r.1 in
-    let s = scaled-lt k (4 * p.y + x) (4 * p.x + y) some h in omega arith
-IsLeft-beside north k x y p q some r h =
-    let f0 = times y q.x p.x r.0 in let f1 = times p.y q.x p.x r.0 in
-    let f2 = times x q.y (p.y + k) r.1 in let f3 = times p.x q.y (p.y + k) r.1 in
-    let s = scaled-lt k x (4 * p.x) some h in omega arith
-IsLeft-beside north_west k x y p q some r h =
-    let f0 = times y p.x (q.x + k) r.0 in let f1 = times p.y p.x (q.x + k) r.0 in
-    let f2 = times x q.y (p.y + k) r.1 in let f3 = times p.x q.y (p.y + k) r.1 in
-    let s = scaled-lt k (x + y) (4 * p.x + 4 * p.y) some h in omega arith
-IsLeft-beside west k x y p q some r h =
-    let f0 = times y p.x (q.x + k) r.0 in let f1 = times p.y p.x (q.x + k) r.0 in
-    let f2 = times x q.y p.y r.1 in let f3 = times p.x q.y p.y r.1 in
-    let s = scaled-lt k y (4 * p.y) some h in omega arith
-IsLeft-beside south_west k x y p q some r h =
-    let f0 = times y p.x (q.x + k) r.0 in let f1 = times p.y p.x (q.x + k) r.0 in
-    let f2 = times x p.y (q.y + k) r.1 in let f3 = times p.x p.y (q.y + k) r.1 in
-    let s = scaled-lt k (4 * p.x + y) (4 * p.y + x) some h in omega arith
-IsLeft-beside south k x y p q some r h =
-    let f0 = times y q.x p.x r.0 in let f1 = times p.y q.x p.x r.0 in
-    let f2 = times x p.y (q.y + k) r.1 in let f3 = times p.x p.y (q.y + k) r.1 in
-    let s = scaled-lt k (4 * p.x) x some h in omega arith
-IsLeft-beside south_east k x y p q some r h =
-    let f0 = times y q.x (p.x + k) r.0 in let f1 = times p.y q.x (p.x + k) r.0 in
-    let f2 = times x p.y (q.y + k) r.1 in let f3 = times p.x p.y (q.y + k) r.1 in
-    let s = scaled-lt k (4 * p.x + 4 * p.y) (x + y) some h in omega arith
+IsLeft-beside w k x y p q some r h =
+    let e = sides-scaled w k x y p q r in
+    let s = scaled-lt k (sides w p x y).0 (sides w p x y).1 some h in omega arith
+
+-- the tests of the three edges
+pub record IsBounded (x y : ℕ) (c : Corners) : Type 0 where
+  pub leg : IsLeft x y c.apex c.v0
+  pub base : IsLeft x y c.v0 c.v1
+  pub other : IsLeft x y c.v1 c.apex
+
+-- strictly inside a triangle is left of its three edges
+pub IsBounded-from : (x y : ℕ) (c : Corners) → is_within x y c ≡ true → IsBounded x y c
+IsBounded-from x y c h =
+    let first = and_parts (is_left x y c.apex c.v0) (is_left x y c.v0 c.v1 && is_left x y c.v1 c.apex) h in
+    let second = and_parts (is_left x y c.v0 c.v1) (is_left x y c.v1 c.apex) first.1 in
+    record { leg = ltb-true _ _ first.0; base = ltb-true _ _ second.0; other = ltb-true _ _ second.1 }
+
+-- and left of the three is inside
+pub IsBounded-to : (x y : ℕ) (c : Corners) → IsBounded x y c → is_within x y c ≡ true
+IsBounded-to x y c w =
+    and_from (is_left x y c.apex c.v0) (is_left x y c.v0 c.v1 && is_left x y c.v1 c.apex) (lt-ltb _ _ w.leg)
+    (and_from (is_left x y c.v0 c.v1) (is_left x y c.v1 c.apex) (lt-ltb _ _ w.base) (lt-ltb _ _ w.other))
 
 -- points on runs
 
@@ -144,123 +138,58 @@ IsLeft-beside south_east k x y p q some r h =
 abbrev pub IsInside : Way → ℕ → Point → Point → Type 0
 IsInside w k p r = (j : ℕ) × (0 < j) × (j < k) × IsRun w j p r
 
+-- a point on the line has equal sides
+sides-on_line : (w : Way) (k : ℕ) (p q r : Point) → 0 < k → IsRun w k p q → IsOnLine p q r →
+    (sides w p (4 * r.x) (4 * r.y)).0 ≡ (sides w p (4 * r.x) (4 * r.y)).1
+sides-on_line w k p q r some run line =
+    let e = sides-scaled w k (4 * r.x) (4 * r.y) p q run in
+    cancel k (sides w p (4 * r.x) (4 * r.y)).0 (sides w p (4 * r.x) (4 * r.y)).1 some (omega arith)
+
 -- strictly between the ends of a run is inside the run
 pub IsInside-between : (w : Way) (k : ℕ) (p q r : Point) → 0 < k → IsRun w k p q → IsStrictlyBetween p q r → IsInside w k p r
-IsInside-between east k p q r some run b =
-    let line = b.on_line in
-    let f0 = times r.y q.x (p.x + k) run.0 in let f1 = times p.y q.x (p.x + k) run.0 in
-    let f2 = times r.x q.y p.y run.1 in let f3 = times p.x q.y p.y run.1 in
-    let e : r.y ≡ p.y = cancel k r.y p.y some (omega arith) in
-    let between = b.between in
-    (r.x - p.x, omega arith, omega arith, (omega arith, omega arith))
-IsInside-between north_east k p q r some run b =
-    let line = b.on_line in
-    let f0 = times r.y q.x (p.x + k) run.0 in let f1 = times p.y q.x (p.x + k) run.0 in
-    let f2 = times r.x q.y (p.y + k) run.1 in let f3 = times p.x q.y (p.y + k) run.1 in
-    let e : p.x + r.y ≡ p.y + r.x = cancel k (p.x + r.y) (p.y + r.x) some (omega arith) in
-    let between = b.between in
-    (r.x - p.x, omega arith, omega arith, (omega arith, omega arith))
-IsInside-between north k p q r some run b =
-    let line = b.on_line in
-    let f0 = times r.y q.x p.x run.0 in let f1 = times p.y q.x p.x run.0 in
-    let f2 = times r.x q.y (p.y + k) run.1 in let f3 = times p.x q.y (p.y + k) run.1 in
-    let e : r.x ≡ p.x = cancel k r.x p.x some (omega arith) in
-    let between = b.between in
-    (r.y - p.y, omega arith, omega arith, (omega arith, omega arith))
-IsInside-between north_west k p q r some run b =
-    let line = b.on_line in
-    let f0 = times r.y p.x (q.x + k) run.0 in let f1 = times p.y p.x (q.x + k) run.0 in
-    let f2 = times r.x q.y (p.y + k) run.1 in let f3 = times p.x q.y (p.y + k) run.1 in
-    let e : p.x + p.y ≡ r.x + r.y = cancel k (p.x + p.y) (r.x + r.y) some (omega arith) in
-    let between = b.between in
-    (p.x - r.x, omega arith, omega arith, (omega arith, omega arith))
-IsInside-between west k p q r some run b =
-    let line = b.on_line in
-    let f0 = times r.y p.x (q.x + k) run.0 in let f1 = times p.y p.x (q.x + k) run.0 in
-    let f2 = times r.x q.y p.y run.1 in let f3 = times p.x q.y p.y run.1 in
-    let e : r.y ≡ p.y = cancel k r.y p.y some (omega arith) in
-    let between = b.between in
-    (p.x - r.x, omega arith, omega arith, (omega arith, omega arith))
-IsInside-between south_west k p q r some run b =
-    let line = b.on_line in
-    let f0 = times r.y p.x (q.x + k) run.0 in let f1 = times p.y p.x (q.x + k) run.0 in
-    let f2 = times r.x p.y (q.y + k) run.1 in let f3 = times p.x p.y (q.y + k) run.1 in
-    let e : p.x + r.y ≡ p.y + r.x = cancel k (p.x + r.y) (p.y + r.x) some (omega arith) in
-    let between = b.between in
-    (p.x - r.x, omega arith, omega arith, (omega arith, omega arith))
-IsInside-between south k p q r some run b =
-    let line = b.on_line in
-    let f0 = times r.y q.x p.x run.0 in let f1 = times p.y q.x p.x run.0 in
-    let f2 = times r.x p.y (q.y + k) run.1 in let f3 = times p.x p.y (q.y + k) run.1 in
-    let e : r.x ≡ p.x = cancel k r.x p.x some (omega arith) in
-    let between = b.between in
-    (p.y - r.y, omega arith, omega arith, (omega arith, omega arith))
-IsInside-between south_east k p q r some run b =
-    let line = b.on_line in
-    let f0 = times r.y q.x (p.x + k) run.0 in let f1 = times p.y q.x (p.x + k) run.0 in
-    let f2 = times r.x p.y (q.y + k) run.1 in let f3 = times p.x p.y (q.y + k) run.1 in
-    let e : p.x + p.y ≡ r.x + r.y = cancel k (p.x + p.y) (r.x + r.y) some (omega arith) in
-    let between = b.between in
-    (r.x - p.x, omega arith, omega arith, (omega arith, omega arith))
+IsInside-between w k p q r some run b = inside w k p q r run (sides-on_line w k p q r some run b.on_line) b.between
+  where
+    inside : (w : Way) (k : ℕ) (p q r : Point) → IsRun w k p q →
+        (sides w p (4 * r.x) (4 * r.y)).0 ≡ (sides w p (4 * r.x) (4 * r.y)).1 →
+        IsBetween p.x q.x r.x ⊎ IsBetween p.y q.y r.y → IsInside w k p r
+    inside east k p q r run e between = (r.x - p.x, omega arith, omega arith, (omega arith, omega arith))
+    inside north_east k p q r run e between = (r.x - p.x, omega arith, omega arith, (omega arith, omega arith))
+    inside north k p q r run e between = (r.y - p.y, omega arith, omega arith, (omega arith, omega arith))
+    inside north_west k p q r run e between = (p.x - r.x, omega arith, omega arith, (omega arith, omega arith))
+    inside west k p q r run e between = (p.x - r.x, omega arith, omega arith, (omega arith, omega arith))
+    inside south_west k p q r run e between = (p.x - r.x, omega arith, omega arith, (omega arith, omega arith))
+    inside south k p q r run e between = (p.y - r.y, omega arith, omega arith, (omega arith, omega arith))
+    inside south_east k p q r run e between = (r.x - p.x, omega arith, omega arith, (omega arith, omega arith))
+
+-- the point after some steps of the run has equal sides
+sides-run : (w : Way) (j : ℕ) (p r : Point) → IsRun w j p r →
+    (sides w p (4 * r.x) (4 * r.y)).0 ≡ (sides w p (4 * r.x) (4 * r.y)).1
+sides-run east j p r step = omega arith
+sides-run north_east j p r step = omega arith
+sides-run north j p r step = omega arith
+sides-run north_west j p r step = omega arith
+sides-run west j p r step = omega arith
+sides-run south_west j p r step = omega arith
+sides-run south j p r step = omega arith
+sides-run south_east j p r step = omega arith
 
 -- and inside the run is strictly between its ends
 pub IsStrictlyBetween-inside : (w : Way) (k : ℕ) (p q r : Point) → IsRun w k p q → IsInside w k p r → IsStrictlyBetween p q r
-IsStrictlyBetween-inside east k p q r run i =
-    let j = i.0 in let step = i.3 in
-    let f0 = times r.y q.x (p.x + k) run.0 in let f1 = times p.y q.x (p.x + k) run.0 in
-    let f2 = times r.x q.y p.y run.1 in let f3 = times p.x q.y p.y run.1 in
-    let g0 = times p.y r.x (p.x + j) step.0 in let g1 = times k r.x (p.x + j) step.0 in
-    let g2 = times p.x r.y p.y step.1 in let g3 = times k r.y p.y step.1 in
-    record { on_line = omega arith; between = inl (inl (omega arith, omega arith)) }
-IsStrictlyBetween-inside north_east k p q r run i =
-    let j = i.0 in let step = i.3 in
-    let f0 = times r.y q.x (p.x + k) run.0 in let f1 = times p.y q.x (p.x + k) run.0 in
-    let f2 = times r.x q.y (p.y + k) run.1 in let f3 = times p.x q.y (p.y + k) run.1 in
-    let g0 = times p.y r.x (p.x + j) step.0 in let g1 = times k r.x (p.x + j) step.0 in
-    let g2 = times p.x r.y (p.y + j) step.1 in let g3 = times k r.y (p.y + j) step.1 in
-    record { on_line = omega arith; between = inl (inl (omega arith, omega arith)) }
-IsStrictlyBetween-inside north k p q r run i =
-    let j = i.0 in let step = i.3 in
-    let f0 = times r.y q.x p.x run.0 in let f1 = times p.y q.x p.x run.0 in
-    let f2 = times r.x q.y (p.y + k) run.1 in let f3 = times p.x q.y (p.y + k) run.1 in
-    let g0 = times p.y r.x p.x step.0 in let g1 = times k r.x p.x step.0 in
-    let g2 = times p.x r.y (p.y + j) step.1 in let g3 = times k r.y (p.y + j) step.1 in
-    record { on_line = omega arith; between = inr (inl (omega arith, omega arith)) }
-IsStrictlyBetween-inside north_west k p q r run i =
-    let j = i.0 in let step = i.3 in
-    let f0 = times r.y p.x (q.x + k) run.0 in let f1 = times p.y p.x (q.x + k) run.0 in
-    let f2 = times r.x q.y (p.y + k) run.1 in let f3 = times p.x q.y (p.y + k) run.1 in
-    let g0 = times p.y p.x (r.x + j) step.0 in let g1 = times k p.x (r.x + j) step.0 in
-    let g2 = times p.x r.y (p.y + j) step.1 in let g3 = times k r.y (p.y + j) step.1 in
-    record { on_line = omega arith; between = inl (inr (omega arith, omega arith)) }
-IsStrictlyBetween-inside west k p q r run i =
-    let j = i.0 in let step = i.3 in
-    let f0 = times r.y p.x (q.x + k) run.0 in let f1 = times p.y p.x (q.x + k) run.0 in
-    let f2 = times r.x q.y p.y run.1 in let f3 = times p.x q.y p.y run.1 in
-    let g0 = times p.y p.x (r.x + j) step.0 in let g1 = times k p.x (r.x + j) step.0 in
-    let g2 = times p.x r.y p.y step.1 in let g3 = times k r.y p.y step.1 in
-    record { on_line = omega arith; between = inl (inr (omega arith, omega arith)) }
-IsStrictlyBetween-inside south_west k p q r run i =
-    let j = i.0 in let step = i.3 in
-    let f0 = times r.y p.x (q.x + k) run.0 in let f1 = times p.y p.x (q.x + k) run.0 in
-    let f2 = times r.x p.y (q.y + k) run.1 in let f3 = times p.x p.y (q.y + k) run.1 in
-    let g0 = times p.y p.x (r.x + j) step.0 in let g1 = times k p.x (r.x + j) step.0 in
-    let g2 = times p.x p.y (r.y + j) step.1 in let g3 = times k p.y (r.y + j) step.1 in
-    record { on_line = omega arith; between = inl (inr (omega arith, omega arith)) }
-IsStrictlyBetween-inside south k p q r run i =
-    let j = i.0 in let step = i.3 in
-    let f0 = times r.y q.x p.x run.0 in let f1 = times p.y q.x p.x run.0 in
-    let f2 = times r.x p.y (q.y + k) run.1 in let f3 = times p.x p.y (q.y + k) run.1 in
-    let g0 = times p.y r.x p.x step.0 in let g1 = times k r.x p.x step.0 in
-    let g2 = times p.x p.y (r.y + j) step.1 in let g3 = times k p.y (r.y + j) step.1 in
-    record { on_line = omega arith; between = inr (inr (omega arith, omega arith)) }
-IsStrictlyBetween-inside south_east k p q r run i =
-    let j = i.0 in let step = i.3 in
-    let f0 = times r.y q.x (p.x + k) run.0 in let f1 = times p.y q.x (p.x + k) run.0 in
-    let f2 = times r.x p.y (q.y + k) run.1 in let f3 = times p.x p.y (q.y + k) run.1 in
-    let g0 = times p.y r.x (p.x + j) step.0 in let g1 = times k r.x (p.x + j) step.0 in
-    let g2 = times p.x p.y (r.y + j) step.1 in let g3 = times k p.y (r.y + j) step.1 in
-    record { on_line = omega arith; between = inl (inl (omega arith, omega arith)) }
+IsStrictlyBetween-inside w k p q r run i =
+    let e = sides-scaled w k (4 * r.x) (4 * r.y) p q run in
+    let f = ap (λ z. k * z) (sides-run w i.0 p r i.3) in
+    record { on_line = omega arith; between = between w k i.0 p q r run i.1 i.2 i.3 }
+  where
+    between : (w : Way) (k j : ℕ) (p q r : Point) → IsRun w k p q → 0 < j → j < k → IsRun w j p r →
+        IsBetween p.x q.x r.x ⊎ IsBetween p.y q.y r.y
+    between east k j p q r run some less step = inl (inl (omega arith, omega arith))
+    between north_east k j p q r run some less step = inl (inl (omega arith, omega arith))
+    between north k j p q r run some less step = inr (inl (omega arith, omega arith))
+    between north_west k j p q r run some less step = inl (inr (omega arith, omega arith))
+    between west k j p q r run some less step = inl (inr (omega arith, omega arith))
+    between south_west k j p q r run some less step = inl (inr (omega arith, omega arith))
+    between south k j p q r run some less step = inr (inr (omega arith, omega arith))
+    between south_east k j p q r run some less step = inl (inl (omega arith, omega arith))
 
 -- one end of a run is determined by the other
 pub IsRun-same : (w : Way) (k : ℕ) (p q r : Point) → IsRun w k p q → IsRun w k p r → q ≡ r
