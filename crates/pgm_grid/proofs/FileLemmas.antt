@@ -6,7 +6,6 @@ use Rattle.text_laws.proofs.ListLemmas.{All-back}
 use Rattle.mesh_defs.specs.HeightField.{HeightField, IsHeightField}
 use Rattle.pgm_header.specs.declared.accepted.Header.{Header}
 use Rattle.pgm_header.specs.declared.fault.HeaderFault.{HeaderFault}
-use Rattle.pgm_header.specs.declared.fault.HeaderFault.TheVariants as header
 use Rattle.pgm_header.specs.Accepted.{IsHeader, Accepts, HeaderAnswer, Part, Whole, Bad}
 use Rattle.pgm_header.specs.Reading as reading
 use Rattle.pgm_header.specs.Laws as head
@@ -23,79 +22,8 @@ use Rattle.pgm_grid.specs.PgmText.{points_of, form_of, most_bytes, IsFileText, H
 use Rattle.pgm_grid.specs.Progress.{header_fault, raster_fault, grid_with, grid_answer, samples_at, file_answer, grid_of}
 use Rattle.pgm_grid.specs.Laws.{AreBytes, TextsAreRead, GridsHaveTexts, GridsHaveHeaders, CutTextsAreRefused, TrailingBytesAreRefused, GreatSamplesAreRefused, BadSamplesAreRefused, LongFilesAreRefused, OthersAreAbsent}
 use Rattle.pgm_grid.proofs.GridLemmas.{points_small}
-use Rattle.pgm_grid.proofs.ReaderLemmas.{no_header-memory, no_raster-memory, header-truncated, same_raster, raster-refused}
-
--- no refusal of a header is one of a raster
-pub apart : (one : HeaderFault) (other : RasterFault) → header_fault one ≡ raster_fault other → ⊥
-apart header.BadMagic (raster.BadSample place) e = cc
-apart header.BadMagic (raster.AboveMaxval place) e = cc
-apart header.BadMagic (raster.Trailing place) e = cc
-apart header.BadMagic raster.Truncated e = cc
-apart header.BadMagic raster.TooLong e = cc
-apart (header.BadHeader at) (raster.BadSample place) e = cc
-apart (header.BadHeader at) (raster.AboveMaxval place) e = cc
-apart (header.BadHeader at) (raster.Trailing place) e = cc
-apart (header.BadHeader at) raster.Truncated e = cc
-apart (header.BadHeader at) raster.TooLong e = cc
-apart header.HeaderTooLong (raster.BadSample place) e = cc
-apart header.HeaderTooLong (raster.AboveMaxval place) e = cc
-apart header.HeaderTooLong (raster.Trailing place) e = cc
-apart header.HeaderTooLong raster.Truncated e = cc
-apart header.HeaderTooLong raster.TooLong e = cc
-apart header.BadMaxval (raster.BadSample place) e = cc
-apart header.BadMaxval (raster.AboveMaxval place) e = cc
-apart header.BadMaxval (raster.Trailing place) e = cc
-apart header.BadMaxval raster.Truncated e = cc
-apart header.BadMaxval raster.TooLong e = cc
-apart header.NotSquare (raster.BadSample place) e = cc
-apart header.NotSquare (raster.AboveMaxval place) e = cc
-apart header.NotSquare (raster.Trailing place) e = cc
-apart header.NotSquare raster.Truncated e = cc
-apart header.NotSquare raster.TooLong e = cc
-apart header.BadSide (raster.BadSample place) e = cc
-apart header.BadSide (raster.AboveMaxval place) e = cc
-apart header.BadSide (raster.Trailing place) e = cc
-apart header.BadSide raster.Truncated e = cc
-apart header.BadSide raster.TooLong e = cc
-
--- no two refusals of a header are the same of a file
-same_header : (one other : HeaderFault) → header_fault one ≡ header_fault other → one ≡ other
-same_header header.BadMagic header.BadMagic e = cc
-same_header header.BadMagic (header.BadHeader place) e = absurd cc
-same_header header.BadMagic header.HeaderTooLong e = absurd cc
-same_header header.BadMagic header.BadMaxval e = absurd cc
-same_header header.BadMagic header.NotSquare e = absurd cc
-same_header header.BadMagic header.BadSide e = absurd cc
-same_header (header.BadHeader at) header.BadMagic e = absurd cc
-same_header (header.BadHeader at) (header.BadHeader place) e = cc
-same_header (header.BadHeader at) header.HeaderTooLong e = absurd cc
-same_header (header.BadHeader at) header.BadMaxval e = absurd cc
-same_header (header.BadHeader at) header.NotSquare e = absurd cc
-same_header (header.BadHeader at) header.BadSide e = absurd cc
-same_header header.HeaderTooLong header.BadMagic e = absurd cc
-same_header header.HeaderTooLong (header.BadHeader place) e = absurd cc
-same_header header.HeaderTooLong header.HeaderTooLong e = cc
-same_header header.HeaderTooLong header.BadMaxval e = absurd cc
-same_header header.HeaderTooLong header.NotSquare e = absurd cc
-same_header header.HeaderTooLong header.BadSide e = absurd cc
-same_header header.BadMaxval header.BadMagic e = absurd cc
-same_header header.BadMaxval (header.BadHeader place) e = absurd cc
-same_header header.BadMaxval header.HeaderTooLong e = absurd cc
-same_header header.BadMaxval header.BadMaxval e = cc
-same_header header.BadMaxval header.NotSquare e = absurd cc
-same_header header.BadMaxval header.BadSide e = absurd cc
-same_header header.NotSquare header.BadMagic e = absurd cc
-same_header header.NotSquare (header.BadHeader place) e = absurd cc
-same_header header.NotSquare header.HeaderTooLong e = absurd cc
-same_header header.NotSquare header.BadMaxval e = absurd cc
-same_header header.NotSquare header.NotSquare e = cc
-same_header header.NotSquare header.BadSide e = absurd cc
-same_header header.BadSide header.BadMagic e = absurd cc
-same_header header.BadSide (header.BadHeader place) e = absurd cc
-same_header header.BadSide header.HeaderTooLong e = absurd cc
-same_header header.BadSide header.BadMaxval e = absurd cc
-same_header header.BadSide header.NotSquare e = absurd cc
-same_header header.BadSide header.BadSide e = cc
+use Rattle.pgm_grid.proofs.FaultLemmas.{apart, no_header-memory, header-truncated, same_header, no_raster-memory, same_raster}
+use Rattle.pgm_grid.proofs.ReaderLemmas.{raster-refused}
 
 -- Answers.
 

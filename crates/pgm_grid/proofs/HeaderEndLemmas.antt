@@ -14,8 +14,9 @@ use Rattle.pgm_grid.specs.declared.fault.PgmFault.TheVariants.{Truncated, NoMemo
 use Rattle.pgm_grid.specs.PgmText.{HasHeader}
 use Rattle.pgm_grid.specs.Progress.{InHeader, header_fault, grid_answer, samples_at, file_answer, resume, grid_of, taken, StandsFor, EndsHeaderOf}
 use Rattle.pgm_grid.specs.Stage.{IsOpenHeader, Stops}
-use Rattle.pgm_grid.proofs.ReaderLemmas.{HasTaken, header-truncated, raster-refused, unsettled-header, whole-answer}
-use Rattle.pgm_grid.proofs.FileLemmas.{apart, whole-has}
+use Rattle.pgm_grid.proofs.ReaderLemmas.{HasTaken, raster-refused, unsettled-header, whole-answer}
+use Rattle.pgm_grid.proofs.FaultLemmas.{apart, header-truncated}
+use Rattle.pgm_grid.proofs.FileLemmas.{whole-has}
 
 -- a whole header is no part of one
 whole_no-part : (h : Header) (rest : List ℕ) → Whole h rest ≡ Part → ⊥

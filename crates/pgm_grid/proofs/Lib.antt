@@ -1,4 +1,5 @@
 pub mod GridLemmas
+pub mod FaultLemmas
 pub mod ReaderLemmas
 pub mod FileLemmas
 pub mod HeaderEndLemmas

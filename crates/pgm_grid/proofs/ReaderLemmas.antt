@@ -6,12 +6,10 @@ use Rattle.text_laws.proofs.AnswerLemmas.{err-same, ok-err}
 use Rattle.mesh_defs.specs.HeightField.{IsHeightField}
 use Rattle.pgm_header.specs.declared.accepted.Header.{Header}
 use Rattle.pgm_header.specs.declared.fault.HeaderFault.{HeaderFault}
-use Rattle.pgm_header.specs.declared.fault.HeaderFault.TheVariants as header
 use Rattle.pgm_header.specs.Accepted.{IsHeader, Whole, Bad}
 use Rattle.pgm_header.specs.Reading as reading
 use Rattle.pgm_raster.specs.declared.fault.RasterFault.{RasterFault}
 use Rattle.pgm_raster.specs.declared.form.RasterForm.{RasterForm}
-use Rattle.pgm_raster.specs.declared.fault.RasterFault.TheVariants as raster
 use Rattle.pgm_raster.specs.Laws.{OnlyWantedSamplesAreRead}
 use Rattle.pgm_raster.specs.Progress as samples
 use Rattle.pgm_grid.specs.declared.fault.PgmFault.{PgmFault}
@@ -19,52 +17,7 @@ use Rattle.pgm_grid.specs.declared.fault.PgmFault.TheVariants.{Truncated, NoMemo
 use Rattle.pgm_grid.specs.PgmText.{points_of, form_of}
 use Rattle.pgm_grid.specs.Progress.{Progress, InHeader, InRaster, HasRefused, header_fault, raster_fault, grid_with, grid_answer, samples_at, file_answer, resume, grid_of, taken, IsSettled}
 use Rattle.pgm_grid.specs.Stage.{IsOpenHeader, IsBehind, HasRead, BeginsRaster, Takes, Stops}
-
--- Faults.
-
-pub no_header-memory : (fault : HeaderFault) → header_fault fault ≡ NoMemory → ⊥
-no_header-memory header.BadMagic e = cc
-no_header-memory (header.BadHeader at) e = cc
-no_header-memory header.HeaderTooLong e = cc
-no_header-memory header.BadMaxval e = cc
-no_header-memory header.NotSquare e = cc
-no_header-memory header.BadSide e = cc
-
-pub header-truncated : (fault : HeaderFault) → header_fault fault ≡ Truncated → ⊥
-header-truncated header.BadMagic e = cc
-header-truncated (header.BadHeader at) e = cc
-header-truncated header.HeaderTooLong e = cc
-header-truncated header.BadMaxval e = cc
-header-truncated header.NotSquare e = cc
-header-truncated header.BadSide e = cc
-
--- no two refusals of a raster are the same of a file
-pub same_raster : (one other : RasterFault) → raster_fault one ≡ raster_fault other → one ≡ other
-same_raster (raster.BadSample at) (raster.BadSample place) e = cc
-same_raster (raster.BadSample at) (raster.AboveMaxval place) e = absurd cc
-same_raster (raster.BadSample at) (raster.Trailing place) e = absurd cc
-same_raster (raster.BadSample at) raster.Truncated e = absurd cc
-same_raster (raster.BadSample at) raster.TooLong e = absurd cc
-same_raster (raster.AboveMaxval at) (raster.BadSample place) e = absurd cc
-same_raster (raster.AboveMaxval at) (raster.AboveMaxval place) e = cc
-same_raster (raster.AboveMaxval at) (raster.Trailing place) e = absurd cc
-same_raster (raster.AboveMaxval at) raster.Truncated e = absurd cc
-same_raster (raster.AboveMaxval at) raster.TooLong e = absurd cc
-same_raster (raster.Trailing at) (raster.BadSample place) e = absurd cc
-same_raster (raster.Trailing at) (raster.AboveMaxval place) e = absurd cc
-same_raster (raster.Trailing at) (raster.Trailing place) e = cc
-same_raster (raster.Trailing at) raster.Truncated e = absurd cc
-same_raster (raster.Trailing at) raster.TooLong e = absurd cc
-same_raster raster.Truncated (raster.BadSample place) e = absurd cc
-same_raster raster.Truncated (raster.AboveMaxval place) e = absurd cc
-same_raster raster.Truncated (raster.Trailing place) e = absurd cc
-same_raster raster.Truncated raster.Truncated e = cc
-same_raster raster.Truncated raster.TooLong e = absurd cc
-same_raster raster.TooLong (raster.BadSample place) e = absurd cc
-same_raster raster.TooLong (raster.AboveMaxval place) e = absurd cc
-same_raster raster.TooLong (raster.Trailing place) e = absurd cc
-same_raster raster.TooLong raster.Truncated e = absurd cc
-same_raster raster.TooLong raster.TooLong e = cc
+use Rattle.pgm_grid.proofs.FaultLemmas.{no_header-memory, header-truncated, same_raster}
 
 -- Settled readers.
 
@@ -137,14 +90,6 @@ pub raster-refusal : (header : Header) (old : samples.Progress) (piece : List �
     → (more : List ℕ) → resume (InRaster header old) (piece ++ more) ≡ Err (raster_fault fault)
 unfolding resume
 raster-refusal header old piece fault refusal more = ap (grid_answer header) (refusal more)
-
--- no refusal of a raster is want of memory
-pub no_raster-memory : (fault : RasterFault) → raster_fault fault ≡ NoMemory → ⊥
-no_raster-memory (raster.BadSample at) e = cc
-no_raster-memory (raster.AboveMaxval index) e = cc
-no_raster-memory (raster.Trailing at) e = cc
-no_raster-memory raster.Truncated e = cc
-no_raster-memory raster.TooLong e = cc
 
 -- a piece of a raster that had refused nothing was refused
 pub raster-stops : (header : Header) (old : samples.Progress) (piece : List ℕ) (fault : PgmFault)
