@@ -1,5 +1,5 @@
 -- What the answer to a split says.
-use Rattle.std.proofs.Common.{◌≡◌, ◌≢◌, ◌-◌, ap, sym, ◌∙◌, ◌⊎◌, ℕ, ◌+◌, ◌*◌, ◌/◌, ◌%◌, ◌<◌, arith, inl, inr, ⊎_elim, subst, List, length, get_or, set, get_or-set_other, None, Some}
+use Rattle.std.proofs.Common.{◌≡◌, ap, sym, ◌∙◌, ◌⊎◌, ℕ, ◌+◌, ◌*◌, ◌/◌, ◌%◌, ◌<◌, arith, inl, inr, ⊎_elim, subst, List, length, get_or, set, get_or-set_other, None, Some}
 use Rattle.std.proofs.lemmas.Bool.{cases_eq, cases_lt, true≢false}
 use Rattle.std.proofs.Math.ListN.{length-set}
 use Rattle.bintree_addr.specs.declared.slot.Slot.{Slot}

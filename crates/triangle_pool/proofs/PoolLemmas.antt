@@ -1,7 +1,7 @@
 -- The pool's invariant through a split.
 use Rattle.std.proofs.Common.{◌≡◌, ◌≢◌, ap, sym, ◌∙◌, ◌⊎◌, true, false, cond, nat_eq, ℕ, ◌+◌, ◌*◌, ◌/◌, ◌^◌, ◌<◌, ◌≤◌, ◌++◌, refl, arith, inl, inr, ⊎_elim, subst, List, [], ◌∷◌, length, get_or, set, get_or-set_other, get_or-set_same}
 use Rattle.std.proofs.lemmas.List.Sums.{sum_by-set, count_by-le-length}
-use Rattle.std.proofs.lemmas.List.{get_or_append_left, get_or_push, get_or_past, length_push}
+use Rattle.std.proofs.lemmas.List.{get_or_default, get_or_append_left, get_or_push, get_or_past, length_push}
 use Rattle.std.proofs.lemmas.Bool.{cases_lt, ne_eqb}
 use Rattle.std.proofs.Math.ListN.{length-set}
 use Rattle.mesh_defs.specs.Triangle.{level_of}
@@ -14,11 +14,22 @@ use Rattle.edge_laws.proofs.MateLemmas.{mate_of-low}
 use Rattle.triangle_pool.specs.declared.forest.Node.{Node}
 use Rattle.edge_laws.specs.Slots.{address_at, has_children, IsLive, split_set, room_of, IsSplit}
 use Rattle.triangle_pool.specs.Slots.{FreeState, IsNext, IsFree}
-use Rattle.triangle_pool.specs.Links.{node_at, edge_link, net_of, IsForest, MaySplit, MaySplitMate, IsMesh, HasPairs}
+use Rattle.triangle_pool.specs.Links.{node_at, blank, edge_link, net_of, IsForest, MaySplit, MaySplitMate, IsMesh, HasPairs}
 use Rattle.triangle_pool.proofs.RelinkLemmas.{edge-base}
-use Rattle.edge_laws.proofs.SlotLemmas.{has_children-added, set_more, set_only, has_children-set}
+use Rattle.edge_laws.proofs.SlotLemmas.{live_within, has_children-added, set_more, set_only, has_children-set}
 use Rattle.triangle_pool.proofs.SplitLemmas.{whole_of}
 use Rattle.triangle_pool.proofs.HalveLemmas.{address-old, live_apart}
+
+-- ---- reading
+
+-- the node that is read at a live slot, where the pairs are those that are seen
+pub node_at-read : (n : ℕ) (pairs seen parents : List ℕ) (nodes : List Node) (s : ℕ) (node : Node) → IsMesh n pairs parents nodes →
+    pairs ≡ seen → IsLive seen s → node ≡ get_or nodes s node → IsLive pairs s × (node_at nodes s ≡ node)
+node_at-read n pairs seen parents nodes s node m e live is =
+    let old : IsLive pairs s = subst (λ t. IsLive t s) (sym e) live in
+    let within = live_within pairs s old in
+    let count = m.forest.node_count in
+    (old, get_or_default nodes s blank node (omega arith) ∙ sym is)
 
 -- ---- free pairs
 

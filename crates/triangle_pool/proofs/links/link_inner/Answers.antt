@@ -1,4 +1,4 @@
-use Rattle.std.proofs.Common.{arith, length}
+use Rattle.std.proofs.Common.{arith}
 use Rattle.edge_laws.specs.Slots.{address_at}
 use Rattle.triangle_pool.proofs.HalveLemmas.{mate_within, inner_linked}
 use Rattle.triangle_pool.proofs.links.link_inner.Goals as goal

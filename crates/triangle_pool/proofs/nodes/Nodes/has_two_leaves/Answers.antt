@@ -1,4 +1,3 @@
-use Rattle.std.proofs.Common.{true}
 use Rattle.std.proofs.lemmas.Bool.{eq-eqb, eqb-true}
 use Rattle.edge_laws.specs.Net.{nowhere}
 use Rattle.triangle_pool.proofs.MergeLemmas.{two_leaves_read}

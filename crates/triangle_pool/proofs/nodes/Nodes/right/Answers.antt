@@ -1,19 +1,15 @@
-use Rattle.std.proofs.Common.{◌≡◌, ◌∙◌, ap, ◌+◌, ◌*◌, arith, sym, subst, refl}
-use Rattle.std.proofs.lemmas.List.{get_or_default}
-use Rattle.edge_laws.specs.Slots.{address_at, has_children, IsLive}
-use Rattle.triangle_pool.specs.Links.{blank, IsMesh, IsAcross}
-use Rattle.edge_laws.proofs.SlotLemmas.{live_within}
+use Rattle.std.proofs.Common.{◌≡◌, ◌∙◌, ℕ, List, ap, ◌+◌, ◌*◌, subst, refl}
+use Rattle.edge_laws.specs.Slots.{address_at, has_children}
+use Rattle.triangle_pool.specs.Links.{IsAcross}
 use Rattle.triangle_pool.proofs.SplitLemmas.{right_across}
+use Rattle.triangle_pool.proofs.PoolLemmas.{node_at-read}
 use Rattle.triangle_pool.proofs.nodes.Nodes.right.Goals as goal
 
 pub returns : goal.returns
 returns c =
-    let m : IsMesh c.self.inside.n c.self.inside.pairs.items c.self.inside.parents.items c.self.inside.nodes.items = c.self.invariant in
-    let e : c.self.inside.pairs.items ≡ c.args.self.now.pairs = ap (λ p. p.pairs) c.self.view_is in
-    let live : IsLive c.self.inside.pairs.items c.args.s = subst (λ t. IsLive t c.args.s) (sym e) c.requires.live in
-    let within = live_within c.self.inside.pairs.items c.args.s live in
-    let count = m.forest.node_count in
-    let node = get_or_default c.self.inside.nodes.items c.args.s blank c.index.result.now (omega arith) ∙ sym c.index.ensures in
-    let link = right_across c.self.inside.n c.self.inside.pairs.items c.self.inside.parents.items c.self.inside.nodes.items c.args.s (address_at c.self.inside.pairs.items c.args.s) m.forest m.closed refl live
+    let pairs : List ℕ = c.self.inside.pairs.items in
+    let e : pairs ≡ c.args.self.now.pairs = ap (λ p. p.pairs) c.self.view_is in
+    let read = node_at-read _ pairs _ _ c.self.inside.nodes.items c.args.s c.index.result.now c.self.invariant e c.requires.live c.index.ensures in
+    let link = right_across c.self.inside.n pairs c.self.inside.parents.items c.self.inside.nodes.items c.args.s (address_at pairs c.args.s) c.self.invariant.forest c.self.invariant.closed refl read.0
     (ap (λ t. has_children t (address_at t c.args.s)) e ∙ c.requires.leaf) in
-    subst (λ t. IsAcross t (2 * address_at t c.args.s + 1) c.index.result.now.right) e (subst (λ t. IsAcross c.self.inside.pairs.items (2 * address_at c.self.inside.pairs.items c.args.s + 1) t.right) node link)
+    subst (λ t. IsAcross t (2 * address_at t c.args.s + 1) c.index.result.now.right) e (subst (λ t. IsAcross pairs (2 * address_at pairs c.args.s + 1) t.right) read.1 link)
