@@ -197,16 +197,20 @@ step_is_even n level room = let next : n - halved level ≡ suc (n - halved leve
     (2 ^ (n - halved level - 1), ap (λ k. 2 ^ k) next ∙ pow-succ' 2 (n - halved level - 1))
 
 -- below the finest level the midpoint of the base is a grid point
-pub HasEvenBase-corners_of : (n a : ℕ) → level_of a < 2 * n → HasEvenBase (corners_of n a)
-HasEvenBase-corners_of n a coarse =
-    let half : halved (level_of a) ≡ (level_of a + 1) / 2 = halved-half (level_of a) in
-    rw (corners_of-lattice n a (omega arith))
+pub HasEvenBase-corners_at : (level n a : ℕ) → level < 2 * n → HasEvenBase (corners_at level (2 ^ n) a)
+HasEvenBase-corners_at level n a coarse =
+    let half : halved level ≡ (level + 1) / 2 = halved-half level in
+    rw (corners_at-lattice level (step_of n level) (2 ^ n) a (size_by_steps n level (omega arith)))
     (⊎_elim
-    (λ room. let even : (h : ℕ) × (step_of n (level_of a) ≡ 2 * h) = step_is_even n (level_of a) room in rw even.1
-    (HasEvenBase-doubled even.0 (lattice (level_of a) a)))
-    (λ none. HasEvenBase-scaled (step_of n (level_of a)) (lattice (level_of a) a)
-    (HasEvenBase-lattice (level_of a) a (omega arith)))
-    (cases_lt (halved (level_of a)) n))
+    (λ room. let even : (h : ℕ) × (step_of n level ≡ 2 * h) = step_is_even n level room in rw even.1
+    (HasEvenBase-doubled even.0 (lattice level a)))
+    (λ none. HasEvenBase-scaled (step_of n level) (lattice level a) (HasEvenBase-lattice level a (omega arith)))
+    (cases_lt (halved level) n))
+
+-- the same of an address
+pub HasEvenBase-corners_of : (n a : ℕ) → level_of a < 2 * n → HasEvenBase (corners_of n a)
+unfolding corners_of
+HasEvenBase-corners_of n a coarse = HasEvenBase-corners_at (level_of a) n a coarse
 
 -- all laws of corners and levels
 pub ruleset corner_facts = (levels, corners_of-left, corners_of-right, IsWithin-corners_of, HasEvenBase-corners_of)

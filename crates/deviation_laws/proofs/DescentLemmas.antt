@@ -11,15 +11,10 @@ use Rattle.mesh_defs.specs.Thickness.{height_of, apart, deviation, thickness_und
 use Rattle.bintree_laws.specs.Corners.{HasEvenBase}
 use Rattle.bintree_laws.proofs.LatticeLemmas.{HasEvenBase-corners_of, same_point}
 use Rattle.bintree_laws.proofs.CornerLemmas.{corners_of-left, corners_of-right}
+use Rattle.bintree_laws.proofs.WeightLemmas.{IsMean}
 use Rattle.tiling_laws.proofs.WayLemmas.{Way, east, north_east, north, north_west, west, south_west, south, south_east}
 use Rattle.tiling_laws.proofs.TurnLemmas.{IsTurned, IsAxis}
 use Rattle.tiling_laws.proofs.DescentLemmas.{IsDown, IsDown-left, IsDown-right, IsSplittable-down, finest_of}
-
--- r is the mean of the corners by the weights u, v and w of the apex, v0 and v1
-pub record IsMean (total : ℕ) (c : Corners) (r : Point) (u v w : ℕ) : Type 0 where
-  pub sum : u + v + w ≡ total
-  pub x : total * r.x ≡ u * c.apex.x + v * c.v0.x + w * c.v1.x
-  pub y : total * r.y ≡ u * c.apex.y + v * c.v0.y + w * c.v1.y
 
 -- the mean of the heights at the corners, times the total of the weights
 abbrev pub mean : (Point → ℕ) → Corners → ℕ → ℕ → ℕ → ℕ

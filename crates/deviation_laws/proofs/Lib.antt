@@ -1,4 +1,3 @@
-pub mod AreaLemmas
 pub mod DescentLemmas
 pub mod PlaneLemmas
 pub mod ListLemmas

@@ -13,16 +13,15 @@ use Rattle.bintree_laws.proofs.LatticeLemmas.{multiple, scaled, lattice, halved,
 use Rattle.bintree_laws.proofs.MateLemmas.{cancel}
 use Rattle.tiling_laws.proofs.DescentLemmas.{IsDown-address}
 use Rattle.deviation_laws.specs.PlaneHeight.{doubled_area, area_of, weighted, plane_height, off_plane}
-use Rattle.deviation_laws.proofs.AreaLemmas.{area-at}
-use Rattle.deviation_laws.proofs.DescentLemmas.{IsMean, mean-le}
-use Rattle.bintree_laws.proofs.WeightLemmas.{weighted-x, weighted-y}
+use Rattle.bintree_laws.proofs.WeightLemmas.{HasArea, HasArea-corners_of, IsLeftBy, IsMean, IsMean-across}
+use Rattle.deviation_laws.proofs.DescentLemmas.{mean-le}
 
 -- ---- areas
 
 -- twice the area is a power of 2
 area_of-power : (n a : ℕ) → IsAddress n a → area_of (corners_of n a) ≡ 2 ^ (2 * n - level_of a)
 area_of-power n a address =
-    let h = area-at n a address in omega arith
+    let h = HasArea-corners_of n a (level-le n a address) in omega (arith, h.area)
 
 -- and so it is positive
 pub area_of-some : (n a : ℕ) → IsAddress n a → 0 < area_of (corners_of n a)
@@ -79,8 +78,7 @@ plane_height-exact n heights a r address =
 -- ---- weights
 
 -- where r lies left of a line or on it, the area is the difference of the two sides
-pub difference : (r p q : Point) → is_left_or_on r p q ≡ true →
-    p.y * q.x + q.y * r.x + r.y * p.x + doubled_area r p q ≡ p.x * q.y + q.x * r.y + r.x * p.y
+pub difference : (r p q : Point) → is_left_or_on r p q ≡ true → IsLeftBy (doubled_area r p q) r p q
 difference r p q h =
     let le : p.y * q.x + q.y * r.x + r.y * p.x ≤ p.x * q.y + q.x * r.y + r.x * p.y = leb-true _ _ h in omega arith
 
@@ -92,19 +90,9 @@ IsMean-held n a r address held =
     let c : Corners = corners_of n a in
     let legs = and_parts (is_left_or_on r c.apex c.v0) (is_left_or_on r c.v0 c.v1 && is_left_or_on r c.v1 c.apex) held in
     let rest = and_parts (is_left_or_on r c.v0 c.v1) (is_left_or_on r c.v1 c.apex) legs.1 in
-    let u = difference r c.v0 c.v1 rest.0 in
-    let v = difference r c.v1 c.apex rest.1 in
-    let w = difference r c.apex c.v0 legs.0 in
-    let h = area-at n a address in
-    let area : c.apex.x * c.v0.y + c.v0.x * c.v1.y + c.v1.x * c.apex.y ≡ c.apex.y * c.v0.x + c.v0.y * c.v1.x + c.v1.y * c.apex.x + area_of c =
-    omega arith in
-    record {
-      sum = omega arith;
-      x = weighted-x c.apex.x c.apex.y c.v0.x c.v0.y c.v1.x c.v1.y r.x r.y (doubled_area r c.v0 c.v1) (doubled_area r c.v1 c.apex)
-          (doubled_area r c.apex c.v0) (area_of c) area u v w;
-      y = weighted-y c.apex.x c.apex.y c.v0.x c.v0.y c.v1.x c.v1.y r.x r.y (doubled_area r c.v0 c.v1) (doubled_area r c.v1 c.apex)
-          (doubled_area r c.apex c.v0) (area_of c) area u v w;
-    }
+    let area : HasArea c (area_of c) = rw (area_of-power n a address) (HasArea-corners_of n a (level-le n a address)) in
+    IsMean-across c r (area_of c) (doubled_area r c.v0 c.v1) (doubled_area r c.v1 c.apex) (doubled_area r c.apex c.v0) area
+    (difference r c.v0 c.v1 rest.0) (difference r c.v1 c.apex rest.1) (difference r c.apex c.v0 legs.0)
 
 -- ---- the bound
 

@@ -1,61 +1,16 @@
--- The doubled area of triangles, and which points a triangle holds: those of its children, and of a finest
--- one its corners alone.
-use Rattle.std.proofs.Common.{◌≡◌, ℕ, zero, suc, ◌+◌, ◌-◌, ◌*◌, ◌/◌, ◌^◌, ◌<◌, ◌≤◌, ◌⊎◌, ◌↔◌, Bool, true, false, ◌&&◌, ◌||◌, refl, sym, ap, ◌∙◌, arith, ⊎_elim, inl, inr}
-use Rattle.std.proofs.Common.{pow-add, subst}
-use Rattle.std.proofs.Math.Nat.{pow-succ'}
+-- Which points a triangle holds: those of its children, and of a finest one its corners alone.
+use Rattle.std.proofs.Common.{◌≡◌, ℕ, suc, ◌+◌, ◌-◌, ◌*◌, ◌/◌, ◌^◌, ◌<◌, ◌≤◌, ◌⊎◌, ◌↔◌, Bool, true, false, ◌&&◌, ◌||◌, refl, ap, ◌∙◌, arith, ⊎_elim, inl, inr}
 use Rattle.std.proofs.lemmas.Bool.{cases_lt, leb-true, le-leb, and_parts}
 use Rattle.std.specs.Cmp.Derive.{both_true}
 use Rattle.mesh_defs.specs.declared.point.Point.{Point}
 use Rattle.mesh_defs.specs.declared.point.Corners.{Corners}
-use Rattle.mesh_defs.specs.Triangle.{child, midpoint, base_triangle, IsCorner, level_of, corners_of}
+use Rattle.mesh_defs.specs.Triangle.{child, midpoint, IsCorner, level_of, corners_of}
 use Rattle.mesh_defs.specs.BoundingBox.{is_left_or_on, is_in_closed}
 use Rattle.bintree_laws.specs.Corners.{IsWithin, HasEvenBase}
-use Rattle.bintree_laws.proofs.LevelLemmas.{left-or-right, level_of-below, level_of-left, level_of-right, level_of-parent}
-use Rattle.bintree_laws.proofs.CornerLemmas.{corners_of-2, corners_of-3, corners_of-left, corners_of-right, IsWithin-corners_of}
+use Rattle.bintree_laws.proofs.LevelLemmas.{level_of-below, level_of-left, level_of-right, level_of-parent}
+use Rattle.bintree_laws.proofs.CornerLemmas.{corners_of-left, corners_of-right, IsWithin-corners_of}
 use Rattle.bintree_laws.proofs.LatticeLemmas.{same_point, HasEvenBase-corners_of}
-use Rattle.bintree_laws.proofs.WeightLemmas.{weighted-x, weighted-y, weight-sum}
-
--- ---- doubled areas
-
--- the doubled area is d
-pub record HasArea (c : Corners) (d : ℕ) : Type 0 where
-  pub area : c.apex.x * c.v0.y + c.v0.x * c.v1.y + c.v1.x * c.apex.y ≡ c.apex.y * c.v0.x + c.v0.y * c.v1.x + c.v1.y * c.apex.x + d
-
-area-left : (ax ay px py qx qy mx my d : ℕ) → 2 * mx ≡ px + qx → 2 * my ≡ py + qy →
-    ax * py + px * qy + qx * ay ≡ ay * px + py * qx + qy * ax + 2 * d →
-    mx * ay + ax * py + px * my ≡ my * ax + ay * px + py * mx + d
-area-left ax ay px py qx qy mx my d hx hy h = omega (
-  arith,
-  ap (λ t. t * ay) hx,
-  ap (λ t. t * py) hx,
-  ap (λ t. t * ax) hy,
-  ap (λ t. t * px) hy,
-)
-
-area-right : (ax ay px py qx qy mx my d : ℕ) → 2 * mx ≡ px + qx → 2 * my ≡ py + qy →
-    ax * py + px * qy + qx * ay ≡ ay * px + py * qx + qy * ax + 2 * d →
-    mx * qy + qx * ay + ax * my ≡ my * qx + qy * ax + ay * mx + d
-area-right ax ay px py qx qy mx my d hx hy h = omega (
-  arith,
-  ap (λ t. t * ay) hx,
-  ap (λ t. t * qy) hx,
-  ap (λ t. t * ax) hy,
-  ap (λ t. t * qx) hy,
-)
-
-HasArea-child : (side : ℕ) (c : Corners) (d : ℕ) → HasEvenBase c → HasArea c (2 * d) → HasArea (child side c) d
-HasArea-child zero c d even h = record {
-  area = area-left c.apex.x c.apex.y c.v0.x c.v0.y c.v1.x c.v1.y ((c.v0.x + c.v1.x) / 2) ((c.v0.y + c.v1.y) / 2) d
-      (omega (arith, even.x)) (omega (arith, even.y)) h.area;
-}
-HasArea-child (suc _) c d even h = record {
-  area = area-right c.apex.x c.apex.y c.v0.x c.v0.y c.v1.x c.v1.y ((c.v0.x + c.v1.x) / 2) ((c.v0.y + c.v1.y) / 2) d
-      (omega (arith, even.x)) (omega (arith, even.y)) h.area;
-}
-
-HasArea-base : (m half : ℕ) → HasArea (base_triangle m half) (m * m)
-HasArea-base m zero = record { area = omega arith }
-HasArea-base m (suc _) = record { area = omega arith }
+use Rattle.bintree_laws.proofs.WeightLemmas.{HasArea, IsMean, IsLeftBy, IsMean-across}
 
 -- ---- what is known of addresses
 
@@ -91,36 +46,6 @@ pub deeper : AddressLaws → (a level : ℕ) → 2 ≤ a → level_of a ≡ suc 
 deeper laws a level low is = ⊎_elim {C = 4 ≤ a}
     (λ lt. let first : level_of a < 1 = (laws.below a 1 low).1 lt in absurd (omega arith))
     (λ ge. ge) (cases_lt a 4)
-
-square : (n : ℕ) → 2 ^ n * 2 ^ n ≡ 2 ^ (2 * n - 0)
-square n = let twice : 2 * n - 0 ≡ n + n = omega arith in rw twice (sym (pow-add 2 n n))
-
--- each level halves the area
-pub HasArea-at : AddressLaws → (level n a : ℕ) → 2 ≤ a → level_of a ≡ level → level ≤ 2 * n →
-    HasArea (corners_of n a) (2 ^ (2 * n - level))
-HasArea-at laws zero n a low is fits = let first : a < 4 = coarsest laws a low is in
-    ⊎_elim {C = HasArea (corners_of n a) (2 ^ (2 * n - 0))}
-    (λ lt. let two : a ≡ 2 = omega arith in rw (two, corners_of-2 n, ← square n) (HasArea-base (2 ^ n) 0))
-    (λ ge. let three : a ≡ 3 = omega arith in rw (three, corners_of-3 n, ← square n) (HasArea-base (2 ^ n) 1))
-    (cases_lt a 3)
-HasArea-at laws (suc level) n a low is fits =
-    let four : 4 ≤ a = deeper laws a level low is in
-    let some : 2 ≤ a / 2 = omega arith in
-    let above : level_of (a / 2) ≡ level = omega (arith, laws.parent a four) in
-    let whole : HasArea (corners_of n (a / 2)) (2 ^ (2 * n - level)) = HasArea-at laws level n (a / 2) some above
-    (omega arith) in
-    let left : 2 * n - level ≡ suc (2 * n - suc level) = omega arith in
-    let twice : 2 ^ (2 * n - level) ≡ 2 * 2 ^ (2 * n - suc level) = rw left (pow-succ' 2 (2 * n - suc level)) in
-    let half : HasArea (corners_of n (a / 2)) (2 * 2 ^ (2 * n - suc level)) = rw (← twice) whole in
-    let even : HasEvenBase (corners_of n (a / 2)) = laws.even n (a / 2) (omega arith) in
-    ⊎_elim {C = HasArea (corners_of n a) (2 ^ (2 * n - suc level))}
-    (λ e. let P : ℕ → Type 0 = λ b. HasArea (corners_of n b) (2 ^ (2 * n - suc level)) in subst P (sym e)
-    (rw (laws.left_corners n (a / 2) some)
-    (HasArea-child 0 (corners_of n (a / 2)) (2 ^ (2 * n - suc level)) even half)))
-    (λ e. let P : ℕ → Type 0 = λ b. HasArea (corners_of n b) (2 ^ (2 * n - suc level)) in subst P (sym e)
-    (rw (laws.right_corners n (a / 2) some)
-    (HasArea-child 1 (corners_of n (a / 2)) (2 ^ (2 * n - suc level)) even half)))
-    (left-or-right a)
 
 -- ---- held points
 
@@ -231,19 +156,28 @@ v0-held c d h = made c c.v0 (record { left_leg = omega arith; base = omega arith
 pub v1-held : (c : Corners) (d : ℕ) → HasArea c d → is_in_closed c c.v1 ≡ true
 v1-held c d h = made c c.v1 (record { left_leg = omega (arith, h.area); base = omega arith; right_leg = omega arith })
 
-pub slack : (i j : ℕ) → i ≤ j → (k : ℕ) × (i + k ≡ j)
-slack i j h = (j - i, omega arith)
+-- a held point is the mean of the corners
+pub mean-held : (c : Corners) (r : Point) (d : ℕ) → HasArea c d → is_in_closed c r ≡ true →
+    (u : ℕ) × (v : ℕ) × (w : ℕ) × IsMean d c r u v w
+mean-held c r d h held =
+    let lines : IsHeld c r = read c r held in
+    let u = left-by r c.v0 c.v1 lines.base in
+    let v = left-by r c.v1 c.apex lines.right_leg in
+    let w = left-by r c.apex c.v0 lines.left_leg in
+    (u.0, v.0, w.0, IsMean-across c r d u.0 v.0 w.0 h u.1 v.1 w.1)
+  where
+    left-by : (r p q : Point) → IsLeft r p q → (k : ℕ) × IsLeftBy k r p q
+    left-by r p q le = ((p.x * q.y + q.x * r.y + r.x * p.y) - (p.y * q.x + q.y * r.x + r.y * p.x), omega arith)
 
 -- all weight at one corner
 only : (u v w a p q r : ℕ) → u ≡ 1 → v ≡ 0 → w ≡ 0 → r ≡ u * a + v * p + w * q → r ≡ a
 only u v w a p q r hu hv hw h = h ∙ rw (hu, hv, hw) (omega arith)
 
-by-weights : (c : Corners) (r : Point) (u v w : ℕ) → u + v + w ≡ 1 → r.x ≡ u * c.apex.x + v * c.v0.x + w * c.v1.x →
-    r.y ≡ u * c.apex.y + v * c.v0.y + w * c.v1.y → IsCorner c r
-by-weights c r u v w sum x y = ⊎_elim {C = IsCorner c r}
+by-weights : (c : Corners) (r : Point) (u v w : ℕ) → IsMean 1 c r u v w → IsCorner c r
+by-weights c r u v w h = ⊎_elim {C = IsCorner c r}
     (λ u_some. inl (same_point r.x r.y c.apex.x c.apex.y
-    (only u v w c.apex.x c.v0.x c.v1.x r.x (omega arith) (omega arith) (omega arith) x)
-    (only u v w c.apex.y c.v0.y c.v1.y r.y (omega arith) (omega arith) (omega arith) y)))
+    (only u v w c.apex.x c.v0.x c.v1.x r.x (omega arith) (omega arith) (omega arith) (omega arith))
+    (only u v w c.apex.y c.v0.y c.v1.y r.y (omega arith) (omega arith) (omega arith) (omega arith))))
     (λ u_none. ⊎_elim {C = IsCorner c r}
     (λ v_some. inr (inl (same_point r.x r.y c.v0.x c.v0.y
     (only v u w c.v0.x c.apex.x c.v1.x r.x (omega arith) (omega arith) (omega arith) (omega arith))
@@ -256,15 +190,4 @@ by-weights c r u v w sum x y = ⊎_elim {C = IsCorner c r}
 
 -- a triangle of doubled area 1 holds no points but its corners
 pub finest-corner : (c : Corners) (r : Point) → HasArea c 1 → is_in_closed c r ≡ true → IsCorner c r
-finest-corner c r h held =
-    let lines : IsHeld c r = read c r held in
-    let u : (k : ℕ) × (c.v0.y * c.v1.x + c.v1.y * r.x + r.y * c.v0.x + k ≡ c.v0.x * c.v1.y + c.v1.x * r.y + r.x * c.v0.y) =
-    slack _ _ lines.base in
-    let v : (k : ℕ) × (c.v1.y * c.apex.x + c.apex.y * r.x + r.y * c.v1.x + k ≡ c.v1.x * c.apex.y + c.apex.x * r.y + r.x * c.v1.y) =
-    slack _ _ lines.right_leg in
-    let w : (k : ℕ) × (c.apex.y * c.v0.x + c.v0.y * r.x + r.y * c.apex.x + k ≡ c.apex.x * c.v0.y + c.v0.x * r.y + r.x * c.apex.y) =
-    slack _ _ lines.left_leg in
-    by-weights c r u.0 v.0 w.0
-    (weight-sum c.apex.x c.apex.y c.v0.x c.v0.y c.v1.x c.v1.y r.x r.y u.0 v.0 w.0 1 h.area u.1 v.1 w.1)
-    (omega (arith, weighted-x c.apex.x c.apex.y c.v0.x c.v0.y c.v1.x c.v1.y r.x r.y u.0 v.0 w.0 1 h.area u.1 v.1 w.1))
-    (omega (arith, weighted-y c.apex.x c.apex.y c.v0.x c.v0.y c.v1.x c.v1.y r.x r.y u.0 v.0 w.0 1 h.area u.1 v.1 w.1))
+finest-corner c r h held = let m = mean-held c r 1 h held in by-weights c r m.0 m.1 m.2 m.3

@@ -1,7 +1,6 @@
 -- What a change of heights leaves: a triangle lies in its bounding rectangle, and its thickness and box depend
 -- on the points that it holds alone.
 use Rattle.std.proofs.Common.{◌≡◌, ℕ, zero, suc, ◌+◌, ◌-◌, ◌*◌, ◌^◌, ◌<◌, ◌≤◌, Bool, true, false, cond, List, [], ◌∷◌, map, refl, ap, ◌∙◌, arith, subst}
-use Rattle.std.proofs.Math.Nat.{mul-le-mul_left, le_of_mul-le-mul_left}
 use Rattle.std.proofs.lemmas.Bool.{or_left, or_right}
 use Rattle.std.proofs.lemmas.Nat.{pow_pos}
 use Rattle.std.specs.List.{filter}
@@ -16,58 +15,20 @@ use Rattle.wedgie_tree.specs.declared.wedge.Wedge.{Wedge}
 use Rattle.wedgie_tree.specs.Table.{IsWedge}
 use Rattle.bintree_laws.specs.Areas.{IsInRectangle}
 use Rattle.wedgie_tree.specs.Edits.{AgreesOn}
-use Rattle.wedgie_tree.proofs.AreaLemmas.{AddressLaws, HasArea, HasArea-at, IsHeld, read, slack, v0-held, v1-held}
+use Rattle.wedgie_tree.proofs.AreaLemmas.{AddressLaws, mean-held, v0-held, v1-held}
 use Rattle.wedgie_tree.proofs.HeightLemmas.{holds_point-children, apex-passes}
-use Rattle.bintree_laws.proofs.WeightLemmas.{weighted-x, weighted-y, weight-sum}
+use Rattle.bintree_laws.proofs.WeightLemmas.{HasArea, HasArea-corners_of, IsInRectangle-mean}
 
 -- ---- a held point lies in the bounding rectangle
 
--- a weighted mean is at least the least value and at most the greatest
-mean-low : (d u v w i j k r m : ℕ) → 0 < d → u + v + w ≡ d → d * r ≡ u * i + v * j + w * k → m ≤ i → m ≤ j → m ≤ k → m ≤ r
-mean-low d u v w i j k r m some sum mean li lj lk = le_of_mul-le-mul_left {k = d} (omega (
-  arith,
-  ap (λ t. t * m) sum,
-  mul-le-mul_left u li,
-  mul-le-mul_left v lj,
-  mul-le-mul_left w lk,
-)) some
-
-mean-high : (d u v w i j k r m : ℕ) → 0 < d → u + v + w ≡ d → d * r ≡ u * i + v * j + w * k → i ≤ m → j ≤ m → k ≤ m → r ≤ m
-mean-high d u v w i j k r m some sum mean li lj lk = le_of_mul-le-mul_left {k = d} (omega (
-  arith,
-  ap (λ t. t * m) sum,
-  mul-le-mul_left u li,
-  mul-le-mul_left v lj,
-  mul-le-mul_left w lk,
-)) some
-
 -- a triangle with some area lies in its bounding rectangle
 in-rectangle : (c : Corners) (r : Point) (d : ℕ) → 0 < d → HasArea c d → is_in_closed c r ≡ true → IsInRectangle c r
-in-rectangle c r d some h held =
-    let lines : IsHeld c r = read c r held in
-    let u : (k : ℕ) × (c.v0.y * c.v1.x + c.v1.y * r.x + r.y * c.v0.x + k ≡ c.v0.x * c.v1.y + c.v1.x * r.y + r.x * c.v0.y) =
-    slack _ _ lines.base in
-    let v : (k : ℕ) × (c.v1.y * c.apex.x + c.apex.y * r.x + r.y * c.v1.x + k ≡ c.v1.x * c.apex.y + c.apex.x * r.y + r.x * c.v1.y) =
-    slack _ _ lines.right_leg in
-    let w : (k : ℕ) × (c.apex.y * c.v0.x + c.v0.y * r.x + r.y * c.apex.x + k ≡ c.apex.x * c.v0.y + c.v0.x * r.y + r.x * c.apex.y) =
-    slack _ _ lines.left_leg in
-    let sum : u.0 + v.0 + w.0 ≡ d =
-    weight-sum c.apex.x c.apex.y c.v0.x c.v0.y c.v1.x c.v1.y r.x r.y u.0 v.0 w.0 d h.area u.1 v.1 w.1 in
-    let x : d * r.x ≡ u.0 * c.apex.x + v.0 * c.v0.x + w.0 * c.v1.x =
-    weighted-x c.apex.x c.apex.y c.v0.x c.v0.y c.v1.x c.v1.y r.x r.y u.0 v.0 w.0 d h.area u.1 v.1 w.1 in
-    let y : d * r.y ≡ u.0 * c.apex.y + v.0 * c.v0.y + w.0 * c.v1.y =
-    weighted-y c.apex.x c.apex.y c.v0.x c.v0.y c.v1.x c.v1.y r.x r.y u.0 v.0 w.0 d h.area u.1 v.1 w.1 in
-    record {
-      left = mean-low d u.0 v.0 w.0 c.apex.x c.v0.x c.v1.x r.x _ some sum x (omega arith) (omega arith) (omega arith);
-      right = mean-high d u.0 v.0 w.0 c.apex.x c.v0.x c.v1.x r.x _ some sum x (omega arith) (omega arith) (omega arith);
-      bottom = mean-low d u.0 v.0 w.0 c.apex.y c.v0.y c.v1.y r.y _ some sum y (omega arith) (omega arith) (omega arith);
-      top = mean-high d u.0 v.0 w.0 c.apex.y c.v0.y c.v1.y r.y _ some sum y (omega arith) (omega arith) (omega arith);
-    }
+in-rectangle c r d some h held = let m = mean-held c r d h held in IsInRectangle-mean d c r m.0 m.1 m.2 some m.3
 
 pub IsInRectangle-held : AddressLaws → (n a : ℕ) (r : Point) → 2 ≤ a → level_of a ≤ 2 * n → holds_point n a r ≡ true →
     IsInRectangle (corners_of n a) r
 IsInRectangle-held laws n a r low fits held = in-rectangle (corners_of n a) r (2 ^ (2 * n - level_of a)) (pow_pos (2 * n - level_of a))
-    (HasArea-at laws (level_of a) n a low refl fits) held
+    (HasArea-corners_of n a fits) held
 
 -- a held point is a grid point
 pub held-x : AddressLaws → (n a : ℕ) (r : Point) → 2 ≤ a → level_of a ≤ 2 * n → holds_point n a r ≡ true → r.x ≤ 2 ^ n
@@ -148,7 +109,7 @@ deviation-same laws n heights others a split agrees =
     let c : Corners = corners_of n a in
     let some : 2 ≤ a = split.low in
     let coarse : level_of a < 2 * n = split.coarse in
-    let area : HasArea c (2 ^ (2 * n - level_of a)) = HasArea-at laws (level_of a) n a some refl (omega arith) in
+    let area : HasArea c (2 ^ (2 * n - level_of a)) = HasArea-corners_of n a (omega arith) in
     apart-same _ _ _ _ _ _ (agrees (midpoint c.v0 c.v1) (middle-held laws n a split)) (agrees c.v0 (v0-held c _ area))
     (agrees c.v1 (v1-held c _ area))
 

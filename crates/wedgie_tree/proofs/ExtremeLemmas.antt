@@ -1,5 +1,5 @@
 -- The least and the greatest value over the points that pass a test.
-use Rattle.std.proofs.Common.{◌≡◌, ℕ, zero, suc, ◌<◌, ◌≤◌, ◌⊎◌, Bool, true, false, cond, ◌||◌, min, max, List, [], ◌∷◌, length, map, refl, arith, ⊎_elim}
+use Rattle.std.proofs.Common.{◌≡◌, ℕ, ◌<◌, ◌≤◌, Bool, true, false, cond, ◌||◌, min, max, List, [], ◌∷◌, length, map, refl, arith, ⊎_elim}
 use Rattle.std.specs.List.{filter}
 use Rattle.mesh_defs.specs.declared.point.Point.{Point}
 use Rattle.mesh_defs.specs.BoundingBox.{least, greatest}

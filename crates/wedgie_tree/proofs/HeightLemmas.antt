@@ -1,5 +1,5 @@
 -- The least and the greatest height in a triangle: by its children, and of a finest one by its corners.
-use Rattle.std.proofs.Common.{◌≡◌, ℕ, ◌+◌, ◌-◌, ◌*◌, ◌^◌, ◌<◌, ◌≤◌, true, ◌||◌, min, max, List, map, refl, sym, arith, ⊎_elim, subst}
+use Rattle.std.proofs.Common.{◌≡◌, ℕ, ◌+◌, ◌-◌, ◌*◌, ◌^◌, ◌<◌, ◌≤◌, true, ◌||◌, min, max, List, map, sym, arith, ⊎_elim, subst}
 use Rattle.std.specs.List.{filter}
 use Rattle.mesh_defs.specs.declared.point.Point.{Point}
 use Rattle.mesh_defs.specs.declared.point.Corners.{Corners}
@@ -9,7 +9,8 @@ use Rattle.mesh_defs.specs.BoundingBox.{points_of, holds_point, low_of, high_of,
 use Rattle.bintree_laws.specs.Corners.{IsWithin}
 use Rattle.wedgie_tree.proofs.ExtremeLemmas.{under, under-split, le-under, under-le, greatest-split, least-bounded}
 use Rattle.mesh_defs.proofs.PointLemmas.{IsPointIn, IsPointIn-points_of, greatest-le, le-greatest}
-use Rattle.wedgie_tree.proofs.AreaLemmas.{AddressLaws, HasArea, HasArea-at, is_in_closed-children, apex-held, v0-held, v1-held, finest-corner}
+use Rattle.wedgie_tree.proofs.AreaLemmas.{AddressLaws, is_in_closed-children, apex-held, v0-held, v1-held, finest-corner}
+use Rattle.bintree_laws.proofs.WeightLemmas.{HasArea, HasArea-corners_of}
 
 -- the apex is a grid point that the triangle holds
 apex-in : AddressLaws → (n a : ℕ) → IsPointIn (corners_of n a).apex (points_of n)
@@ -18,7 +19,7 @@ apex-in laws n a = let w : IsWithin (2 ^ n) (corners_of n a) = laws.within n a i
 
 pub apex-passes : AddressLaws → (n a : ℕ) → 2 ≤ a → level_of a ≤ 2 * n → holds_point n a (corners_of n a).apex ≡ true
 apex-passes laws n a low fits = apex-held (corners_of n a) (2 ^ (2 * n - level_of a))
-    (HasArea-at laws (level_of a) n a low refl fits)
+    (HasArea-corners_of n a fits)
 
 -- the least height with any bound above it
 low_of-bounded : AddressLaws → (n : ℕ) (heights : List ℕ) (a b : ℕ) → 2 ≤ a → level_of a ≤ 2 * n →
@@ -87,11 +88,10 @@ record IsBetween (n : ℕ) (heights : List ℕ) (c : Corners) (low high : ℕ) :
   v1_high : height_of n heights c.v1 ≤ high
 
 -- the area of a finest triangle
-unit-area : AddressLaws → (n a : ℕ) → 2 ≤ a → level_of a ≡ 2 * n → HasArea (corners_of n a) 1
-unit-area laws n a some finest =
-    let none : 2 * n - 2 * n ≡ 0 = omega arith in
-    let area : HasArea (corners_of n a) (2 ^ (2 * n - 2 * n)) = HasArea-at laws (2 * n) n a some finest (omega arith) in
-    let P : ℕ → Type 0 = λ k. HasArea (corners_of n a) (2 ^ k) in subst P none area
+unit-area : (n a : ℕ) → level_of a ≡ 2 * n → HasArea (corners_of n a) 1
+unit-area n a finest =
+    let none : 2 * n - level_of a ≡ 0 = omega arith in
+    let P : ℕ → Type 0 = λ k. HasArea (corners_of n a) (2 ^ k) in subst P none (HasArea-corners_of n a (omega arith))
 
 -- each corner's height lies between the least and the greatest height
 corners-between : AddressLaws → (n : ℕ) (heights : List ℕ) (a : ℕ) → 2 ≤ a → level_of a ≡ 2 * n →
@@ -99,7 +99,7 @@ corners-between : AddressLaws → (n : ℕ) (heights : List ℕ) (a : ℕ) → 2
 unfolding high_of
 corners-between laws n heights a some finest =
     let c : Corners = corners_of n a in
-    let area : HasArea c 1 = unit-area laws n a some finest in
+    let area : HasArea c 1 = unit-area n a finest in
     let w : IsWithin (2 ^ n) c = laws.within n a in
     let f : Point → ℕ = height_of n heights in
     let is : low_of n heights a ≡ under (low_of n heights a) (map f (filter (holds_point n a) (points_of n))) =
@@ -136,7 +136,7 @@ low_of-finest laws n heights a some finest =
     some finest in
     let is : low_of n heights a ≡ under b (map f (filter (holds_point n a) (points_of n))) =
     low_of-bounded laws n heights a b some (omega arith) (omega arith) in
-    let area : HasArea c 1 = unit-area laws n a some finest in
+    let area : HasArea c 1 = unit-area n a finest in
     let P : ℕ → Type 0 = λ h. m ≤ h in
     let held : (r : Point) → holds_point n a r ≡ true → m ≤ f r = λ r h. at-corner P f c r (omega arith) (omega arith)
     (omega arith) (finest-corner c r area h) in
@@ -151,7 +151,7 @@ high_of-finest laws n heights a some finest =
     let m : ℕ = greatest_of_3 (f c.apex) (f c.v0) (f c.v1) in
     let between : IsBetween n heights c (low_of n heights a) (high_of n heights a) = corners-between laws n heights a
     some finest in
-    let area : HasArea c 1 = unit-area laws n a some finest in
+    let area : HasArea c 1 = unit-area n a finest in
     let P : ℕ → Type 0 = λ h. h ≤ m in
     let held : (r : Point) → holds_point n a r ≡ true → f r ≤ m = λ r h. at-corner P f c r (omega arith) (omega arith)
     (omega arith) (finest-corner c r area h) in
