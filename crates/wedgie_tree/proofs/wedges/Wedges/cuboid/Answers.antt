@@ -1,7 +1,8 @@
 use Rattle.std.proofs.Common.{◌≡◌, ap, ◌∙◌}
 use Rattle.mesh_defs.specs.HeightField.{HeightField}
 use Rattle.mesh_defs.specs.Triangle.{corners_of}
-use Rattle.wedgie_tree.proofs.BoxLemmas.{box-x0, box-x1, box-y0, box-y1, box-z0, box-z1}
+use Rattle.mesh_defs.specs.BoundingBox.{BoundingBox, box_of}
+use Rattle.wedgie_tree.proofs.BoxLemmas.{box_by, box_by-triangle}
 use Rattle.bintree_laws.proofs.CornerLemmas.{IsWithin-largest}
 use Rattle.wedgie_tree.proofs.wedges.Wedges.cuboid.Goals as goal
 
@@ -10,30 +11,30 @@ corners_is : (c : goal.After-box_around) → c.corners.result ≡ corners_of c.a
 corners_is c = c.corners.ensures.value ∙ ap (λ k. corners_of k c.args.t)
     (c.n.ensures.value ∙ ap (λ (g : HeightField). g.n) c.self.view_is)
 
+-- so the box around them is that of the triangle
+box_is : (c : goal.After-box_around) → box_by c.args.spacing c.corners.result c.wedge-wedge.result.low c.wedge-wedge.result.high
+    ≡ box_of c.args.self.now.n c.args.self.now.heights c.args.spacing c.args.t
+box_is c = box_by-triangle c.args.self.now.n c.args.self.now.heights c.args.spacing c.args.t c.wedge-wedge.result.low c.wedge-wedge.result.high
+    c.corners.result (corners_is c) c.wedge-wedge.ensures.low c.wedge-wedge.ensures.high
+
 pub box_around-requires-clause-within : goal.box_around-requires-clause-within
 box_around-requires-clause-within c = IsWithin-largest c.n.result c.corners.result c.n.ensures.high
     c.corners.ensures.within
 
 pub returns-clause-x0 : goal.returns-clause-x0
-returns-clause-x0 c = box-x0 c.args.self.now.n c.args.self.now.heights c.args.spacing c.args.t c.corners.result
-    c.box_around.result.x0 (corners_is c) c.box_around.ensures.x0
+returns-clause-x0 c = c.box_around.ensures.x0 ∙ ap (λ (b : BoundingBox). b.x0) (box_is c)
 
 pub returns-clause-x1 : goal.returns-clause-x1
-returns-clause-x1 c = box-x1 c.args.self.now.n c.args.self.now.heights c.args.spacing c.args.t c.corners.result
-    c.box_around.result.x1 (corners_is c) c.box_around.ensures.x1
+returns-clause-x1 c = c.box_around.ensures.x1 ∙ ap (λ (b : BoundingBox). b.x1) (box_is c)
 
 pub returns-clause-y0 : goal.returns-clause-y0
-returns-clause-y0 c = box-y0 c.args.self.now.n c.args.self.now.heights c.args.spacing c.args.t c.corners.result
-    c.box_around.result.y0 (corners_is c) c.box_around.ensures.y0
+returns-clause-y0 c = c.box_around.ensures.y0 ∙ ap (λ (b : BoundingBox). b.y0) (box_is c)
 
 pub returns-clause-y1 : goal.returns-clause-y1
-returns-clause-y1 c = box-y1 c.args.self.now.n c.args.self.now.heights c.args.spacing c.args.t c.corners.result
-    c.box_around.result.y1 (corners_is c) c.box_around.ensures.y1
+returns-clause-y1 c = c.box_around.ensures.y1 ∙ ap (λ (b : BoundingBox). b.y1) (box_is c)
 
 pub returns-clause-z0 : goal.returns-clause-z0
-returns-clause-z0 c = box-z0 c.args.self.now.n c.args.self.now.heights c.args.spacing c.args.t
-    c.wedge-wedge.result.low c.box_around.result.z0 c.wedge-wedge.ensures.low c.box_around.ensures.z0
+returns-clause-z0 c = c.box_around.ensures.z0 ∙ ap (λ (b : BoundingBox). b.z0) (box_is c)
 
 pub returns-clause-z1 : goal.returns-clause-z1
-returns-clause-z1 c = box-z1 c.args.self.now.n c.args.self.now.heights c.args.spacing c.args.t
-    c.wedge-wedge.result.high c.box_around.result.z1 c.wedge-wedge.ensures.high c.box_around.ensures.z1
+returns-clause-z1 c = c.box_around.ensures.z1 ∙ ap (λ (b : BoundingBox). b.z1) (box_is c)
