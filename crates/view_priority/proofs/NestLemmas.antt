@@ -1,5 +1,5 @@
 -- A child's box lies in its parent's, and what lies in a box is no nearer.
-use Rattle.std.proofs.Common.{◌≡◌, ℕ, ◌+◌, ◌*◌, ◌/◌, ◌≤◌, List, [], ◌∷◌, arith, ℤ, pos, ◌≤ℤ◌}
+use Rattle.std.proofs.Common.{◌≡◌, ℕ, zero, suc, ◌*◌, ◌≤◌, List, [], ◌∷◌, arith, ℤ, pos, ◌≤ℤ◌}
 use Rattle.std.proofs.Math.Nat.{mul-le-mul}
 use Rattle.std.proofs.lemmas.Int.{ints}
 use Rattle.mesh_defs.specs.declared.point.Corners.{Corners}
@@ -49,17 +49,16 @@ range-order s i j k =
 scaled : (s i j : ℕ) → i ≤ j → pos (s * i) ≤ℤ pos (s * j)
 scaled s i j le = let same : s ≤ s = omega arith in omega (arith, ints, mul-le-mul same le)
 
-left_low : (i j k : ℕ) → least_of_3 i j k ≤ least_of_3 ((j + k) / 2) i j
-left_low i j k = omega arith
+-- the bounding rectangle of d lies in that of c
+record IsNarrower (c d : Corners) : Type 0 where
+  left : least_of_3 c.apex.x c.v0.x c.v1.x ≤ least_of_3 d.apex.x d.v0.x d.v1.x
+  right : greatest_of_3 d.apex.x d.v0.x d.v1.x ≤ greatest_of_3 c.apex.x c.v0.x c.v1.x
+  bottom : least_of_3 c.apex.y c.v0.y c.v1.y ≤ least_of_3 d.apex.y d.v0.y d.v1.y
+  top : greatest_of_3 d.apex.y d.v0.y d.v1.y ≤ greatest_of_3 c.apex.y c.v0.y c.v1.y
 
-left_high : (i j k : ℕ) → greatest_of_3 ((j + k) / 2) i j ≤ greatest_of_3 i j k
-left_high i j k = omega arith
-
-right_low : (i j k : ℕ) → least_of_3 i j k ≤ least_of_3 ((j + k) / 2) k i
-right_low i j k = omega arith
-
-right_high : (i j k : ℕ) → greatest_of_3 ((j + k) / 2) k i ≤ greatest_of_3 i j k
-right_high i j k = omega arith
+IsNarrower-child : (side : ℕ) (c : Corners) → IsNarrower c (child side c)
+IsNarrower-child zero c = record { left = omega arith; right = omega arith; bottom = omega arith; top = omega arith }
+IsNarrower-child (suc _) c = record { left = omega arith; right = omega arith; bottom = omega arith; top = omega arith }
 
 -- ---- boxes
 
@@ -72,38 +71,21 @@ box_of-ordered n heights s a =
       z = let order = low_of-high_of n heights a in omega (arith, ints);
     }
 
-module _ (n : ℕ) (heights : List ℕ) (s a b : ℕ) (low : low_of n heights a ≤ low_of n heights b)
-    (high : high_of n heights b ≤ high_of n heights a) where
-  -- the box of a left child
-  pub box_of-left : corners_of n b ≡ child 0 (corners_of n a) → IsInside (box_of n heights s b) (box_of n heights s a)
-  unfolding box_of
-  box_of-left corners =
-      let c : Corners = corners_of n a in
-      let order = box_of-ordered n heights s b in record {
-        x_low = rw corners (scaled s _ _ (left_low c.apex.x c.v0.x c.v1.x));
-        x_order = order.x;
-        x_high = rw corners (scaled s _ _ (left_high c.apex.x c.v0.x c.v1.x));
-        y_low = rw corners (scaled s _ _ (left_low c.apex.y c.v0.y c.v1.y));
-        y_order = order.y;
-        y_high = rw corners (scaled s _ _ (left_high c.apex.y c.v0.y c.v1.y));
-        z_low = omega (arith, ints);
-        z_order = order.z;
-        z_high = omega (arith, ints);
-      }
-
-  -- the box of a right child
-  pub box_of-right : corners_of n b ≡ child 1 (corners_of n a) → IsInside (box_of n heights s b) (box_of n heights s a)
-  unfolding box_of
-  box_of-right corners =
-      let c : Corners = corners_of n a in
-      let order = box_of-ordered n heights s b in record {
-        x_low = rw corners (scaled s _ _ (right_low c.apex.x c.v0.x c.v1.x));
-        x_order = order.x;
-        x_high = rw corners (scaled s _ _ (right_high c.apex.x c.v0.x c.v1.x));
-        y_low = rw corners (scaled s _ _ (right_low c.apex.y c.v0.y c.v1.y));
-        y_order = order.y;
-        y_high = rw corners (scaled s _ _ (right_high c.apex.y c.v0.y c.v1.y));
-        z_low = omega (arith, ints);
-        z_order = order.z;
-        z_high = omega (arith, ints);
-      }
+-- the box of a child
+pub box_of-child : (n : ℕ) (heights : List ℕ) (s a b side : ℕ) → low_of n heights a ≤ low_of n heights b →
+    high_of n heights b ≤ high_of n heights a → corners_of n b ≡ child side (corners_of n a) →
+    IsInside (box_of n heights s b) (box_of n heights s a)
+unfolding box_of
+box_of-child n heights s a b side low high corners =
+    let within : IsNarrower (corners_of n a) (corners_of n b) = rw corners (IsNarrower-child side (corners_of n a)) in
+    let order = box_of-ordered n heights s b in record {
+      x_low = scaled s _ _ within.left;
+      x_order = order.x;
+      x_high = scaled s _ _ within.right;
+      y_low = scaled s _ _ within.bottom;
+      y_order = order.y;
+      y_high = scaled s _ _ within.top;
+      z_low = omega (arith, ints);
+      z_order = order.z;
+      z_high = omega (arith, ints);
+    }

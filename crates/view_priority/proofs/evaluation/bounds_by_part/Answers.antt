@@ -1,4 +1,4 @@
-use Rattle.std.proofs.Common.{◌+◌, ◌-◌, ◌/◌, ap, ◌∙◌}
+use Rattle.std.proofs.Common.{◌+◌, ◌-◌, ◌/◌, ap}
 use Rattle.view_priority.proofs.PriorityLemmas.{priority_at-by_parts}
 use Rattle.view_priority.proofs.evaluation.bounds_by_part.Goals as goal
 
