@@ -1,13 +1,15 @@
 -- The bound for a list of triangles: the greatest over all of them and all their points.
-use Rattle.std.proofs.Common.{◌≡◌, ◌∙◌, ℕ, ◌+◌, ◌*◌, ◌/◌, ◌^◌, ◌<◌, ◌≤◌, max, List, [], ◌∷◌, ◌++◌, length, take, get_or, map, All, refl, ap, arith, mul-le-mul_left}
+use Rattle.std.proofs.Common.{◌≡◌, ◌∙◌, ℕ, ◌+◌, ◌*◌, ◌/◌, ◌^◌, ◌<◌, ◌≤◌, Bool, max, List, [], ◌∷◌, ◌++◌, length, take, get_or, map, All, refl, sym, ap, subst, arith, mul-le-mul_left}
 use Rattle.std.proofs.lemmas.List.{take_more}
 use Rattle.std.proofs.lemmas.List.Elements.{All-head, All-tail}
 use Rattle.std.specs.List.{flat_map}
 use Rattle.mesh_defs.specs.Triangle.{IsAddress, level_of}
+use Rattle.mesh_defs.specs.ClosedSet.{leaves_of}
 use Rattle.bintree_laws.proofs.LevelLemmas.{level-le}
 use Rattle.mesh_defs.specs.Thickness.{thickness_of}
 use Rattle.mesh_defs.specs.BoundingBox.{points_of, holds_point, greatest}
 use Rattle.mesh_defs.proofs.PointLemmas.{greatest-le}
+use Rattle.tiling_laws.proofs.DescentLemmas.{IsAddress-leaves_of}
 use Rattle.deviation_laws.specs.PlaneHeight.{off_plane, offs_in, deviation_of, thickest_of}
 use Rattle.deviation_laws.proofs.PlaneLemmas.{off_plane-le}
 
@@ -78,6 +80,9 @@ pub thickest_of-none : (n : ℕ) (heights : List ℕ) → thickest_of n heights 
 unfolding thickest_of
 thickest_of-none n heights = refl
 
--- each triangle's level
-pub level-listed : (n : ℕ) (triangles : List ℕ) (i d : ℕ) → All (IsAddress n) triangles → i < length triangles → level_of (get_or triangles i d) ≤ 2 * n
-level-listed n triangles i d addresses below = level-le n (get_or triangles i d) (addresses i d below)
+-- a leaf's level
+pub level-leaf : (n : ℕ) (has : ℕ → Bool) (leaves : List ℕ) (i a : ℕ) → leaves ≡ leaves_of n has → i < length leaves →
+    a ≡ get_or leaves i a → level_of a ≤ 2 * n
+level-leaf n has leaves i a is below at =
+    let addresses : All (IsAddress n) leaves = subst (λ (xs : List ℕ). All (IsAddress n) xs) (sym is) (IsAddress-leaves_of n has) in
+    subst (λ z. level_of z ≤ 2 * n) (sym at) (level-le n (get_or leaves i a) (addresses i a below))

@@ -1,25 +1,20 @@
 -- A triangle more: the greatest of what was found and of its own.
-use Rattle.std.proofs.Common.{◌≡◌, ◌∙◌, ◌<◌, ◌*◌, ◌≤◌, List, All, length, max, sym, ap, ap₂, subst, arith}
+use Rattle.std.proofs.Common.{◌≡◌, ◌∙◌, ◌<◌, List, All, length, max, sym, ap, ap₂, subst, arith}
 use Rattle.std.proofs.lemmas.List.{take_all}
-use Rattle.mesh_defs.specs.Triangle.{level_of, IsAddress}
+use Rattle.mesh_defs.specs.Triangle.{IsAddress}
 use Rattle.mesh_defs.specs.BoundingBox.{greatest}
 use Rattle.tiling_laws.proofs.DescentLemmas.{IsAddress-leaves_of}
 use Rattle.deviation_laws.specs.PlaneHeight.{offs_in, deviation_of}
-use Rattle.deviation_laws.proofs.ListLemmas.{deviation_of-more, deviation_of-none, deviation_of-le, level-listed}
+use Rattle.deviation_laws.proofs.ListLemmas.{deviation_of-more, deviation_of-none, deviation_of-le, level-leaf}
 use Rattle.mesh_measure.proofs.mesh.deviation.Goals as goal
 
 pub loop-t-init : goal.loop-t-init
 loop-t-init c = sym (deviation_of-none c.args.w.now.n c.args.w.now.heights)
 
 pub off_triangle-requires : goal.off_triangle-requires
-off_triangle-requires c =
-    let below : c.loop-t.t-index < length c.args.leaves.now = omega arith in
-    let addresses : All (IsAddress c.args.w.now.n) c.args.leaves.now =
-    subst (λ (xs : List _). All (IsAddress c.args.w.now.n) xs) (sym c.requires.leaves.2) (IsAddress-leaves_of c.args.w.now.n c.requires.leaves.0) in
-    record {
-      level = subst (λ z. level_of z ≤ 2 * c.args.w.now.n) (sym c.t-item.is)
-          (level-listed c.args.w.now.n c.args.leaves.now c.loop-t.t-index c.t-item.result addresses below);
-    }
+off_triangle-requires c = record {
+  level = level-leaf c.args.w.now.n c.requires.leaves.0 c.args.leaves.now c.loop-t.t-index c.t-item.result c.requires.leaves.2 (omega arith) c.t-item.is;
+}
 
 pub loop-t-preserved : goal.loop-t-preserved
 loop-t-preserved c =

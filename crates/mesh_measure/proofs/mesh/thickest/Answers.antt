@@ -1,23 +1,16 @@
 -- A triangle more: the greatest of what was found and of its own thickness.
-use Rattle.std.proofs.Common.{◌∙◌, ◌<◌, ◌*◌, ◌≤◌, List, All, length, max, sym, ap, ap₂, subst, arith}
-use Rattle.mesh_defs.specs.Triangle.{level_of, IsAddress}
+use Rattle.std.proofs.Common.{◌∙◌, ◌<◌, length, max, sym, ap, ap₂, arith}
 use Rattle.mesh_defs.specs.Thickness.{thickness_of}
-use Rattle.tiling_laws.proofs.DescentLemmas.{IsAddress-leaves_of}
-use Rattle.deviation_laws.proofs.ListLemmas.{thickest_of-more, thickest_of-none, level-listed}
+use Rattle.deviation_laws.proofs.ListLemmas.{thickest_of-more, thickest_of-none, level-leaf}
 use Rattle.mesh_measure.proofs.mesh.thickest.Goals as goal
 
 pub loop-t-init : goal.loop-t-init
 loop-t-init c = sym (thickest_of-none c.args.w.now.n c.args.w.now.heights)
 
 pub thickness-requires : goal.thickness-requires
-thickness-requires c =
-    let below : c.loop-t.t-index < length c.args.leaves.now = omega arith in
-    let addresses : All (IsAddress c.args.w.now.n) c.args.leaves.now =
-    subst (λ (xs : List _). All (IsAddress c.args.w.now.n) xs) (sym c.requires.leaves.2) (IsAddress-leaves_of c.args.w.now.n c.requires.leaves.0) in
-    record {
-      level = subst (λ z. level_of z ≤ 2 * c.args.w.now.n) (sym c.t-item.is)
-          (level-listed c.args.w.now.n c.args.leaves.now c.loop-t.t-index c.t-item.result addresses below);
-    }
+thickness-requires c = record {
+  level = level-leaf c.args.w.now.n c.requires.leaves.0 c.args.leaves.now c.loop-t.t-index c.t-item.result c.requires.leaves.2 (omega arith) c.t-item.is;
+}
 
 pub loop-t-preserved : goal.loop-t-preserved
 loop-t-preserved c =
