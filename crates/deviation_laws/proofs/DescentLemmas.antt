@@ -150,43 +150,19 @@ IsPlacedBy-finest : (way : Way) (total : ℕ) (c : Corners) (r : Point) (u v w :
 IsPlacedBy-finest east total c r u v w a t some h =
     let x = one_above total u v w c.apex.x c.v0.x c.v1.x r.x some h.sum t.0.0 t.1.0 h.x in
     let y = one_above total u w v c.apex.y c.v1.y c.v0.y r.y some (omega (arith, h.sum)) t.1.1 t.0.1 (omega (arith, h.y)) in
-    record {
-      at_apex = λ e f. (omega arith, omega arith);
-      at_v0 = λ e f. (omega arith, omega arith);
-      at_v1 = λ e f. (omega arith, omega arith);
-      first = ⊎_elim (λ z. inl z.1) (λ z. inr z.1) x;
-      second = ⊎_elim (λ z. inl z.1) (λ z. inr z.1) y;
-    }
+    grind arith
 IsPlacedBy-finest north total c r u v w a t some h =
     let x = one_below total u w v c.apex.x c.v1.x c.v0.x r.x some (omega (arith, h.sum)) t.1.0 t.0.0 (omega (arith, h.x)) in
     let y = one_above total u v w c.apex.y c.v0.y c.v1.y r.y some h.sum t.0.1 t.1.1 h.y in
-    record {
-      at_apex = λ e f. (omega arith, omega arith);
-      at_v0 = λ e f. (omega arith, omega arith);
-      at_v1 = λ e f. (omega arith, omega arith);
-      first = ⊎_elim (λ z. inl z.1) (λ z. inr z.1) y;
-      second = ⊎_elim (λ z. inl z.1) (λ z. inr z.1) x;
-    }
+    grind arith
 IsPlacedBy-finest west total c r u v w a t some h =
     let x = one_below total u v w c.apex.x c.v0.x c.v1.x r.x some h.sum t.0.0 t.1.0 h.x in
     let y = one_below total u w v c.apex.y c.v1.y c.v0.y r.y some (omega (arith, h.sum)) t.1.1 t.0.1 (omega (arith, h.y)) in
-    record {
-      at_apex = λ e f. (omega arith, omega arith);
-      at_v0 = λ e f. (omega arith, omega arith);
-      at_v1 = λ e f. (omega arith, omega arith);
-      first = ⊎_elim (λ z. inl z.1) (λ z. inr z.1) x;
-      second = ⊎_elim (λ z. inl z.1) (λ z. inr z.1) y;
-    }
+    grind arith
 IsPlacedBy-finest south total c r u v w a t some h =
     let x = one_above total u w v c.apex.x c.v1.x c.v0.x r.x some (omega (arith, h.sum)) t.1.0 t.0.0 (omega (arith, h.x)) in
     let y = one_below total u v w c.apex.y c.v0.y c.v1.y r.y some h.sum t.0.1 t.1.1 h.y in
-    record {
-      at_apex = λ e f. (omega arith, omega arith);
-      at_v0 = λ e f. (omega arith, omega arith);
-      at_v1 = λ e f. (omega arith, omega arith);
-      first = ⊎_elim (λ z. inl z.1) (λ z. inr z.1) y;
-      second = ⊎_elim (λ z. inl z.1) (λ z. inr z.1) x;
-    }
+    grind arith
 IsPlacedBy-finest north_east total c r u v w a t some h = absurd a
 IsPlacedBy-finest north_west total c r u v w a t some h = absurd a
 IsPlacedBy-finest south_west total c r u v w a t some h = absurd a
