@@ -44,94 +44,61 @@ IsTurned w k c = IsRun w k c.apex c.v0 × IsRun (quarter w) k c.apex c.v1
 -- the steps of a leg whose base has 2 k steps
 abbrev pub leg : Way → ℕ → ℕ
 leg east k = 2 * k
-leg north_east k = k
 leg north k = 2 * k
-leg north_west k = k
 leg west k = 2 * k
-leg south_west k = k
 leg south k = 2 * k
-leg south_east k = k
+leg _ k = k
+
+-- Below, a clause with `_` in the place of the way stands for all ways that no clause above it names, and is
+-- checked for each.
 
 -- edges
 
 -- the base of a triangle that can be halved
 pub IsRun-base : (w : Way) (k : ℕ) (c : Corners) → IsTurned w (leg w k) c → IsRun (three w) (2 * k) c.v0 c.v1
 IsRun-base east k c t = (omega arith, omega arith)
-IsRun-base north_east k c t = (omega arith, omega arith)
-IsRun-base north k c t = (omega arith, omega arith)
-IsRun-base north_west k c t = (omega arith, omega arith)
-IsRun-base west k c t = (omega arith, omega arith)
-IsRun-base south_west k c t = (omega arith, omega arith)
-IsRun-base south k c t = (omega arith, omega arith)
-IsRun-base south_east k c t = (omega arith, omega arith)
+IsRun-base _ k c t = (omega arith, omega arith)
 
 -- the base of a triangle with legs along the axes
 abbrev pub IsAxis : Way → Type 0
 IsAxis east = Unit {0}
-IsAxis north_east = ⊥
 IsAxis north = Unit {0}
-IsAxis north_west = ⊥
 IsAxis west = Unit {0}
-IsAxis south_west = ⊥
 IsAxis south = Unit {0}
-IsAxis south_east = ⊥
+IsAxis _ = ⊥
 
 -- its base has as many diagonal steps as a leg has
 pub IsRun-short_base : (w : Way) (k : ℕ) (c : Corners) → IsAxis w → IsTurned w k c → IsRun (three w) k c.v0 c.v1
 IsRun-short_base east k c a t = (omega arith, omega arith)
-IsRun-short_base north_east k c a t = absurd a
 IsRun-short_base north k c a t = (omega arith, omega arith)
-IsRun-short_base north_west k c a t = absurd a
 IsRun-short_base west k c a t = (omega arith, omega arith)
-IsRun-short_base south_west k c a t = absurd a
 IsRun-short_base south k c a t = (omega arith, omega arith)
-IsRun-short_base south_east k c a t = absurd a
+IsRun-short_base _ k c a t = absurd a
 
 -- some run is the base
 IsRun-some_base : (w : Way) (k : ℕ) (c : Corners) → 0 < k → IsTurned w k c → (j : ℕ) × (0 < j) × IsRun (three w) j c.v0 c.v1
 IsRun-some_base east k c some t = (k, some, IsRun-short_base east k c tt t)
-IsRun-some_base north_east k c some t = (2 * k, omega arith, IsRun-base north_east k c t)
 IsRun-some_base north k c some t = (k, some, IsRun-short_base north k c tt t)
-IsRun-some_base north_west k c some t = (2 * k, omega arith, IsRun-base north_west k c t)
 IsRun-some_base west k c some t = (k, some, IsRun-short_base west k c tt t)
-IsRun-some_base south_west k c some t = (2 * k, omega arith, IsRun-base south_west k c t)
 IsRun-some_base south k c some t = (k, some, IsRun-short_base south k c tt t)
-IsRun-some_base south_east k c some t = (2 * k, omega arith, IsRun-base south_east k c t)
+IsRun-some_base w k c some t = (2 * k, omega arith, IsRun-base w k c t)
 
 -- the right leg, from v1 back to the apex
 pub IsRun-right_leg : (w : Way) (k : ℕ) (c : Corners) → IsTurned w k c → IsRun (six w) k c.v1 c.apex
 IsRun-right_leg east k c t = (omega arith, omega arith)
-IsRun-right_leg north_east k c t = (omega arith, omega arith)
-IsRun-right_leg north k c t = (omega arith, omega arith)
-IsRun-right_leg north_west k c t = (omega arith, omega arith)
-IsRun-right_leg west k c t = (omega arith, omega arith)
-IsRun-right_leg south_west k c t = (omega arith, omega arith)
-IsRun-right_leg south k c t = (omega arith, omega arith)
-IsRun-right_leg south_east k c t = (omega arith, omega arith)
+IsRun-right_leg _ k c t = (omega arith, omega arith)
 
 -- children
 
 -- the left child is turned by five eighths
 pub IsTurned-left : (w : Way) (k : ℕ) (c : Corners) → IsTurned w (leg w k) c → IsTurned (five w) k (child 0 c)
 IsTurned-left east k c t = ((omega arith, omega arith), (omega arith, omega arith))
-IsTurned-left north_east k c t = ((omega arith, omega arith), (omega arith, omega arith))
-IsTurned-left north k c t = ((omega arith, omega arith), (omega arith, omega arith))
-IsTurned-left north_west k c t = ((omega arith, omega arith), (omega arith, omega arith))
-IsTurned-left west k c t = ((omega arith, omega arith), (omega arith, omega arith))
-IsTurned-left south_west k c t = ((omega arith, omega arith), (omega arith, omega arith))
-IsTurned-left south k c t = ((omega arith, omega arith), (omega arith, omega arith))
-IsTurned-left south_east k c t = ((omega arith, omega arith), (omega arith, omega arith))
+IsTurned-left _ k c t = ((omega arith, omega arith), (omega arith, omega arith))
 
 -- the right child is turned by three eighths
 pub IsTurned-right : (w : Way) (k s : ℕ) (c : Corners) → IsTurned w (leg w k) c → IsTurned (three w) k (child (suc s) c)
 IsTurned-right east k s c t = ((omega arith, omega arith), (omega arith, omega arith))
-IsTurned-right north_east k s c t = ((omega arith, omega arith), (omega arith, omega arith))
-IsTurned-right north k s c t = ((omega arith, omega arith), (omega arith, omega arith))
-IsTurned-right north_west k s c t = ((omega arith, omega arith), (omega arith, omega arith))
-IsTurned-right west k s c t = ((omega arith, omega arith), (omega arith, omega arith))
-IsTurned-right south_west k s c t = ((omega arith, omega arith), (omega arith, omega arith))
-IsTurned-right south k s c t = ((omega arith, omega arith), (omega arith, omega arith))
-IsTurned-right south_east k s c t = ((omega arith, omega arith), (omega arith, omega arith))
+IsTurned-right _ k s c t = ((omega arith, omega arith), (omega arith, omega arith))
 
 -- points strictly inside, by the sides of the three runs
 
@@ -162,35 +129,17 @@ test-IsIn w k x y c some t h =
 -- in the left child is in the triangle
 IsIn-left : (w : Way) (k x y : ℕ) (c : Corners) → IsTurned w (leg w k) c → IsIn (five w) x y (child 0 c) → IsIn w x y c
 IsIn-left east k x y c t h = (omega arith, omega arith, omega arith)
-IsIn-left north_east k x y c t h = (omega arith, omega arith, omega arith)
-IsIn-left north k x y c t h = (omega arith, omega arith, omega arith)
-IsIn-left north_west k x y c t h = (omega arith, omega arith, omega arith)
-IsIn-left west k x y c t h = (omega arith, omega arith, omega arith)
-IsIn-left south_west k x y c t h = (omega arith, omega arith, omega arith)
-IsIn-left south k x y c t h = (omega arith, omega arith, omega arith)
-IsIn-left south_east k x y c t h = (omega arith, omega arith, omega arith)
+IsIn-left _ k x y c t h = (omega arith, omega arith, omega arith)
 
 -- and so is in the right child
 IsIn-right : (w : Way) (k x y : ℕ) (c : Corners) → IsTurned w (leg w k) c → IsIn (three w) x y (child 1 c) → IsIn w x y c
 IsIn-right east k x y c t h = (omega arith, omega arith, omega arith)
-IsIn-right north_east k x y c t h = (omega arith, omega arith, omega arith)
-IsIn-right north k x y c t h = (omega arith, omega arith, omega arith)
-IsIn-right north_west k x y c t h = (omega arith, omega arith, omega arith)
-IsIn-right west k x y c t h = (omega arith, omega arith, omega arith)
-IsIn-right south_west k x y c t h = (omega arith, omega arith, omega arith)
-IsIn-right south k x y c t h = (omega arith, omega arith, omega arith)
-IsIn-right south_east k x y c t h = (omega arith, omega arith, omega arith)
+IsIn-right _ k x y c t h = (omega arith, omega arith, omega arith)
 
 -- in no triangle's both children
 not_both : (w : Way) (k x y : ℕ) (c : Corners) → IsTurned w (leg w k) c → IsIn (five w) x y (child 0 c) → IsIn (three w) x y (child 1 c) → ⊥
 not_both east k x y c t h i = omega arith
-not_both north_east k x y c t h i = omega arith
-not_both north k x y c t h i = omega arith
-not_both north_west k x y c t h i = omega arith
-not_both west k x y c t h i = omega arith
-not_both south_west k x y c t h i = omega arith
-not_both south k x y c t h i = omega arith
-not_both south_east k x y c t h i = omega arith
+not_both _ k x y c t h i = omega arith
 
 -- off the rows, columns and diagonals through grid points
 pub record IsOff (x y : ℕ) : Type 0 where
@@ -208,37 +157,19 @@ IsOff-sample n x y s = elim s.placed [
 -- no sample is on a line through grid points
 sides-apart : (w : Way) (p : Point) (x y : ℕ) → IsOff x y → (sides w p x y).0 ≢ (sides w p x y).1
 sides-apart east p x y off e = let r = off.row in let l = off.column in let d = off.diagonal in omega arith
-sides-apart north_east p x y off e = let r = off.row in let l = off.column in let d = off.diagonal in omega arith
-sides-apart north p x y off e = let r = off.row in let l = off.column in let d = off.diagonal in omega arith
-sides-apart north_west p x y off e = let r = off.row in let l = off.column in let d = off.diagonal in omega arith
-sides-apart west p x y off e = let r = off.row in let l = off.column in let d = off.diagonal in omega arith
-sides-apart south_west p x y off e = let r = off.row in let l = off.column in let d = off.diagonal in omega arith
-sides-apart south p x y off e = let r = off.row in let l = off.column in let d = off.diagonal in omega arith
-sides-apart south_east p x y off e = let r = off.row in let l = off.column in let d = off.diagonal in omega arith
+sides-apart _ p x y off e = let r = off.row in let l = off.column in let d = off.diagonal in omega arith
 
 -- the split line goes from the apex: in a triangle and right of it is in the left child
 in-left : (w : Way) (k x y : ℕ) (c : Corners) → IsTurned w (leg w k) c → IsIn w x y c →
     (sides (eighth w) c.apex x y).1 < (sides (eighth w) c.apex x y).0 → IsIn (five w) x y (child 0 c)
 in-left east k x y c t h right = (omega arith, omega arith, omega arith)
-in-left north_east k x y c t h right = (omega arith, omega arith, omega arith)
-in-left north k x y c t h right = (omega arith, omega arith, omega arith)
-in-left north_west k x y c t h right = (omega arith, omega arith, omega arith)
-in-left west k x y c t h right = (omega arith, omega arith, omega arith)
-in-left south_west k x y c t h right = (omega arith, omega arith, omega arith)
-in-left south k x y c t h right = (omega arith, omega arith, omega arith)
-in-left south_east k x y c t h right = (omega arith, omega arith, omega arith)
+in-left _ k x y c t h right = (omega arith, omega arith, omega arith)
 
 -- and left of it is in the right child
 in-right : (w : Way) (k x y : ℕ) (c : Corners) → IsTurned w (leg w k) c → IsIn w x y c →
     IsBeside (eighth w) c.apex x y → IsIn (three w) x y (child 1 c)
 in-right east k x y c t h left = (omega arith, omega arith, omega arith)
-in-right north_east k x y c t h left = (omega arith, omega arith, omega arith)
-in-right north k x y c t h left = (omega arith, omega arith, omega arith)
-in-right north_west k x y c t h left = (omega arith, omega arith, omega arith)
-in-right west k x y c t h left = (omega arith, omega arith, omega arith)
-in-right south_west k x y c t h left = (omega arith, omega arith, omega arith)
-in-right south k x y c t h left = (omega arith, omega arith, omega arith)
-in-right south_east k x y c t h left = (omega arith, omega arith, omega arith)
+in-right _ k x y c t h left = (omega arith, omega arith, omega arith)
 
 -- what is in a triangle and off the lines is in one of its children
 IsIn-child : (w : Way) (k x y : ℕ) (c : Corners) → IsOff x y → IsTurned w (leg w k) c → IsIn w x y c →
@@ -255,13 +186,10 @@ IsIn-child w k x y c off t h =
 -- how many levels lie below a triangle with legs of 2 ^ half steps
 abbrev pub levels_below : Way → ℕ → ℕ
 levels_below east half = 2 * half
-levels_below north_east half = 2 * half + 1
 levels_below north half = 2 * half
-levels_below north_west half = 2 * half + 1
 levels_below west half = 2 * half
-levels_below south_west half = 2 * half + 1
 levels_below south half = 2 * half
-levels_below south_east half = 2 * half + 1
+levels_below _ half = 2 * half + 1
 
 -- a triangle of this level: its way, and how often its legs can be halved
 abbrev pub IsPlaced : ℕ → ℕ → Corners → Type 0
@@ -274,34 +202,22 @@ IsForked w half c = IsTurned w (leg w (2 ^ half)) c
 -- above the finest level
 forked : (w : Way) (half n level : ℕ) (c : Corners) → level < 2 * n → level + levels_below w half ≡ 2 * n → IsTurned w (2 ^ half) c →
     (less : ℕ) × IsForked w less c × (suc level + levels_below (five w) less ≡ 2 * n) × (suc level + levels_below (three w) less ≡ 2 * n)
-forked east zero n level c h e t = absurd (omega arith)
-forked east (suc half) n level c h e t = (half, subst (λ k. IsTurned east k c) (pow-succ' 2 half) t, omega arith, omega arith)
 forked north_east half n level c h e t = (half, t, omega arith, omega arith)
-forked north zero n level c h e t = absurd (omega arith)
-forked north (suc half) n level c h e t = (half, subst (λ k. IsTurned north k c) (pow-succ' 2 half) t, omega arith, omega arith)
 forked north_west half n level c h e t = (half, t, omega arith, omega arith)
-forked west zero n level c h e t = absurd (omega arith)
-forked west (suc half) n level c h e t = (half, subst (λ k. IsTurned west k c) (pow-succ' 2 half) t, omega arith, omega arith)
 forked south_west half n level c h e t = (half, t, omega arith, omega arith)
-forked south zero n level c h e t = absurd (omega arith)
-forked south (suc half) n level c h e t = (half, subst (λ k. IsTurned south k c) (pow-succ' 2 half) t, omega arith, omega arith)
 forked south_east half n level c h e t = (half, t, omega arith, omega arith)
+forked w zero n level c h e t = absurd (omega arith)
+forked w (suc half) n level c h e t = (half, subst (λ k. IsTurned w k c) (pow-succ' 2 half) t, omega arith, omega arith)
 
 -- at the finest level
 finest : (w : Way) (half n level : ℕ) (c : Corners) → level ≡ 2 * n → level + levels_below w half ≡ 2 * n → IsTurned w (2 ^ half) c →
     IsAxis w × IsTurned w 1 c
-finest east zero n level c h e t = (tt, t)
-finest east (suc half) n level c h e t = absurd (omega arith)
 finest north_east half n level c h e t = absurd (omega arith)
-finest north zero n level c h e t = (tt, t)
-finest north (suc half) n level c h e t = absurd (omega arith)
 finest north_west half n level c h e t = absurd (omega arith)
-finest west zero n level c h e t = (tt, t)
-finest west (suc half) n level c h e t = absurd (omega arith)
 finest south_west half n level c h e t = absurd (omega arith)
-finest south zero n level c h e t = (tt, t)
-finest south (suc half) n level c h e t = absurd (omega arith)
 finest south_east half n level c h e t = absurd (omega arith)
+finest _ zero n level c h e t = (tt, t)
+finest _ (suc half) n level c h e t = absurd (omega arith)
 
 -- the base triangles
 IsPlaced-base : (n side : ℕ) → IsPlaced n 0 (base_triangle (2 ^ n) side)
@@ -336,13 +252,7 @@ finest-placed n level c h p =
 -- a leg has a step
 leg_some : (w : Way) (k : ℕ) → 0 < k → 0 < leg w k
 leg_some east k h = omega arith
-leg_some north_east k h = omega arith
-leg_some north k h = omega arith
-leg_some north_west k h = omega arith
-leg_some west k h = omega arith
-leg_some south_west k h = omega arith
-leg_some south k h = omega arith
-leg_some south_east k h = omega arith
+leg_some _ k h = omega arith
 
 -- samples
 
@@ -384,7 +294,6 @@ some_sample east n c a t within = (
       record { x_within = omega arith; y_within = omega arith; placed = inr (omega arith, omega arith) }),
   test-IsIn east 1 (4 * c.apex.x + 1) (4 * c.apex.y + 2) c (omega arith) t (omega arith, omega arith, omega arith),
 )
-some_sample north_east n c a t within = absurd a
 some_sample north n c a t within = (
   4 * c.apex.x - 1,
   4 * c.apex.y + 2,
@@ -393,7 +302,6 @@ some_sample north n c a t within = (
       record { x_within = omega arith; y_within = omega arith; placed = inr (omega arith, omega arith) }),
   test-IsIn north 1 (4 * c.apex.x - 1) (4 * c.apex.y + 2) c (omega arith) t (omega arith, omega arith, omega arith),
 )
-some_sample north_west n c a t within = absurd a
 some_sample west n c a t within = (
   4 * c.apex.x - 1,
   4 * c.apex.y - 2,
@@ -402,7 +310,6 @@ some_sample west n c a t within = (
       record { x_within = omega arith; y_within = omega arith; placed = inr (omega arith, omega arith) }),
   test-IsIn west 1 (4 * c.apex.x - 1) (4 * c.apex.y - 2) c (omega arith) t (omega arith, omega arith, omega arith),
 )
-some_sample south_west n c a t within = absurd a
 some_sample south n c a t within = (
   4 * c.apex.x + 1,
   4 * c.apex.y - 2,
@@ -411,4 +318,4 @@ some_sample south n c a t within = (
       record { x_within = omega arith; y_within = omega arith; placed = inr (omega arith, omega arith) }),
   test-IsIn south 1 (4 * c.apex.x + 1) (4 * c.apex.y - 2) c (omega arith) t (omega arith, omega arith, omega arith),
 )
-some_sample south_east n c a t within = absurd a
+some_sample _ n c a t within = absurd a

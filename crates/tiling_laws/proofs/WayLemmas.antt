@@ -37,10 +37,6 @@ IsRun south_east k p q = (q.x ≡ p.x + k) × (p.y ≡ q.y + k)
 
 -- numbers
 
--- both sides of an equation by k
-pub times : (k a b : ℕ) → a ≡ b → a * k ≡ b * k
-times k a b e = ap (λ z. z * k) e
-
 -- a common factor goes
 pub lt-scaled : (k a b : ℕ) → k * a < k * b → a < b
 lt-scaled k a b h = ⊎_elim
@@ -74,33 +70,16 @@ IsBeside w p x y = (sides w p x y).0 < (sides w p x y).1
 abbrev pub IsLeft : ℕ → ℕ → Point → Point → Type 0
 IsLeft x y p q = 4 * p.y * q.x + q.y * x + y * p.x < 4 * p.x * q.y + q.x * y + x * p.y
 
--- the terms of that test differ by the two sides, k times
+-- The terms of that test differ by the two sides, k times. A clause with `_` in the place of the way stands for all
+-- ways that no clause above it names, and is checked for each.
 sides-scaled : (w : Way) (k x y : ℕ) (p q : Point) → IsRun w k p q →
     4 * p.y * q.x + q.y * x + y * p.x + k * (sides w p x y).1 ≡ 4 * p.x * q.y + q.x * y + x * p.y + k * (sides w p x y).0
 sides-scaled east k x y p q r =
-    let f0 = times y q.x (p.x + k) r.0 in let f1 = times p.y q.x (p.x + k) r.0 in
-    let f2 = times x q.y p.y r.1 in let f3 = times p.x q.y p.y r.1 in omega arith
-sides-scaled north_east k x y p q r =
-    let f0 = times y q.x (p.x + k) r.0 in let f1 = times p.y q.x (p.x + k) r.0 in
-    let f2 = times x q.y (p.y + k) r.1 in let f3 = times p.x q.y (p.y + k) r.1 in omega arith
-sides-scaled north k x y p q r =
-    let f0 = times y q.x p.x r.0 in let f1 = times p.y q.x p.x r.0 in
-    let f2 = times x q.y (p.y + k) r.1 in let f3 = times p.x q.y (p.y + k) r.1 in omega arith
-sides-scaled north_west k x y p q r =
-    let f0 = times y p.x (q.x + k) r.0 in let f1 = times p.y p.x (q.x + k) r.0 in
-    let f2 = times x q.y (p.y + k) r.1 in let f3 = times p.x q.y (p.y + k) r.1 in omega arith
-sides-scaled west k x y p q r =
-    let f0 = times y p.x (q.x + k) r.0 in let f1 = times p.y p.x (q.x + k) r.0 in
-    let f2 = times x q.y p.y r.1 in let f3 = times p.x q.y p.y r.1 in omega arith
-sides-scaled south_west k x y p q r =
-    let f0 = times y p.x (q.x + k) r.0 in let f1 = times p.y p.x (q.x + k) r.0 in
-    let f2 = times x p.y (q.y + k) r.1 in let f3 = times p.x p.y (q.y + k) r.1 in omega arith
-sides-scaled south k x y p q r =
-    let f0 = times y q.x p.x r.0 in let f1 = times p.y q.x p.x r.0 in
-    let f2 = times x p.y (q.y + k) r.1 in let f3 = times p.x p.y (q.y + k) r.1 in omega arith
-sides-scaled south_east k x y p q r =
-    let f0 = times y q.x (p.x + k) r.0 in let f1 = times p.y q.x (p.x + k) r.0 in
-    let f2 = times x p.y (q.y + k) r.1 in let f3 = times p.x p.y (q.y + k) r.1 in omega arith
+    let f0 = ap (λ z. z * y) r.0 in let f1 = ap (λ z. z * p.y) r.0 in
+    let f2 = ap (λ z. z * x) r.1 in let f3 = ap (λ z. z * p.x) r.1 in omega arith
+sides-scaled _ k x y p q r =
+    let f0 = ap (λ z. z * y) r.0 in let f1 = ap (λ z. z * p.y) r.0 in
+    let f2 = ap (λ z. z * x) r.1 in let f3 = ap (λ z. z * p.x) r.1 in omega arith
 
 -- left of an edge is beside its run
 pub IsBeside-left : (w : Way) (k x y : ℕ) (p q : Point) → IsRun w k p q → IsLeft x y p q → IsBeside w p x y
@@ -165,13 +144,7 @@ IsInside-between w k p q r some run b = inside w k p q r run (sides-on_line w k 
 sides-run : (w : Way) (j : ℕ) (p r : Point) → IsRun w j p r →
     (sides w p (4 * r.x) (4 * r.y)).0 ≡ (sides w p (4 * r.x) (4 * r.y)).1
 sides-run east j p r step = omega arith
-sides-run north_east j p r step = omega arith
-sides-run north j p r step = omega arith
-sides-run north_west j p r step = omega arith
-sides-run west j p r step = omega arith
-sides-run south_west j p r step = omega arith
-sides-run south j p r step = omega arith
-sides-run south_east j p r step = omega arith
+sides-run _ j p r step = omega arith
 
 -- and inside the run is strictly between its ends
 pub IsStrictlyBetween-inside : (w : Way) (k : ℕ) (p q r : Point) → IsRun w k p q → IsInside w k p r → IsStrictlyBetween p q r
@@ -182,69 +155,33 @@ IsStrictlyBetween-inside w k p q r run i =
   where
     between : (w : Way) (k j : ℕ) (p q r : Point) → IsRun w k p q → 0 < j → j < k → IsRun w j p r →
         IsBetween p.x q.x r.x ⊎ IsBetween p.y q.y r.y
-    between east k j p q r run some less step = inl (inl (omega arith, omega arith))
-    between north_east k j p q r run some less step = inl (inl (omega arith, omega arith))
-    between north k j p q r run some less step = inr (inl (omega arith, omega arith))
-    between north_west k j p q r run some less step = inl (inr (omega arith, omega arith))
-    between west k j p q r run some less step = inl (inr (omega arith, omega arith))
-    between south_west k j p q r run some less step = inl (inr (omega arith, omega arith))
-    between south k j p q r run some less step = inr (inr (omega arith, omega arith))
-    between south_east k j p q r run some less step = inl (inl (omega arith, omega arith))
+    between east k j p q r run some less step = grind arith
+    between _ k j p q r run some less step = grind arith
 
 -- one end of a run is determined by the other
 pub IsRun-same : (w : Way) (k : ℕ) (p q r : Point) → IsRun w k p q → IsRun w k p r → q ≡ r
 IsRun-same east k p q r h i = same_point q.x q.y r.x r.y (omega arith) (omega arith)
-IsRun-same north_east k p q r h i = same_point q.x q.y r.x r.y (omega arith) (omega arith)
-IsRun-same north k p q r h i = same_point q.x q.y r.x r.y (omega arith) (omega arith)
-IsRun-same north_west k p q r h i = same_point q.x q.y r.x r.y (omega arith) (omega arith)
-IsRun-same west k p q r h i = same_point q.x q.y r.x r.y (omega arith) (omega arith)
-IsRun-same south_west k p q r h i = same_point q.x q.y r.x r.y (omega arith) (omega arith)
-IsRun-same south k p q r h i = same_point q.x q.y r.x r.y (omega arith) (omega arith)
-IsRun-same south_east k p q r h i = same_point q.x q.y r.x r.y (omega arith) (omega arith)
+IsRun-same _ k p q r h i = same_point q.x q.y r.x r.y (omega arith) (omega arith)
 
 -- the midpoint of an even run
 pub IsRun-first_half : (w : Way) (k : ℕ) (p q : Point) → IsRun w (2 * k) p q → IsRun w k p (midpoint p q)
 IsRun-first_half east k p q r = (omega arith, omega arith)
-IsRun-first_half north_east k p q r = (omega arith, omega arith)
-IsRun-first_half north k p q r = (omega arith, omega arith)
-IsRun-first_half north_west k p q r = (omega arith, omega arith)
-IsRun-first_half west k p q r = (omega arith, omega arith)
-IsRun-first_half south_west k p q r = (omega arith, omega arith)
-IsRun-first_half south k p q r = (omega arith, omega arith)
-IsRun-first_half south_east k p q r = (omega arith, omega arith)
+IsRun-first_half _ k p q r = (omega arith, omega arith)
 
 -- and from there to the end
 pub IsRun-second_half : (w : Way) (k : ℕ) (p q : Point) → IsRun w (2 * k) p q → IsRun w k (midpoint p q) q
 IsRun-second_half east k p q r = (omega arith, omega arith)
-IsRun-second_half north_east k p q r = (omega arith, omega arith)
-IsRun-second_half north k p q r = (omega arith, omega arith)
-IsRun-second_half north_west k p q r = (omega arith, omega arith)
-IsRun-second_half west k p q r = (omega arith, omega arith)
-IsRun-second_half south_west k p q r = (omega arith, omega arith)
-IsRun-second_half south k p q r = (omega arith, omega arith)
-IsRun-second_half south_east k p q r = (omega arith, omega arith)
+IsRun-second_half _ k p q r = (omega arith, omega arith)
 
 -- a run after a run
 pub IsRun-append : (w : Way) (j k : ℕ) (p q r : Point) → IsRun w j p q → IsRun w k q r → IsRun w (j + k) p r
 IsRun-append east j k p q r h i = (omega arith, omega arith)
-IsRun-append north_east j k p q r h i = (omega arith, omega arith)
-IsRun-append north j k p q r h i = (omega arith, omega arith)
-IsRun-append north_west j k p q r h i = (omega arith, omega arith)
-IsRun-append west j k p q r h i = (omega arith, omega arith)
-IsRun-append south_west j k p q r h i = (omega arith, omega arith)
-IsRun-append south j k p q r h i = (omega arith, omega arith)
-IsRun-append south_east j k p q r h i = (omega arith, omega arith)
+IsRun-append _ j k p q r h i = (omega arith, omega arith)
 
 -- a run less a prefix of it
 pub IsRun-rest : (w : Way) (j k : ℕ) (p q r : Point) → IsRun w j p q → IsRun w (j + k) p r → IsRun w k q r
 IsRun-rest east j k p q r h i = (omega arith, omega arith)
-IsRun-rest north_east j k p q r h i = (omega arith, omega arith)
-IsRun-rest north j k p q r h i = (omega arith, omega arith)
-IsRun-rest north_west j k p q r h i = (omega arith, omega arith)
-IsRun-rest west j k p q r h i = (omega arith, omega arith)
-IsRun-rest south_west j k p q r h i = (omega arith, omega arith)
-IsRun-rest south j k p q r h i = (omega arith, omega arith)
-IsRun-rest south_east j k p q r h i = (omega arith, omega arith)
+IsRun-rest _ j k p q r h i = (omega arith, omega arith)
 
 -- the two halves of a run: a point inside the whole is its midpoint or inside one of the halves
 pub inside_halves : (w : Way) (k : ℕ) (p m q r : Point) → IsRun w k p m → IsRun w k m q → IsInside w (2 * k) p r →
