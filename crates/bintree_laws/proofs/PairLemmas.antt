@@ -135,59 +135,29 @@ quarter_unique : (which other : ℕ) → which < 4 → other < 4 → SameSum (qu
 quarter_unique which other low less same =
     let p = quarter_sums which low in let q = quarter_sums other less in let x = same.x in let y = same.y in omega arith
 
--- where a grandchild lies tells which it is, but for the first and the last
+-- Where a grandchild lies tells which it is, but for the first and the last. The last clause is checked for each pair
+-- that no clause above it names.
 pivot_unique : (which other i j : ℕ) (c : Corners) → which < 4 → other < 4 → IsHalf i j c → (pivot which c).x ≡
     (pivot other c).x → (pivot which c).y ≡ (pivot other c).y → (other ≡ which) ⊎ ((which + other ≡ 3) × IsInner which)
 pivot_unique zero zero i j c low less half x y = inl refl
-pivot_unique zero (suc zero) i j c low less half x y = let right = half.right in absurd (omega arith)
-pivot_unique zero (suc (suc zero)) i j c low less half x y = let right = half.right in absurd (omega arith)
-pivot_unique zero (suc (suc (suc zero))) i j c low less half x y = inr (refl, tt)
-pivot_unique (suc zero) zero i j c low less half x y = let right = half.right in absurd (omega arith)
 pivot_unique (suc zero) (suc zero) i j c low less half x y = inl refl
-pivot_unique (suc zero) (suc (suc zero)) i j c low less half x y = let right = half.right in absurd (omega arith)
-pivot_unique (suc zero) (suc (suc (suc zero))) i j c low less half x y = let right = half.right in absurd (omega arith)
-pivot_unique (suc (suc zero)) zero i j c low less half x y = let right = half.right in absurd (omega arith)
-pivot_unique (suc (suc zero)) (suc zero) i j c low less half x y = let right = half.right in absurd (omega arith)
 pivot_unique (suc (suc zero)) (suc (suc zero)) i j c low less half x y = inl refl
-pivot_unique (suc (suc zero)) (suc (suc (suc zero))) i j c low less half x y = let right = half.right in absurd
-    (omega arith)
-pivot_unique (suc (suc (suc zero))) zero i j c low less half x y = inr (refl, tt)
-pivot_unique (suc (suc (suc zero))) (suc zero) i j c low less half x y = let right = half.right in absurd (omega arith)
-pivot_unique (suc (suc (suc zero))) (suc (suc zero)) i j c low less half x y = let right = half.right in absurd
-    (omega arith)
 pivot_unique (suc (suc (suc zero))) (suc (suc (suc zero))) i j c low less half x y = inl refl
+pivot_unique zero (suc (suc (suc zero))) i j c low less half x y = inr (refl, tt)
+pivot_unique (suc (suc (suc zero))) zero i j c low less half x y = inr (refl, tt)
 pivot_unique (suc (suc (suc (suc _)))) _ i j c low less half x y = absurd (omega (arith, low))
 pivot_unique _ (suc (suc (suc (suc _)))) i j c low less half x y = absurd (omega (arith, less))
+pivot_unique _ _ i j c low less half x y = let right = half.right in absurd (omega arith)
 
--- grandchildren of a pair with one pivot are the second of one and the third of the other
+-- Grandchildren of a pair with one pivot are the second of one and the third of the other. The last clause is checked
+-- for each pair that no clause above it names.
 pivot_across : (which other i j : ℕ) (c d : Corners) → which < 4 → other < 4 → IsHalf i j c → AreHalves c d →
     (pivot which c).x ≡ (pivot other d).x → (pivot which c).y ≡ (pivot other d).y → (which + other ≡ 3) × IsOuter which
-pivot_across zero zero i j c d low less half halves x y = let right = half.right in absurd (omega arith)
-pivot_across zero (suc zero) i j c d low less half halves x y = let right = half.right in absurd (omega arith)
-pivot_across zero (suc (suc zero)) i j c d low less half halves x y = let right = half.right in absurd (omega arith)
-pivot_across zero (suc (suc (suc zero))) i j c d low less half halves x y = let right = half.right in absurd
-    (omega arith)
-pivot_across (suc zero) zero i j c d low less half halves x y = let right = half.right in absurd (omega arith)
-pivot_across (suc zero) (suc zero) i j c d low less half halves x y = let right = half.right in absurd (omega arith)
 pivot_across (suc zero) (suc (suc zero)) i j c d low less half halves x y = (refl, tt)
-pivot_across (suc zero) (suc (suc (suc zero))) i j c d low less half halves x y = let right = half.right in absurd
-    (omega arith)
-pivot_across (suc (suc zero)) zero i j c d low less half halves x y = let right = half.right in absurd (omega arith)
 pivot_across (suc (suc zero)) (suc zero) i j c d low less half halves x y = (refl, tt)
-pivot_across (suc (suc zero)) (suc (suc zero)) i j c d low less half halves x y = let right = half.right in absurd
-    (omega arith)
-pivot_across (suc (suc zero)) (suc (suc (suc zero))) i j c d low less half halves x y = let right = half.right in
-    absurd (omega arith)
-pivot_across (suc (suc (suc zero))) zero i j c d low less half halves x y = let right = half.right in absurd
-    (omega arith)
-pivot_across (suc (suc (suc zero))) (suc zero) i j c d low less half halves x y = let right = half.right in absurd
-    (omega arith)
-pivot_across (suc (suc (suc zero))) (suc (suc zero)) i j c d low less half halves x y = let right = half.right in
-    absurd (omega arith)
-pivot_across (suc (suc (suc zero))) (suc (suc (suc zero))) i j c d low less half halves x y = let right = half.right in
-    absurd (omega arith)
 pivot_across (suc (suc (suc (suc _)))) _ i j c d low less half halves x y = absurd (omega (arith, low))
 pivot_across _ (suc (suc (suc (suc _)))) i j c d low less half halves x y = absurd (omega (arith, less))
+pivot_across _ _ i j c d low less half halves x y = let right = half.right in absurd (omega arith)
 
 -- two triangles of a level whose bases have one sum of ends are equal or a pair, in the frame
 pub same_base : (level a b : ℕ) → IsAtLevel level a → IsAtLevel level b → SameSum (frame level a) (frame level b) →

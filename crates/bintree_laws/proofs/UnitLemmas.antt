@@ -1,6 +1,6 @@
 -- Every triangle of a level as half of a unit square. At even levels the unit squares are those of the
 -- lattice; at odd levels they are turned by an eighth of a turn, so that one argument serves both.
-use Rattle.std.proofs.Common.{◌≡◌, ◌⊎◌, ℕ, zero, suc, ◌+◌, ◌*◌, ◌/◌, ◌%◌, ◌≤◌, refl, arith, inl, inr, ⊎_elim}
+use Rattle.std.proofs.Common.{◌≡◌, ◌⊎◌, ℕ, zero, suc, ◌+◌, ◌*◌, ◌/◌, ◌%◌, ◌≤◌, arith}
 use Rattle.mesh_defs.specs.declared.point.Point.{Point}
 use Rattle.mesh_defs.specs.declared.point.Corners.{Corners}
 use Rattle.mesh_defs.specs.Triangle.{base_triangle}
@@ -39,70 +39,22 @@ pub record IsHalf (i j : ℕ) (c : Corners) : Type 0 where
 abbrev pub IsSomeHalf : Corners → Type 0
 IsSomeHalf c = (i : ℕ) × (j : ℕ) × IsHalf i j c
 
-apart_apex : (i apex v0 v1 : ℕ) → IsApart i apex v0 v1 → IsApart (i + apex) (apex + v0) (v0 + v1) (2 * apex)
-apart_apex i apex v0 v1 h = grind arith
-
-apart_v0 : (i apex v0 v1 : ℕ) → IsApart i apex v0 v1 → IsApart (i + v0) (apex + v0) (2 * v0) (v0 + v1)
-apart_v0 i apex v0 v1 h = grind arith
-
-apart_v1 : (i apex v0 v1 : ℕ) → IsApart i apex v0 v1 → IsApart (i + v1) (v1 + apex) (v0 + v1) (2 * v1)
-apart_v1 i apex v0 v1 h = grind arith
-
-apart_apex_turned : (i apex v0 v1 : ℕ) → IsApart i apex v0 v1 → IsApart (i + apex) (v1 + apex) (2 * apex) (v0 + v1)
-apart_apex_turned i apex v0 v1 h = grind arith
-
 -- a grandchild of a half is a half, of a square of half the side
 IsHalf-grandchild : (which i j : ℕ) (c : Corners) → IsHalf i j c → IsSomeHalf (grandchild which c)
-IsHalf-grandchild zero i j c h = (
-  i + c.apex.x,
-  j + c.apex.y,
-  record {
-    x = apart_apex i c.apex.x c.v0.x c.v1.x h.x;
-    y = apart_apex j c.apex.y c.v0.y c.v1.y h.y;
-    right = ⊎_elim (λ e. inr (omega arith, omega arith))
-        (λ e. inl (omega arith, omega arith)) h.right;
-  },
-)
-IsHalf-grandchild (suc zero) i j c h = (
-  i + c.v0.x,
-  j + c.v0.y,
-  record {
-    x = apart_v0 i c.apex.x c.v0.x c.v1.x h.x;
-    y = apart_v0 j c.apex.y c.v0.y c.v1.y h.y;
-    right = ⊎_elim (λ e. inl (omega arith, omega arith))
-        (λ e. inr (omega arith, omega arith)) h.right;
-  },
-)
-IsHalf-grandchild (suc (suc zero)) i j c h = (
-  i + c.v1.x,
-  j + c.v1.y,
-  record {
-    x = apart_v1 i c.apex.x c.v0.x c.v1.x h.x;
-    y = apart_v1 j c.apex.y c.v0.y c.v1.y h.y;
-    right = ⊎_elim (λ e. inl (omega arith, omega arith))
-        (λ e. inr (omega arith, omega arith)) h.right;
-  },
-)
-IsHalf-grandchild (suc (suc (suc _))) i j c h = (
-  i + c.apex.x,
-  j + c.apex.y,
-  record {
-    x = apart_apex_turned i c.apex.x c.v0.x c.v1.x h.x;
-    y = apart_apex_turned j c.apex.y c.v0.y c.v1.y h.y;
-    right = ⊎_elim (λ e. inr (omega arith, omega arith))
-        (λ e. inl (omega arith, omega arith)) h.right;
-  },
-)
+IsHalf-grandchild zero i j c h = (i + c.apex.x, j + c.apex.y, grind arith)
+IsHalf-grandchild (suc zero) i j c h = (i + c.v0.x, j + c.v0.y, grind arith)
+IsHalf-grandchild (suc (suc zero)) i j c h = (i + c.v1.x, j + c.v1.y, grind arith)
+IsHalf-grandchild (suc (suc (suc _))) i j c h = (i + c.apex.x, j + c.apex.y, grind arith)
 
 IsHalf-base : (half : ℕ) → IsSomeHalf (base_triangle 1 half)
-IsHalf-base zero = (0, 0, record { x = grind arith; y = grind arith; right = inr (refl, refl) })
-IsHalf-base (suc _) = (0, 0, record { x = grind arith; y = grind arith; right = inr (refl, refl) })
+IsHalf-base zero = (0, 0, grind arith)
+IsHalf-base (suc _) = (0, 0, grind arith)
 
 IsHalf-quarter : (which : ℕ) → IsSomeHalf (quarter which)
-IsHalf-quarter zero = (0, 1, record { x = grind arith; y = grind arith; right = inr (refl, refl) })
-IsHalf-quarter (suc zero) = (0, 0, record { x = grind arith; y = grind arith; right = inl (refl, refl) })
-IsHalf-quarter (suc (suc zero)) = (1, 0, record { x = grind arith; y = grind arith; right = inr (refl, refl) })
-IsHalf-quarter (suc (suc (suc _))) = (1, 1, record { x = grind arith; y = grind arith; right = inl (refl, refl) })
+IsHalf-quarter zero = (0, 1, grind arith)
+IsHalf-quarter (suc zero) = (0, 0, grind arith)
+IsHalf-quarter (suc (suc zero)) = (1, 0, grind arith)
+IsHalf-quarter (suc (suc (suc _))) = (1, 1, grind arith)
 
 -- every triangle is half of a unit square of its frame
 pub IsHalf-frame : (level a : ℕ) → IsSomeHalf (frame level a)

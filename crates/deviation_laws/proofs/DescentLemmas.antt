@@ -163,10 +163,7 @@ IsPlacedBy-finest south total c r u v w a t some h =
     let x = one_above total u w v c.apex.x c.v1.x c.v0.x r.x some (omega (arith, h.sum)) t.1.0 t.0.0 (omega (arith, h.x)) in
     let y = one_below total u v w c.apex.y c.v0.y c.v1.y r.y some h.sum t.0.1 t.1.1 h.y in
     grind arith
-IsPlacedBy-finest north_east total c r u v w a t some h = absurd a
-IsPlacedBy-finest north_west total c r u v w a t some h = absurd a
-IsPlacedBy-finest south_west total c r u v w a t some h = absurd a
-IsPlacedBy-finest south_east total c r u v w a t some h = absurd a
+IsPlacedBy-finest _ total c r u v w a t some h = absurd a
 
 -- with all weight at one corner the mean is that corner's height
 mean-corner : (f : Point → ℕ) (total : ℕ) (c : Corners) (r : Point) (u v w : ℕ) → u + v + w ≡ total → IsOneCorner c r u v w →
