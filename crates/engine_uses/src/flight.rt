@@ -2,6 +2,7 @@
 
 ghost use Rattle.std.specs.Prelude.{◌≡◌, ◌+◌, ◌<◌, ◌≤◌, ◌^◌, length, IfOk};
 ghost use Rattle.mesh_defs.specs.State.{with_camera};
+ghost use Rattle.triangle_pool.specs.declared.pool.TheConstants.{MOST_LEAVES};
 ghost use Rattle.frame_loop.specs.Engine.{mesh_seen};
 ghost use Rattle.engine_uses.specs.Best.{AreBestFrom, IsBestSeen};
 
@@ -14,7 +15,7 @@ use std::alloc::Global;
 /// Each frame goes on from the mesh of the frame before. Draw each by `Engine::view`.
 pub fn fly(alloc: Global, grid: Grid, budget: u32, path: &[Camera]) -> Result<Vec<Sight>, NoMemory>
     requires some { 2 ≤ budget }
-    requires few { budget ≤ 1048576 }
+    requires few { budget ≤ MOST_LEAVES }
     requires short { length path.now ≤ 1000000 }
     ensures best { IfOk result (λ sights. AreBestFrom grid budget path.now sights.items) }
 {

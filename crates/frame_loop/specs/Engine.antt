@@ -15,6 +15,7 @@ use Rattle.deferred_loop.specs.Seen.{IsCountedBy}
 use Rattle.deferred_loop.specs.Choice.{IsSparing}
 use Rattle.deferred_loop.specs.Promise.{IsAtMost, IsAtLeast, AreStampsGood}
 use Rattle.obj_write.specs.Numbers.{numbers_of}
+use Rattle.triangle_pool.specs.declared.pool.TheConstants.{MOST_LEAVES}
 use Rattle.roam_mesh.specs.Mesh.{MeshState, stamp_of, pool_members, pool_set, seen_of, with_expired, OnlyEntriesStamped}
 use Rattle.frame_loop.specs.Outlook.{OutlookState, outlook_of, told_of, readings_of, AreBracketed}
 use Rattle.frame_loop.specs.Marks.{marks_seen}
@@ -40,7 +41,7 @@ pub record IsEngine (e : EngineState) : Type 0 where
   pub n_high : e.state.grid.n ≤ GREATEST_LEVEL
   pub n : e.mesh.pool.n ≡ e.state.grid.n
   pub most_low : 2 ≤ e.most
-  pub most_high : e.most ≤ 1048576
+  pub most_high : e.most ≤ MOST_LEAVES
   pub pool_most : e.mesh.pool.most ≡ min e.most (2 * 4 ^ e.state.grid.n)
   pub budget_low : 2 ≤ e.state.budget
   pub budget_high : e.state.budget ≤ e.most

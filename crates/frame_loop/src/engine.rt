@@ -6,6 +6,7 @@ ghost use Rattle.mesh_defs.specs.State.{start_state, with_camera, with_budget, m
 ghost use Rattle.mesh_defs.specs.Triangle.{level_of};
 ghost use Rattle.mesh_defs.specs.ClosedSet.{leaves_of, among};
 ghost use Rattle.edge_laws.specs.Slots.{split_set};
+ghost use Rattle.triangle_pool.specs.declared.pool.TheConstants.{MOST_LEAVES};
 ghost use Rattle.obj_write.specs.Numbers.{numbers_of};
 ghost use Rattle.mesh_defs.specs.HeightField.{side_of};
 ghost use Rattle.mesh_defs.specs.declared.level.TheConstants.{GREATEST_LEVEL};
@@ -74,7 +75,7 @@ impl Engine {
     /// The engine of a grid: seen from (0, 0, 0), no plane, the two halves of the square. All memory is taken here.
     pub fn make(alloc: Global, grid: Grid, budget: u32, spacing: u32) -> Result<Engine, NoMemory>
         requires some { 2 ≤ budget }
-        requires few { budget ≤ 1048576 }
+        requires few { budget ≤ MOST_LEAVES }
         requires spacing_low { 1 ≤ spacing }
         requires spacing_high { spacing ≤ 1024 }
         ensures state { IfOk result (λ e. e.state ≡ start_state grid spacing budget) }

@@ -10,6 +10,7 @@ use Rattle.edge_laws.specs.Slots.{address_at, has_children, split_set, room_of, 
 use Rattle.edge_laws.proofs.SlotLemmas.{pair_of}
 use Rattle.edge_laws.specs.Chief.{chief_of}
 use Rattle.triangle_pool.specs.Slots.{PoolState}
+use Rattle.triangle_pool.specs.declared.pool.TheConstants.{MOST_LEAVES}
 use Rattle.roam_mesh.specs.Parts.{PartsState, blank, entry_at, is_leaf_at, is_bare, is_ready, is_ready_at, is_chief_at, is_entry_at, is_out, leaf_rank, diamond_rank, IsSlotList, IsWhole, IsNear, IsParts}
 use Rattle.roam_mesh.specs.Base.{AreEmpty}
 use Rattle.roam_mesh.specs.declared.entry.Entry.{Entry}
@@ -126,7 +127,7 @@ no_list entries mark none all = record { distinct = tt; marked = λ s. ap mark (
 
 -- parts with nothing in the heaps
 pub empty_whole : (pool : PoolState) (entries : List Entry) (split merge : List (Option Rank)) (due : List (Option ℕ)) (asked fresh : List ℕ) →
-    pool.most ≤ 1048576 → length pool.pairs + 1 ≡ pool.most → slice_index pool.pairs 0 ≡ 1 → ((s : ℕ) → slice_index_or entries s blank ≡ blank) →
+    pool.most ≤ MOST_LEAVES → length pool.pairs + 1 ≡ pool.most → slice_index pool.pairs 0 ≡ 1 → ((s : ℕ) → slice_index_or entries s blank ≡ blank) →
     length entries ≡ 2 * length pool.pairs → length split ≡ 2 * length pool.pairs → length merge ≡ 2 * length pool.pairs → length due ≡ 2 * length pool.pairs →
     asked ≡ [] → fresh ≡ [] →
     IsWhole (record { pool = pool; entries = entries; split = split; merge = merge; due = due; asked = asked; fresh = fresh })
@@ -145,7 +146,7 @@ empty_whole pool entries split merge due asked fresh few pairs root all long_ent
 
 -- all at once
 pub empty_parts : (pool : PoolState) (leaves count : ℕ) (entries : List Entry) (split merge : List (Option Rank)) (due : List (Option ℕ)) →
-    2 ≤ leaves → leaves ≤ 1048576 → pool.most ≡ leaves → IsPool pool.n pool.pairs → count + room_of pool.pairs ≡ pool.most → count ≡ length (leaves_of pool.n (split_set pool.pairs)) →
+    2 ≤ leaves → leaves ≤ MOST_LEAVES → pool.most ≡ leaves → IsPool pool.n pool.pairs → count + room_of pool.pairs ≡ pool.most → count ≡ length (leaves_of pool.n (split_set pool.pairs)) →
     slice_index pool.pairs 0 ≡ 1 → entries ≡ replicate (2 * leaves - 2) blank → split ≡ replicate (2 * leaves - 2) None → merge ≡ replicate (2 * leaves - 2) None →
     due ≡ replicate (2 * leaves - 2) None →
     IsWhole (record { pool = pool; entries = entries; split = split; merge = merge; due = due; asked = []; fresh = [] }) × (2 * leaves - 2 ≡ 2 * length pool.pairs)

@@ -9,6 +9,7 @@ use Rattle.mesh_defs.specs.ClosedSet.{among}
 use Rattle.edge_laws.specs.Edge.{mate_of}
 use Rattle.edge_laws.specs.Slots.{address_at, has_children, IsPool}
 use Rattle.triangle_pool.specs.Slots.{PoolState}
+use Rattle.triangle_pool.specs.declared.pool.TheConstants.{MOST_LEAVES}
 use Rattle.bintree_addr.specs.declared.rank.Rank.{Rank}
 use Rattle.bintree_addr.specs.declared.slot.Slot.{Slot}
 use Rattle.frame_steps.specs.Stamps.{Stamp}
@@ -132,7 +133,7 @@ pub record IsSlotList (entries : List Entry) (mark : Entry → Bool) (slots : Li
 
 -- There is a place for each slot, slots 0 and 1 have the halves of the square, and the marks say what is listed.
 pub record IsWhole (parts : PartsState) : Type 0 where
-  pub few : parts.pool.most ≤ 1048576
+  pub few : parts.pool.most ≤ MOST_LEAVES
   pub pairs : length parts.pool.pairs + 1 ≡ parts.pool.most
   pub root : slice_index parts.pool.pairs 0 ≡ 1
   pub entries : length parts.entries ≡ 2 * length parts.pool.pairs

@@ -5,6 +5,7 @@ ghost use Rattle.mesh_defs.specs.ClosedSet.{leaves_of, among};
 ghost use Rattle.mesh_defs.specs.Falling.{IsFalling};
 ghost use Rattle.mesh_defs.specs.declared.level.TheConstants.{GREATEST_LEVEL};
 ghost use Rattle.edge_laws.specs.Slots.{split_set, IsPool};
+ghost use Rattle.triangle_pool.specs.declared.pool.TheConstants.{MOST_LEAVES};
 ghost use Rattle.closure_laws.specs.Frame.{IsFrame};
 ghost use Rattle.frame_steps.specs.Steps.{IsFrameRun};
 ghost use Rattle.frame_steps.specs.Stamps.{StampsHold, ReadingsHold};
@@ -46,7 +47,7 @@ impl Mesh {
     pub fn make(alloc: Global, n: u32, leaves: u32) -> Result<Mesh, NoMemory>
         requires n { (1 ≤ n) × (n ≤ GREATEST_LEVEL) }
         requires some { 2 ≤ leaves }
-        requires few { leaves ≤ 1048576 }
+        requires few { leaves ≤ MOST_LEAVES }
         ensures n { IfOk result (λ m. m.pool.n ≡ n) }
         ensures most { IfOk result (λ m. m.pool.most ≡ leaves) }
         ensures base { IfOk result (λ m. (a : ℕ) → split_set m.pool.pairs a ≡ false) }

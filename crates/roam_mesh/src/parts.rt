@@ -3,6 +3,7 @@
 ghost use Rattle.std.specs.Prelude.{◌≡◌, ℕ, ◌+◌, ◌*◌, ◌<◌, ◌≤◌, ◌^◌, IfOk, [], None, Some, cond, nat_lt, false, replicate, slice_index, slice_index_or, slice_set};
 ghost use Rattle.mesh_defs.specs.declared.level.TheConstants.{GREATEST_LEVEL};
 ghost use Rattle.edge_laws.specs.Slots.{IsLive, IsPool};
+ghost use Rattle.triangle_pool.specs.declared.pool.TheConstants.{MOST_LEAVES};
 ghost use Rattle.roam_mesh.specs.Parts.{IsParts, blank, entry_at, leaf_rank};
 ghost use Rattle.roam_mesh.specs.Base.{AreEmpty};
 
@@ -57,7 +58,7 @@ impl Parts {
     pub fn new(alloc: Global, n: u32, leaves: u32) -> Result<Parts, NoMemory>
         requires n { (1 ≤ n) × (n ≤ GREATEST_LEVEL) }
         requires some { 2 ≤ leaves }
-        requires few { leaves ≤ 1048576 }
+        requires few { leaves ≤ MOST_LEAVES }
         ensures n { IfOk result (λ m. m.pool.n ≡ n) }
         ensures most { IfOk result (λ m. m.pool.most ≡ leaves) }
         ensures base { IfOk result (λ m. (i : ℕ) → slice_index m.pool.pairs i ≡ cond (nat_lt 0 i) 0 1) }
@@ -77,7 +78,7 @@ impl Parts {
     fn empty(alloc: Global, n: u32, leaves: u32) -> Result<Parts, NoMemory>
         requires n { (1 ≤ n) × (n ≤ GREATEST_LEVEL) }
         requires some { 2 ≤ leaves }
-        requires few { leaves ≤ 1048576 }
+        requires few { leaves ≤ MOST_LEAVES }
         ensures n { IfOk result (λ m. m.pool.n ≡ n) }
         ensures most { IfOk result (λ m. m.pool.most ≡ leaves) }
         ensures base { IfOk result (λ m. (i : ℕ) → slice_index m.pool.pairs i ≡ cond (nat_lt 0 i) 0 1) }

@@ -3,6 +3,7 @@
 ghost use Rattle.std.specs.Prelude.{◌≡◌, ℕ, ◌≤◌, false, None, cond, nat_eq, option_map, slice_index, IfOk};
 ghost use Rattle.mesh_defs.specs.declared.level.TheConstants.{GREATEST_LEVEL};
 ghost use Rattle.edge_laws.specs.Slots.{split_set, IsPool};
+ghost use Rattle.triangle_pool.specs.declared.pool.TheConstants.{MOST_LEAVES};
 ghost use Rattle.deferred_loop.specs.Seen.{IsQuiet};
 ghost use Rattle.roam_mesh.specs.Mesh.{stamp_of, with_expired, OnlyEntriesStamped};
 ghost use Rattle.roam_mesh.specs.Parts.{mesh_of, seen_parts};
@@ -20,7 +21,7 @@ impl QueuedParts {
     pub fn make(alloc: Global, n: u32, leaves: u32) -> Result<QueuedParts, NoMemory>
         requires n { (1 ≤ n) × (n ≤ GREATEST_LEVEL) }
         requires some { 2 ≤ leaves }
-        requires few { leaves ≤ 1048576 }
+        requires few { leaves ≤ MOST_LEAVES }
         ensures n { IfOk result (λ m. m.pool.n ≡ n) }
         ensures most { IfOk result (λ m. m.pool.most ≡ leaves) }
         ensures base { IfOk result (λ m. (a : ℕ) → split_set m.pool.pairs a ≡ false) }

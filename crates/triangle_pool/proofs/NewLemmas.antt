@@ -13,6 +13,7 @@ use Rattle.edge_laws.specs.Net.{nowhere}
 use Rattle.edge_laws.proofs.MateLemmas.{mate_of-root, mate_of-first}
 use Rattle.edge_laws.proofs.OwnerLemmas.{owner_cases, owner-split}
 use Rattle.triangle_pool.specs.declared.forest.Node.{Node}
+use Rattle.triangle_pool.specs.declared.pool.TheConstants.{MOST_LEAVES}
 use Rattle.edge_laws.specs.Slots.{address_at, has_children, IsLive, split_set, room_of}
 use Rattle.triangle_pool.specs.Slots.{FreeState, IsFree}
 use Rattle.triangle_pool.specs.Links.{blank, node_at, edge_link, IsForest, IsMesh, HasPairs}
@@ -176,7 +177,7 @@ first_free pairs free how_many count some one rest none unused all =
       distinct = λ i j p q e. absurd (omega arith);
     }
 
-pub first_pairs : (most : ℕ) (pairs : List ℕ) (free : FreeState) → 2 ≤ most → most ≤ 1048576 → length pairs ≡ most - 1 → get_or pairs 0 0 ≡ 1 → ((i : ℕ) → i ≢ 0 → get_or pairs i 0 ≡ 0) →
+pub first_pairs : (most : ℕ) (pairs : List ℕ) (free : FreeState) → 2 ≤ most → most ≤ MOST_LEAVES → length pairs ≡ most - 1 → get_or pairs 0 0 ≡ 1 → ((i : ℕ) → i ≢ 0 → get_or pairs i 0 ≡ 0) →
     free.returned ≡ [] → free.unused ≡ 1 → free.pairs ≡ most - 1 → HasPairs most pairs free
 first_pairs most pairs free low high count one rest none unused all = record {
   most_low = low;

@@ -3,6 +3,7 @@ use Rattle.std.specs.Prelude.{◌≡◌, ◌≢◌, ◌⊎◌, ℕ, ◌+◌, ◌
 use Rattle.edge_laws.specs.Edge.{mate_of, owner}
 use Rattle.edge_laws.specs.Net.{nowhere, Net, IsLinked, IsTree}
 use Rattle.triangle_pool.specs.declared.forest.Node.{Node}
+use Rattle.triangle_pool.specs.declared.pool.TheConstants.{MOST_LEAVES}
 use Rattle.edge_laws.specs.Slots.{address_at, has_children, IsLive, split_set}
 use Rattle.triangle_pool.specs.Slots.{FreeState, IsFree}
 use Rattle.mesh_defs.specs.ClosedSet.{IsClosed}
@@ -107,7 +108,7 @@ pub record IsMesh (n : ℕ) (pairs parents : List ℕ) (nodes : List Node) : Typ
 -- the pool's pairs: as many as the greatest number of leaves asks for
 pub record HasPairs (most : ℕ) (pairs : List ℕ) (free : FreeState) : Type 0 where
   pub most_low : 2 ≤ most
-  pub most_high : most ≤ 1048576
+  pub most_high : most ≤ MOST_LEAVES
   pub pair_count : length pairs + 1 ≡ most
   pub vacancies : IsFree pairs free
 

@@ -9,6 +9,7 @@ ghost use Rattle.edge_laws.specs.Edge.{mate_of, owner};
 ghost use Rattle.edge_laws.specs.Net.{nowhere};
 ghost use Rattle.edge_laws.specs.LeafAcross.{IsLeafAcross};
 ghost use Rattle.edge_laws.specs.Slots.{address_at, has_children, IsLive, split_set, room_of, IsPool, IsSplit, IsMergeReady, IsMerge, HasLeaf, IsMateLive, diamond_size};
+ghost use Rattle.triangle_pool.specs.declared.pool.TheConstants.{MOST_LEAVES};
 ghost use Rattle.triangle_pool.specs.Answer.{triangle_at, corners_at, IsSlotAcross, numbers, AreChildren, IsBirth, children_of};
 
 use crate::forest::NOWHERE;
@@ -19,6 +20,9 @@ use bintree_addr::{Slot, Tri};
 use roam_edge::NoMemory;
 use std::alloc::Global;
 use std::marker::Model;
+
+/// The most leaves of a pool, since `new` takes the memory of all: 44 bytes a leaf, so 46 MB at most.
+pub const MOST_LEAVES: u32 = 1_048_576;
 
 /// The triangles of a mesh and those above them, each at a slot, with links to parent, children and neighbours.
 ///
@@ -76,7 +80,7 @@ impl Pool {
     pub fn new(alloc: Global, n: u32, leaves: u32) -> Result<Pool, NoMemory>
         requires n { (1 ≤ n) × (n ≤ GREATEST_LEVEL) }
         requires some { 2 ≤ leaves }
-        requires few { leaves ≤ 1048576 }
+        requires few { leaves ≤ MOST_LEAVES }
         ensures n { IfOk result (λ p. p.n ≡ n) }
         ensures most { IfOk result (λ p. p.most ≡ leaves) }
         ensures first { IfOk result (λ p. slice_index p.pairs 0 ≡ 1) }
