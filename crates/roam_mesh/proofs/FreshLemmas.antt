@@ -117,9 +117,9 @@ pushed_one_has parts s whole below new = record {
         (cases_Bool (eqb s r))
         ∙ ap (marked (entry_at parts r)) (sym (among-push parts.fresh s r))
 
--- nothing was pushed
-same_has : (parts : PartsState) → IsWhole parts → HasPushed parts parts []
-same_has parts whole = record {
+-- these slots are fresh already
+same_has : (parts : PartsState) (slots : List ℕ) → IsWhole parts → ((r : ℕ) → among parts.fresh r ≡ (among parts.fresh r || among slots r)) → HasPushed parts parts slots
+same_has parts slots whole fresh = record {
   pool = refl;
   split = refl;
   merge = refl;
@@ -127,7 +127,7 @@ same_has parts whole = record {
   asked = refl;
   whole = whole;
   entries = λ r. ap (marked (entry_at parts r)) (whole.fresh.marked r);
-  fresh = λ r. sym (or-false (among parts.fresh r));
+  fresh = fresh;
   placed = λ out placed. placed;
 }
 
@@ -135,22 +135,12 @@ same_has parts whole = record {
 pushed_has_one : (parts : PartsState) (s : ℕ) → IsWhole parts → s < length parts.entries → HasPushed parts (pushed parts s) (s ∷ [])
 pushed_has_one parts s whole below =
     cond_both (entry_at parts s).fresh parts (pushed_one parts s) (λ after. HasPushed parts after (s ∷ []))
-    (λ old. record {
-      pool = refl;
-      split = refl;
-      merge = refl;
-      due = refl;
-      asked = refl;
-      whole = whole;
-      entries = λ r. ap (marked (entry_at parts r)) (whole.fresh.marked r);
-      fresh = λ r. ⊎_elim
-          (λ (same : eqb s r ≡ true).
-          let there : among parts.fresh r ≡ true = subst (λ z. among parts.fresh z ≡ true) (eqb-true s r same) (sym (whole.fresh.marked s) ∙ old) in
-          there ∙ sym (or_left (among parts.fresh r) (among (s ∷ []) r) there))
-          (λ (other : eqb s r ≡ false). sym (or-false (among parts.fresh r)) ∙ sym (ap (λ b. among parts.fresh r || (b || false)) other))
-          (cases_Bool (eqb s r));
-      placed = λ out placed. placed;
-    })
+    (λ old. same_has parts (s ∷ []) whole (λ r. ⊎_elim
+    (λ (same : eqb s r ≡ true).
+    let there : among parts.fresh r ≡ true = subst (λ z. among parts.fresh z ≡ true) (eqb-true s r same) (sym (whole.fresh.marked s) ∙ old) in
+    there ∙ sym (or_left (among parts.fresh r) (among (s ∷ []) r) there))
+    (λ (other : eqb s r ≡ false). sym (or-false (among parts.fresh r)) ∙ sym (ap (λ b. among parts.fresh r || (b || false)) other))
+    (cases_Bool (eqb s r))))
     (λ new. pushed_one_has parts s whole below new)
 
 -- one listing after another
@@ -169,7 +159,7 @@ pushed_then before middle after xs ys both same one two = record {
 
 -- so it is with slots that are listed one after the other
 pub pushed_has : (parts : PartsState) (slots : List ℕ) → IsWhole parts → All (λ s. s < length parts.entries) slots → HasPushed parts (pushed_all parts slots) slots
-pushed_has parts [] whole below = same_has parts whole
+pushed_has parts [] whole below = same_has parts [] whole (λ r. sym (or-false (among parts.fresh r)))
 pushed_has parts (s ∷ more) whole below =
     let one = pushed_has_one parts s whole (All-head (λ r. r < length parts.entries) s more below) in
     let size : length (pushed parts s).entries ≡ length parts.entries = one.whole.entries ∙ ap (λ (p : PoolState). 2 * length p.pairs) one.pool ∙ sym whole.entries in
