@@ -1,13 +1,13 @@
 //! Making the reasons of a certificate: a queue of triangles whose causes are still to be listed.
 
-ghost use Rattle.std.specs.Prelude.{◌≡◌, ℕ, ◌+◌, ◌*◌, ◌/◌, ◌^◌, ◌<◌, ◌≤◌, ◌⊎◌, ◌↔◌, Bool, List, IsTrue, IfOk, OnOk, false, [], length};
+ghost use Rattle.std.specs.Prelude.{◌≡◌, ℕ, ◌+◌, ◌*◌, ◌/◌, ◌^◌, ◌<◌, ◌≤◌, ◌⊎◌, ◌↔◌, Bool, List, IsTrue, IfOk, IfSome, OnOk, false, [], length};
 ghost use Rattle.mesh_defs.specs.Triangle.{IsSplittable, IsMate};
 ghost use Rattle.mesh_defs.specs.declared.level.TheConstants.{GREATEST_LEVEL};
 ghost use Rattle.least_laws.specs.Sweep.{is_flagged};
 ghost use Rattle.certificate_laws.specs.declared.reason.Reason.{Reason};
 ghost use Rattle.certificate_laws.specs.Certificate.{named_in, AreReasons, AreAllReasons};
 ghost use Rattle.roam_certify.specs.Sight.{seen_by, IsSeen};
-ghost use Rattle.roam_certify.specs.Making.{IsListed, IsPushed, HasCauses, IsGrown, KeepsReasons, AreWanted, IsQueue};
+ghost use Rattle.roam_certify.specs.Making.{IsListed, IsPushed, IsCause, HasCauses, IsGrown, KeepsReasons, AreWanted, IsQueue};
 
 use crate::sight::{Sight, told};
 use address_flags::{end, flag, is_set};
@@ -157,58 +157,32 @@ fn push_causes(
     ensures grown { OnOk result (IsGrown reasons.old.items reasons.new.items) }
     ensures causes { OnOk result (length reasons.new.items < limit → HasCauses n reasons.new.items t) }
 {
-    push_parent(reasons, flags, limit, n, t)?;
-    push_mate(reasons, flags, limit, n, t)?;
+    push_cause(reasons, flags, limit, n, Kind::Parent, t.parent())?;
+    push_cause(reasons, flags, limit, n, Kind::Mate, t.mate(n))?;
     Ok(())
 }
 
-/// Lists the parent of a listed triangle.
-fn push_parent(
+/// Lists a cause of a listed triangle, where it has one.
+fn push_cause(
     reasons: &mut Vec<Reason>,
     flags: &mut [bool],
     limit: usize,
     n: u32,
-    t: Tri,
+    kind: Kind,
+    cause: Option<Tri>,
 ) -> Result<(), NoMemory>
-    requires in_grid { (1 ≤ n) × (n ≤ GREATEST_LEVEL) }
     requires listed { IsListed n limit flags.old reasons.old.items }
-    requires named { IsTrue (named_in reasons.old.items t) }
+    requires cause { IfSome cause (IsCause n reasons.old.items kind) }
     ensures listed { OnOk result (IsListed n limit flags.new reasons.new.items) }
     ensures reasoned { OnOk result (KeepsReasons n reasons.old.items reasons.new.items) }
     ensures grown { OnOk result (IsGrown reasons.old.items reasons.new.items) }
-    ensures parent { OnOk result (length reasons.new.items < limit → 4 ≤ t →
-        IsTrue (named_in reasons.new.items (t / 2))) }
+    ensures named { OnOk result (length reasons.new.items < limit →
+        IfSome cause (λ a. IsTrue (named_in reasons.new.items a))) }
 {
-    match t.parent() {
+    match cause {
         None => Ok(()),
-        Some(parent) => {
-            push_new(reasons, flags, limit, Kind::Parent, parent)?;
-            Ok(())
-        }
-    }
-}
-
-/// Lists the mate of a listed triangle.
-fn push_mate(
-    reasons: &mut Vec<Reason>,
-    flags: &mut [bool],
-    limit: usize,
-    n: u32,
-    t: Tri,
-) -> Result<(), NoMemory>
-    requires in_grid { (1 ≤ n) × (n ≤ GREATEST_LEVEL) }
-    requires listed { IsListed n limit flags.old reasons.old.items }
-    requires named { IsTrue (named_in reasons.old.items t) }
-    ensures listed { OnOk result (IsListed n limit flags.new reasons.new.items) }
-    ensures reasoned { OnOk result (KeepsReasons n reasons.old.items reasons.new.items) }
-    ensures grown { OnOk result (IsGrown reasons.old.items reasons.new.items) }
-    ensures mate { OnOk result (length reasons.new.items < limit →
-        (m : ℕ) → IsMate n t m → IsTrue (named_in reasons.new.items m)) }
-{
-    match t.mate(n) {
-        None => Ok(()),
-        Some(mate) => {
-            push_new(reasons, flags, limit, Kind::Mate, mate)?;
+        Some(t) => {
+            push_new(reasons, flags, limit, kind, t)?;
             Ok(())
         }
     }
