@@ -4,7 +4,7 @@ use Rattle.std.specs.Prelude.{option_map, ◌==◌}
 use Rattle.std.proofs.Math.Seq.{drop-cons}
 use Rattle.std.proofs.lemmas.Bool.{cond-true, cond-false, ne_eqb}
 use Rattle.std.proofs.lemmas.List.{length-take-le, take_more}
-use Rattle.mesh_compare.specs.Differs.{first_difference, IsFirstDifference, HasFront, Gives, Matches, Agrees, IsCutShort}
+use Rattle.mesh_compare.specs.Differs.{first_difference, FindsDifference, HasFront, Gives, Matches, Agrees, IsCutShort}
 use Rattle.mesh_compare.proofs.FileLemmas.{front-none, front-then}
 
 -- a place moved on by so many, and by one more
@@ -99,8 +99,8 @@ module _ (text : List ℕ) (file : Option (List ℕ)) (to_come : List ℕ) (left
   }
 
   -- the place of a difference further on
-  pub differs-later : (found : Option ℕ) → IsFirstDifference to_come left found →
-      IsFirstDifference text file (option_map (λ k. at + k) found)
+  pub differs-later : (found : Option ℕ) → FindsDifference to_come left found →
+      FindsDifference text file (option_map (λ k. at + k) found)
   differs-later found differs bytes is =
       let here = agrees.of_file bytes is in
       sym (ap₂ (λ xs ys. first_difference xs ys) agrees.of_text here.2
@@ -110,19 +110,19 @@ module _ (text : List ℕ) (file : Option (List ℕ)) (to_come : List ℕ) (left
 
   -- a difference in the next piece
   pub differs-in : (piece more : List ℕ) (left' : Option (List ℕ)) (k : ℕ) → to_come ≡ piece ++ more → Matches piece left left' (Some k) →
-      IsFirstDifference text file (Some (at + k))
+      FindsDifference text file (Some (at + k))
   differs-in piece more left' k is matches = differs-later (Some k) (rw is (matches.1 more))
 
   -- the file goes on behind the text
   pub differs-end : (byte : ℕ) (left' : Option (List ℕ)) → to_come ≡ [] → Gives (Some byte) left left' →
-      IsFirstDifference text file (Some at)
+      FindsDifference text file (Some at)
   differs-end byte left' none gives =
       let later = differs-later (Some 0) (λ bytes is. rw (none, (gives bytes is).2) refl) in
       let same : at + 0 ≡ at = omega arith in
       rw (← same) later
 
   -- both end
-  pub differs-nowhere : (left' : Option (List ℕ)) → to_come ≡ [] → Gives None left left' → IsFirstDifference text file None
+  pub differs-nowhere : (left' : Option (List ℕ)) → to_come ≡ [] → Gives None left left' → FindsDifference text file None
   differs-nowhere left' none gives = differs-later None (λ bytes is. rw (none, (gives bytes is).0) refl)
 
   -- all of the file was read then

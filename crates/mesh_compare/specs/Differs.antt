@@ -1,5 +1,5 @@
 -- Where a file differs from a text, and how far the two go together. This project's own words.
--- Words: first_difference, IsFirstDifference, HasFront, Gives, Matches, Agrees, IsCutShort, left_of.
+-- Words: first_difference, FindsDifference, HasFront, Gives, Matches, Agrees, IsCutShort, left_of.
 use Rattle.std.specs.Prelude.{◌≡◌, ℕ, suc, ◌<◌, ◌==◌, if◌then◌else◌, List, [], ◌∷◌, ◌++◌, length, Option, Some, None, option_map}
 use Rattle.roam_edge.specs.Told.{IsPrefix}
 
@@ -14,9 +14,9 @@ first_difference (a ∷ xs) (b ∷ bs) = if a == b then option_map (λ k. suc k)
 abbrev pub left_of : List ℕ → Option (List ℕ) → Option (List ℕ)
 left_of window unread = option_map (λ bytes. window ++ bytes) unread
 
--- where the file is told, this is the place of the difference
-abbrev pub IsFirstDifference : List ℕ → Option (List ℕ) → Option ℕ → Type 0
-IsFirstDifference text file found = (bytes : List ℕ) → file ≡ Some bytes → found ≡ first_difference text bytes
+-- where the file is told, what was found is the first difference of text and file
+abbrev pub FindsDifference : List ℕ → Option (List ℕ) → Option ℕ → Type 0
+FindsDifference text file found = (bytes : List ℕ) → file ≡ Some bytes → found ≡ first_difference text bytes
 
 -- where the file is told, it begins with these bytes, and this is left behind them
 abbrev pub HasFront : List ℕ → Option (List ℕ) → Option (List ℕ) → Type 0
@@ -31,7 +31,7 @@ Gives (Some byte) file left = HasFront (byte ∷ []) file left
 -- The file begins with this piece; or it differs from the piece at a place of it, whatever follows the piece.
 abbrev pub Matches : List ℕ → Option (List ℕ) → Option (List ℕ) → Option ℕ → Type 0
 Matches piece file left None = HasFront piece file left
-Matches piece file left (Some k) = (k < length piece) × ((more : List ℕ) → IsFirstDifference (piece ++ more) file (Some k))
+Matches piece file left (Some k) = (k < length piece) × ((more : List ℕ) → FindsDifference (piece ++ more) file (Some k))
 
 -- So many bytes of a text were compared, and the file has them. Of both the rest is left.
 pub record Agrees (text : List ℕ) (file : Option (List ℕ)) (to_come : List ℕ) (left : Option (List ℕ)) (at : ℕ) : Type 0 where

@@ -7,7 +7,7 @@ ghost use Rattle.mesh_defs.specs.MeshText.{mesh_text};
 ghost use Rattle.roam_edge.specs.Fault.{HasCause, Rose};
 ghost use Rattle.mesh_defs.specs.declared.level.TheConstants.{GREATEST_LEVEL};
 ghost use Rattle.wedgie_tree.specs.declared.wedges.TheConstants.{GREATEST_SPACING};
-ghost use Rattle.mesh_compare.specs.Differs.{IsFirstDifference, IsCutShort, left_of};
+ghost use Rattle.mesh_compare.specs.Differs.{FindsDifference, IsCutShort, left_of};
 ghost use Rattle.mesh_compare.specs.declared.comparing.CompareFault.{CompareFault};
 
 use crate::piece::match_piece;
@@ -49,7 +49,7 @@ pub fn compare<F: Shelf>(
     requires spacing_low { 1 ≤ spacing }
     requires spacing_high { spacing ≤ GREATEST_SPACING }
     requires not_ended { F.ended shelf.old ≡ false }
-    ensures place { IfOk result (λ found. IsFirstDifference
+    ensures place { IfOk result (λ found. FindsDifference
         (mesh_text w.now.n w.now.heights spacing [] cert.now.leaves) (F.rest shelf.old) found) }
     ensures ended { IfOk result (λ found. found ≡ None → F.ended shelf.new ≡ true) }
     ensures all_read { IfOk result (λ found. found ≡ None → (rest : List ℕ) → F.rest shelf.old ≡ Some rest →
@@ -103,7 +103,7 @@ fn compare_lines<F: Shelf>(
 ) -> Result<Option<u64>, Failed>
     requires few { lines.most < 2 ^ 32 }
     requires not_ended { F.ended shelf.old ≡ false }
-    ensures place { IfOk result (λ found. IsFirstDifference lines.entry.text (left_of window.old (F.rest shelf.old)) found) }
+    ensures place { IfOk result (λ found. FindsDifference lines.entry.text (left_of window.old (F.rest shelf.old)) found) }
     ensures ended { IfOk result (λ found. found ≡ None → F.ended shelf.new ≡ true) }
     ensures all_read { IfOk result (λ found. found ≡ None → (bytes : List ℕ) →
         left_of window.old (F.rest shelf.old) ≡ Some bytes → F.rest shelf.new ≡ Some []) }
