@@ -6,6 +6,7 @@ ghost use Rattle.mesh_defs.specs.Triangle.{level_of};
 ghost use Rattle.mesh_defs.specs.MeshText.{mesh_text};
 ghost use Rattle.roam_edge.specs.Fault.{HasCause, Rose};
 ghost use Rattle.mesh_defs.specs.declared.level.TheConstants.{GREATEST_LEVEL};
+ghost use Rattle.roam_edge.specs.Told.{StaysTold};
 ghost use Rattle.wedgie_tree.specs.declared.wedges.TheConstants.{GREATEST_SPACING};
 ghost use Rattle.mesh_compare.specs.Differs.{FindsDifference, IsCutShort, left_of};
 ghost use Rattle.mesh_compare.specs.declared.comparing.CompareFault.{CompareFault};
@@ -61,6 +62,7 @@ pub fn compare<F: Shelf>(
         (mesh_text w.now.n w.now.heights spacing [] cert.now.leaves) (F.rest shelf.old) (F.rest shelf.new) }
     ensures goes_on { result ≡ Err CompareFault.Failed → F.ended shelf.new ≡ false }
     ensures no_memory { result ≡ Err CompareFault.NoMemory → shelf.new ≡ shelf.old }
+    ensures told { StaysTold (F.rest shelf.old) (F.rest shelf.new) }
     ensures files { F.files shelf.new ≡ F.files shelf.old }
     ensures opens { F.opens shelf.new ≡ F.opens shelf.old }
 {
@@ -109,6 +111,7 @@ fn compare_lines<F: Shelf>(
         left_of window.old (F.rest shelf.old) ≡ Some bytes → F.rest shelf.new ≡ Some []) }
     ensures cut { OnErr result (IsCutShort lines.entry.text (left_of window.old (F.rest shelf.old)) (F.rest shelf.new)) }
     ensures goes_on { OnErr result (F.ended shelf.new ≡ false) }
+    ensures told { StaysTold (F.rest shelf.old) (F.rest shelf.new) }
     ensures files { F.files shelf.new ≡ F.files shelf.old }
     ensures opens { F.opens shelf.new ≡ F.opens shelf.old }
     ensures faults { HasCause (F.faults shelf.old) (F.faults shelf.new) result }

@@ -2,6 +2,7 @@
 
 ghost use Rattle.std.specs.Prelude.{◌≡◌, None, false, IfOk, OnErr};
 ghost use Rattle.roam_edge.specs.Fault.{HasCause};
+ghost use Rattle.roam_edge.specs.Told.{StaysTold};
 ghost use Rattle.mesh_compare.specs.Differs.{Matches, IsCutShort, left_of};
 
 use crate::window::Window;
@@ -20,6 +21,7 @@ pub(crate) fn match_piece<F: Shelf>(
     ensures goes_on { IfOk result (λ found. found ≡ None → F.ended shelf.new ≡ false) }
     ensures cut { OnErr result (IsCutShort piece.now (left_of window.old (F.rest shelf.old)) (F.rest shelf.new)) }
     ensures not_ended { OnErr result (F.ended shelf.new ≡ false) }
+    ensures told { StaysTold (F.rest shelf.old) (F.rest shelf.new) }
     ensures files { F.files shelf.new ≡ F.files shelf.old }
     ensures opens { F.opens shelf.new ≡ F.opens shelf.old }
     ensures faults { HasCause (F.faults shelf.old) (F.faults shelf.new) result }

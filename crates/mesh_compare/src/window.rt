@@ -2,6 +2,7 @@
 
 ghost use Rattle.std.specs.Prelude.{◌≡◌, ℕ, ◌+◌, ◌<◌, ◌≤◌, ◌∷◌, [], List, Some, None, true, false, ◌↔◌, IfOk, OnErr, MatchOption, is_none};
 ghost use Rattle.roam_edge.specs.Fault.{HasCause};
+ghost use Rattle.roam_edge.specs.Told.{StaysTold};
 ghost use Rattle.mesh_compare.specs.Differs.{Gives, left_of};
 
 use roam_edge::{Failed, NoMemory, Shelf};
@@ -50,6 +51,7 @@ impl Window {
         ensures used_up { OnErr result (self.old ≡ []) }
         ensures kept { OnErr result (F.rest shelf.new ≡ F.rest shelf.old) }
         ensures not_ended { OnErr result (F.ended shelf.new ≡ false) }
+        ensures told { StaysTold (F.rest shelf.old) (F.rest shelf.new) }
         ensures files { F.files shelf.new ≡ F.files shelf.old }
         ensures opens { F.opens shelf.new ≡ F.opens shelf.old }
         ensures faults { HasCause (F.faults shelf.old) (F.faults shelf.new) result }
@@ -84,6 +86,7 @@ impl Window {
         ensures goes_on { IfOk result (λ _. (self.new ≡ [] → ⊥) → F.ended shelf.new ≡ false) }
         ensures kept { OnErr result (F.rest shelf.new ≡ F.rest shelf.old) }
         ensures not_ended { OnErr result (F.ended shelf.new ≡ false) }
+        ensures told { StaysTold (F.rest shelf.old) (F.rest shelf.new) }
         ensures files { F.files shelf.new ≡ F.files shelf.old }
         ensures opens { F.opens shelf.new ≡ F.opens shelf.old }
         ensures faults { HasCause (F.faults shelf.old) (F.faults shelf.new) result }

@@ -44,6 +44,7 @@ lines-preserved g c =
         c.lines.invariant.room,
       );
       not_ended = search rules;
+      told = search rules;
       files = search rules;
       opens = search rules;
       calm = search rules;

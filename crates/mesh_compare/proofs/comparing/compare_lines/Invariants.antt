@@ -1,5 +1,6 @@
 use Rattle.std.proofs.Common.{◌≡◌, ◌+◌, ◌*◌, ◌≤◌, [], false}
 use Rattle.obj_write.specs.declared.lines.TheConstants.{LONGEST_PIECE}
+use Rattle.roam_edge.specs.Told.{StaysTold}
 use Rattle.mesh_compare.specs.Differs.{Agrees, left_of}
 use Rattle.mesh_compare.proofs.comparing.compare_lines.Given as goal
 
@@ -11,6 +12,7 @@ invariant-lines g l = record {
   clear : l.piece.items ≡ [];
   room : l.at + LONGEST_PIECE * l.lines.most ≤ LONGEST_PIECE * l.fn.lines.most;
   not_ended : g.F.Shelf.ended l.shelf ≡ false;
+  told : StaysTold (g.F.Shelf.rest l.fn.shelf) (g.F.Shelf.rest l.shelf);
   files : g.F.Shelf.files l.shelf ≡ g.F.Shelf.files l.fn.shelf;
   opens : g.F.Shelf.opens l.shelf ≡ g.F.Shelf.opens l.fn.shelf;
   calm : g.F.Shelf.faults l.shelf ≡ g.F.Shelf.faults l.fn.shelf;
