@@ -7,13 +7,13 @@ ghost use Rattle.roam_edge.specs.MeshSink.{Mesh};
 ghost use Rattle.roam_edge.specs.Shelf.{NamedFile, bytes_of};
 ghost use Rattle.run_laws.specs.Act.{ReportText, told};
 ghost use Rattle.run_laws.specs.Cause.{StatusHasCause, StatusWritesHaveCause};
-ghost use Rattle.run_laws.specs.Words.{Scripted, OnGrid, Generated, Frames, Facts, is_of_engine, command_of, file_count, Checking, AsMeshes};
+ghost use Rattle.run_laws.specs.Words.{Scripted, OnGrid, Generated, Frames, Facts, is_of_engine, command_of, file_count, Checking};
 ghost use Rattle.obj_write.specs.Written.{Grows};
-ghost use Rattle.run_laws.specs.CutShort.{StandsInText, LeavesAtWriteFault};
+ghost use Rattle.run_laws.specs.CutShort.{is_by_frame, StandsInText, LeavesAtWriteFault};
 ghost use Rattle.run_laws.specs.Picture.{IsCertified};
 ghost use Rattle.run_laws.specs.Outcome.{Outcome, IsOutcome, HasOneOutcome, text_outcome};
-ghost use Rattle.run_laws.specs.Promise.{Seen, seen, AreFiles, EndsRight, HasEnded, OpensForStatus, LeavesAtReadFault, LeavesAtNoMemory, IsAccepted, is_complete, ends_script, may_end, leaves_engine};
-ghost use Rattle.run_laws.specs.Headline.{IsRunOf, KeepsGoodMeshes, IsCheckOf, IsCertifiedMesh};
+ghost use Rattle.run_laws.specs.Promise.{Seen, seen, AreFiles, EndsRight, HasEnded, OpensForStatus, CommandReadFault, LeavesAtReadFault, CommandNoMemory, LeavesAtNoMemory, IsAccepted, is_complete, ends_script, may_end, leaves_engine};
+ghost use Rattle.run_laws.specs.Headline.{IsScriptRunOf, IsRunOf, KeepsGoodMeshes, IsCheckOf, IsCertifiedMesh};
 ghost use Rattle.roam_run.specs.EngineSeen.{engine_seen};
 ghost use Rattle.roam_run.specs.Taking.{DoesAs};
 ghost use Rattle.roam_run.specs.Leaving.{CommandEnds, CommandReadFault, CommandNoMemory};
@@ -131,7 +131,7 @@ pub fn roam<F: Shelf, M: MeshSink, R: Sink>(
         (map string_bytes words.now) }
     ensures write_fault { (files : List NamedFile) (run : Scripted) (grid : HeightField) (prefix : List ℕ) →
         F.files shelf.old ≡ Some files → result.status ≡ Status.WriteFault →
-        IsRunOf (map string_bytes words.now) files run grid → run.show ≡ AsMeshes prefix →
+        IsScriptRunOf (map string_bytes words.now) files run grid → IsTrue (is_by_frame run.show) →
         LeavesAtWriteFault (told (M.meshes meshes.old) (R.contents report.old))
         (told (M.meshes meshes.new) (R.contents report.new)) run grid (bytes_of files run.script) prefix }
     ensures text_fault { (files : List NamedFile) (end : Outcome) (text : List ℕ) →

@@ -44,11 +44,11 @@ module _ (best : FramesAreBest) (two : BudgetsAreTwo) (read_texts : TextsAreRead
   abbrev Keeps : Status → Type 0
   Keeps status = KeepsGoodMeshes s grid script all now.meshes status
 
-  read-grid : grid_of (bytes_of files run.grid_name) ≡ Ok grid
-  read-grid = read_texts grid (bytes_of files run.grid_name) run.valid run.file_text
+  read-grid : grid_of (bytes_of files run.run.grid_name) ≡ Ok grid
+  read-grid = read_texts grid (bytes_of files run.run.grid_name) run.run.valid run.run.file_text
 
   low : 2 ≤ s.budget
-  low = command-budget words run.grid_name (Frames s) run.is_command
+  low = command-budget words run.run.grid_name (Frames s) run.run.is_command
 
   -- the outcome of the words is that of the script
   script-outcome : (end : Outcome) → IsOutcome words files end → IsScriptOutcome s grid script end
@@ -56,7 +56,7 @@ module _ (best : FramesAreBest) (two : BudgetsAreTwo) (read_texts : TextsAreRead
   script-outcome end is =
       let P : Option Command → Type 0 = λ c. IsWordsOutcome c files end in
       let Q : Result HeightField PgmFault → Type 0 = λ r. IsGridOutcome (Frames s) r files end in
-      subst Q read-grid (subst P run.is_command is)
+      subst Q read-grid (subst P run.run.is_command is)
 
   -- frames that are the first of the script's
   first : (status : Status) → (IsTrue (ends_script status) → ⊥) → (firsts more : List State) (ps : List Picture) → (script_walk s grid script).frames ≡ firsts ++ more
@@ -83,7 +83,7 @@ module _ (best : FramesAreBest) (two : BudgetsAreTwo) (read_texts : TextsAreRead
       (ap (λ (l : List ℕ). (walk_of start l).frames) whole ∙ (ap (λ (w : Walk). w.frames) (walk_of-append start has.lines (has.begun ++ unread) has.whole) ∙ grown.1))
       has.shown (subst P has.done stands)
 
-  at-file : (status : Status) → (IsTrue (ends_script status) → ⊥) → (k : ℕ) → FileReadFault before now new (OnGrid run.grid_name (Frames s)) files k → Keeps status
+  at-file : (status : Status) → (IsTrue (ends_script status) → ⊥) → (k : ℕ) → FileReadFault before now new (OnGrid run.run.grid_name (Frames s)) files k → Keeps status
   at-file status unfinished zero fault =
       let P : List Act → Type 0 = λ l. Stands before now l in
       nothing status unfinished (subst P fault.has_read.1 fault.stands)
@@ -92,14 +92,14 @@ module _ (best : FramesAreBest) (two : BudgetsAreTwo) (read_texts : TextsAreRead
       let P : HeightField → Type 0 = λ g. ScriptHasRead s g fault.read fault.acts in
       let name : s.script ≡ fault.name = same_Some s.script fault.name fault.named in
       from-read status unfinished fault.read fault.unread fault.acts (ap (bytes_of files) name ∙ fault.cut)
-      (subst P (same-grid (grid_of (bytes_of files run.grid_name)) has.0 grid has.1 read-grid) has.2) fault.stands
+      (subst P (same-grid (grid_of (bytes_of files run.run.grid_name)) has.0 grid has.1 read-grid) has.2) fault.stands
   at-file status unfinished (suc (suc k)) fault = absurd (none-some fault.name fault.named)
 
   from-read-fault : (status : Status) → (IsTrue (ends_script status) → ⊥) → LeavesAtReadFault before now old new words → Keeps status
   from-read-fault status unfinished leaves =
-      let P : Command → Type 0 = λ c. FileReadFault before now new c files leaves.file in
-      at-file status unfinished leaves.file
-      (subst P (same-command leaves.command (OnGrid run.grid_name (Frames s)) (sym leaves.is_command ∙ run.is_command)) (leaves.at_file files told))
+      let P : Command → Type 0 = λ c. FileReadFault before now new c files leaves.leaves.file in
+      at-file status unfinished leaves.leaves.file
+      (subst P (same-command leaves.command (OnGrid run.run.grid_name (Frames s)) (sym leaves.is_command ∙ run.run.is_command)) (leaves.leaves.at_file files told))
 
   complete : (status : Status) → IsTrue (is_complete status) → status ≢ NoMemory → status ≢ ReadFault → EndsRight before now old new words files status → Keeps status
   complete status done m r ends =

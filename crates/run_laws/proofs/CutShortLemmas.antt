@@ -1,5 +1,5 @@
 -- Acts of frames that were cut short: which act was cut, and what stands of it.
-use Rattle.std.proofs.Common.{◌≡◌, ◌⊎◌, ℕ, zero, suc, ◌+◌, false, List, [], ◌∷◌, ◌++◌, take, Option, Some, None, slice_get, refl, sym, ◌∙◌, ap, subst, inl, inr, arith, append-nil}
+use Rattle.std.proofs.Common.{◌≡◌, ◌⊎◌, ℕ, zero, suc, ◌+◌, true, false, IsTrue, List, [], ◌∷◌, ◌++◌, take, Option, Some, None, slice_get, refl, sym, ◌∙◌, ap, subst, inl, inr, arith, append_assoc, append-nil}
 use Rattle.std.specs.Prelude.{◌≢◌, Result}
 use Rattle.std.proofs.lemmas.Option.{none-some}
 use Rattle.mesh_defs.specs.HeightField.{HeightField}
@@ -12,12 +12,12 @@ use Rattle.pgm_grid.specs.Laws.{TextsAreRead}
 use Rattle.run_laws.specs.declared.status.Status.{Status}
 use Rattle.run_laws.specs.declared.status.Status.TheVariants.{NoMemory, ReadFault, WriteFault}
 use Rattle.run_laws.specs.Walk.{Refusal}
-use Rattle.run_laws.specs.Words.{Show, AsMeshes, Frames, Command}
+use Rattle.run_laws.specs.Words.{Show, AsMeshes, AsStrips, AsLeast, AsMeasures, AsSums, Frames, Command}
 use Rattle.run_laws.specs.Act.{Act, WholeMesh, ReportText, Told, Stands, StandsInPart, IsCutShort, meshes_of, report_of}
-use Rattle.run_laws.specs.Picture.{Picture, triangles_of}
-use Rattle.run_laws.specs.Outcome.{Outcome, shown_acts, sum_acts, stop_acts, script_walk, IsScriptOutcome, IsGridOutcome, IsWordsOutcome, IsOutcome}
-use Rattle.run_laws.specs.ReportText.{frame_line, line_refusal}
-use Rattle.run_laws.specs.CutShort.{mesh_act, first_frames, StandsInMesh, StandsInText, StandsInFrame, CutRunsStand, CutTextsStand, WriteFaultsStand}
+use Rattle.run_laws.specs.Picture.{Picture, triangles_of, strip_triangles}
+use Rattle.run_laws.specs.Outcome.{Outcome, picture_acts, shown_acts, sum_acts, stop_acts, script_walk, IsScriptOutcome, IsGridOutcome, IsWordsOutcome, IsOutcome}
+use Rattle.run_laws.specs.ReportText.{frame_line, strip_line, least_line, measure_line, line_refusal}
+use Rattle.run_laws.specs.CutShort.{is_by_frame, first_frames, StandsInMesh, StandsInText, StandsInFrame, CutRunsStand, CutTextsStand, WriteFaultsStand}
 
 heads : (a b : Act) (xs ys : List Act) → a ∷ xs ≡ b ∷ ys → a ≡ b
 heads a b xs ys same = cc
@@ -30,88 +30,78 @@ not-empty : (done : List Act) (next : Act) (owed : List Act) → [] ≡ done ++ 
 not-empty [] next owed same = cc
 not-empty (d ∷ done) next owed same = cc
 
--- Which act was cut: the mesh or the line of a frame, of which the first has number k, or the refusal behind them all.
+-- Which act was cut: one of a frame, of which the first has number k, or one behind them all.
 
-record CutInMesh (prefix : List ℕ) (k : ℕ) (pictures : List Picture) (done : List Act) (next : Act) (j : ℕ) (picture : Picture) : Type 0 where
-  pub before : done ≡ shown_acts (AsMeshes prefix) k (take j pictures)
-  pub cut : next ≡ mesh_act prefix (k + j) picture
+-- two lists of acts, one behind the other, in one of which an act was cut
+split-at : (xs ys done : List Act) (next : Act) (owed : List Act) → xs ++ ys ≡ done ++ next ∷ owed
+    → ((more : List Act) × (xs ≡ done ++ next ∷ more)) ⊎ ((mine : List Act) × (done ≡ xs ++ mine) × (ys ≡ mine ++ next ∷ owed))
+split-at [] ys done next owed same = inr (done, refl, same)
+split-at (x ∷ xs) ys [] next owed same = inl (xs, ap (λ (a : Act). a ∷ xs) (heads _ _ _ _ same))
+split-at (x ∷ xs) ys (d ∷ done) next owed same =
+    let first = heads _ _ _ _ same in
+    elim (split-at xs ys done next owed (tails _ _ _ _ same)) [
+      | inl here ↦ (let is = here.1 in inl (here.0, cc))
+      | inr behind ↦ (let is = behind.1 in inr (behind.0, cc, behind.2))
+    ]
 
-record CutInLine (prefix : List ℕ) (k : ℕ) (pictures : List Picture) (done : List Act) (next : Act) (j : ℕ) (picture : Picture) : Type 0 where
-  pub before : done ≡ shown_acts (AsMeshes prefix) k (take j pictures) ++ mesh_act prefix (k + j) picture ∷ []
-  pub cut : next ≡ ReportText (frame_line (k + j) picture)
+-- the frame behind the first j was cut, with some of its acts done
+record CutInFrame (show : Show) (k : ℕ) (pictures : List Picture) (done : List Act) (next : Act) : Type 0 where
+  pub j : ℕ
+  pub picture : Picture
+  pub at : slice_get pictures j ≡ Some picture
+  pub mine : List Act
+  pub more : List Act
+  pub before : done ≡ shown_acts show k (take j pictures) ++ mine
+  pub cut : picture_acts show (k + j) picture ≡ mine ++ next ∷ more
 
-abbrev CutInFrame : List ℕ → ℕ → List Picture → List Act → Act → Type 0
-CutInFrame prefix k pictures done next =
-    (j : ℕ) × (picture : Picture) × (slice_get pictures j ≡ Some picture)
-    × (CutInMesh prefix k pictures done next j picture ⊎ CutInLine prefix k pictures done next j picture)
-
-abbrev CutInRefusal : List ℕ → ℕ → List Picture → Option Refusal → List Act → Act → Type 0
-CutInRefusal prefix k pictures stop done next =
-    (refusal : Refusal) × (stop ≡ Some refusal) × (done ≡ shown_acts (AsMeshes prefix) k pictures) × (next ≡ ReportText (line_refusal refusal))
+-- what is behind the frames was cut, with some of its acts done
+record CutBehind (show : Show) (k : ℕ) (pictures : List Picture) (behind done : List Act) (next : Act) (owed : List Act) : Type 0 where
+  pub mine : List Act
+  pub before : done ≡ shown_acts show k pictures ++ mine
+  pub cut : behind ≡ mine ++ next ∷ owed
 
 -- one frame more in front
-later : (prefix : List ℕ) (k : ℕ) (p : Picture) (ps : List Picture) (d c : Act) (done : List Act) (next : Act)
-    → d ≡ mesh_act prefix k p → c ≡ ReportText (frame_line k p) → CutInFrame prefix (k + 1) ps done next → CutInFrame prefix k (p ∷ ps) (d ∷ c ∷ done) next
-later prefix k p ps d c done next d_is c_is (j, picture, at, inl mesh) =
-    let places : k + 1 + j ≡ k + suc j = omega arith in
-    let in_front = mesh.before in (
-      suc j,
-      picture,
-      at,
-      inl (record {
-        before = cc;
-        cut = mesh.cut ∙ ap (λ n. mesh_act prefix n picture) places;
-      }),
-    )
-later prefix k p ps d c done next d_is c_is (j, picture, at, inr line) =
-    let places : k + 1 + j ≡ k + suc j = omega arith in
-    let in_front = line.before ∙ ap (λ n. shown_acts (AsMeshes prefix) (k + 1) (take j ps) ++ mesh_act prefix n picture ∷ []) places in (
-      suc j,
-      picture,
-      at,
-      inr (record {
-        before = cc;
-        cut = line.cut ∙ ap (λ n. ReportText (frame_line n picture)) places;
-      }),
-    )
+later : (show : Show) (k : ℕ) (p : Picture) (ps : List Picture) (rest done : List Act) (next : Act) → done ≡ picture_acts show k p ++ rest
+    → CutInFrame show (k + 1) ps rest next → CutInFrame show k (p ∷ ps) done next
+later show k p ps rest done next is cut =
+    let places : k + 1 + cut.j ≡ k + suc cut.j = omega arith in
+    record {
+      j = suc cut.j;
+      picture = cut.picture;
+      at = cut.at;
+      mine = cut.mine;
+      more = cut.more;
+      before = is ∙ (ap (λ (l : List Act). picture_acts show k p ++ l) cut.before
+          ∙ sym (append_assoc (picture_acts show k p) (shown_acts show (k + 1) (take cut.j ps)) cut.mine));
+      cut = ap (λ n. picture_acts show n cut.picture) (sym places) ∙ cut.cut;
+    }
 
-cut_at : (prefix : List ℕ) (k : ℕ) (pictures : List Picture) (stop : Option Refusal) (done : List Act) (next : Act) (owed : List Act)
-    → shown_acts (AsMeshes prefix) k pictures ++ stop_acts stop ≡ done ++ next ∷ owed
-    → CutInFrame prefix k pictures done next ⊎ CutInRefusal prefix k pictures stop done next
-cut_at prefix k [] None done next owed same = absurd (not-empty done next owed same)
-cut_at prefix k [] (Some refusal) [] next owed same = inr (refusal, refl, refl, sym (heads _ _ _ _ same))
-cut_at prefix k [] (Some refusal) (d ∷ done) next owed same = absurd (not-empty done next owed (tails _ _ _ _ same))
-cut_at prefix k (p ∷ ps) stop [] next owed same =
-    let number : k ≡ k + 0 = omega arith in
-    inl (
-      zero,
-      p,
-      refl,
-      inl (record {
+cut_at : (show : Show) (k : ℕ) (pictures : List Picture) (behind done : List Act) (next : Act) (owed : List Act)
+    → shown_acts show k pictures ++ behind ≡ done ++ next ∷ owed
+    → CutInFrame show k pictures done next ⊎ CutBehind show k pictures behind done next owed
+cut_at show k [] behind done next owed same = inr (record { mine = done; before = refl; cut = same })
+cut_at show k (p ∷ ps) behind done next owed same =
+    let number : k + 0 ≡ k = omega arith in
+    elim (split-at (picture_acts show k p) (shown_acts show (k + 1) ps ++ behind) done next owed
+    (sym (append_assoc (picture_acts show k p) (shown_acts show (k + 1) ps) behind) ∙ same)) [
+      | inl here ↦ inl (record {
+        j = zero;
+        picture = p;
+        at = refl;
+        mine = done;
+        more = here.0;
         before = refl;
-        cut = sym (heads _ _ _ _ same) ∙ ap (λ n. mesh_act prefix n p) number;
-      }),
-    )
-cut_at prefix k (p ∷ ps) stop (d ∷ []) next owed same =
-    let number : k ≡ k + 0 = omega arith in
-    inl (
-      zero,
-      p,
-      refl,
-      inr (record {
-        before = ap (λ (a : Act). a ∷ []) (sym (heads _ _ _ _ same) ∙ ap (λ n. mesh_act prefix n p) number);
-        cut = sym (heads _ _ _ _ (tails _ _ _ _ same)) ∙ ap (λ n. ReportText (frame_line n p)) number;
-      }),
-    )
-cut_at prefix k (p ∷ ps) stop (d ∷ c ∷ done) next owed same =
-    let behind = tails _ _ _ _ same in
-    elim (cut_at prefix (k + 1) ps stop done next owed (tails _ _ _ _ behind)) [
-      | inl frame ↦ inl (later prefix k p ps d c done next (sym (heads _ _ _ _ same)) (sym (heads _ _ _ _ behind)) frame)
-      | inr last ↦
-          let d_is = heads _ _ _ _ same in
-          let c_is = heads _ _ _ _ behind in
-          let in_front = last.2 in
-          inr (last.0, last.1, cc, last.3)
+        cut = ap (λ n. picture_acts show n p) number ∙ here.1;
+      })
+      | inr rest ↦ elim (cut_at show (k + 1) ps behind rest.0 next owed rest.2) [
+        | inl cut ↦ inl (later show k p ps rest.0 done next rest.1 cut)
+        | inr cut ↦ inr (record {
+          mine = cut.mine;
+          before = rest.1 ∙ (ap (λ (l : List Act). picture_acts show k p ++ l) cut.before
+              ∙ sym (append_assoc (picture_acts show k p) (shown_acts show (k + 1) ps) cut.mine));
+          cut = cut.cut;
+        })
+      ]
     ]
 
 -- What stands of it.
@@ -148,46 +138,104 @@ mesh_cases before now acts prefix number bytes (Some known) is part =
 text_case : (before now : Told) (acts : List Act) (bytes : List ℕ) → StandsInPart before now acts (ReportText bytes) → StandsInText before now acts bytes
 text_case before now acts bytes part = record { meshes = part.0; report = part.1 }
 
+-- one text was cut short behind some acts
+text_cut : (before now : Told) (acts : List Act) (bytes : List ℕ) (mine : List Act) (next : Act) (owed : List Act) → ReportText bytes ∷ [] ≡ mine ++ next ∷ owed
+    → StandsInPart before now (acts ++ mine) next → StandsInText before now acts bytes
+text_cut before now acts bytes [] next owed same part =
+    let P : List Act → Type 0 = λ l. StandsInPart before now l (ReportText bytes) in
+    text_case before now acts bytes (subst P (append-nil acts) (subst (λ (a : Act). StandsInPart before now (acts ++ []) a) (sym (heads _ _ _ _ same)) part))
+text_cut before now acts bytes (d ∷ mine) next owed same part = absurd (not-empty mine next owed (tails _ _ _ _ same))
+
+-- a mesh and a text behind it were cut short behind some acts
+mesh_cut : (before now : Told) (acts : List Act) (prefix : List ℕ) (number : ℕ) (bytes line : List ℕ) (mine : List Act) (next : Act) (owed : List Act)
+    → WholeMesh prefix number bytes ∷ (ReportText line ∷ []) ≡ mine ++ next ∷ owed → StandsInPart before now (acts ++ mine) next
+    → Stands before now acts ⊎ StandsInMesh before now acts prefix number bytes ⊎ StandsInText before now (acts ++ WholeMesh prefix number bytes ∷ []) line
+mesh_cut before now acts prefix number bytes line [] next owed same part =
+    let P : List Act → Type 0 = λ l. StandsInPart before now l (WholeMesh prefix number bytes) in
+    elim (mesh_cases before now acts prefix number bytes before.meshes refl
+    (subst P (append-nil acts) (subst (λ (a : Act). StandsInPart before now (acts ++ []) a) (sym (heads _ _ _ _ same)) part))) [
+      | inl none ↦ inl none
+      | inr some ↦ inr (inl some)
+    ]
+mesh_cut before now acts prefix number bytes line (d ∷ mine) next owed same part =
+    let first = heads _ _ _ _ same in
+    let P : List Act → Type 0 = λ l. StandsInPart before now l next in
+    inr (inr (text_cut before now (acts ++ WholeMesh prefix number bytes ∷ []) line mine next owed (tails _ _ _ _ same)
+    (subst P (ap (λ (a : Act). acts ++ a ∷ mine) (sym first) ∙ sym (append_assoc acts (WholeMesh prefix number bytes ∷ []) mine)) part)))
+
+-- the same, with the prefix that is shown
+with_prefix : (before now : Told) (acts : List Act) (prefix : List ℕ) (shown : Option (List ℕ)) (number : ℕ) (bytes line : List ℕ) → shown ≡ Some prefix
+    → Stands before now acts ⊎ StandsInMesh before now acts prefix number bytes ⊎ StandsInText before now (acts ++ WholeMesh prefix number bytes ∷ []) line
+    → Stands before now acts ⊎ ((other : List ℕ) × (shown ≡ Some other) × StandsInMesh before now acts other number bytes)
+    ⊎ StandsInText before now (acts ++ WholeMesh prefix number bytes ∷ []) line
+with_prefix before now acts prefix shown number bytes line is (inl none) = inl none
+with_prefix before now acts prefix shown number bytes line is (inr (inl some)) = inr (inl (prefix, is, some))
+with_prefix before now acts prefix shown number bytes line is (inr (inr text)) = inr (inr text)
+
+-- the acts of a frame were cut short behind those of the frames before it
+frame_cut : (before now : Told) (acts : List Act) (show : Show) (number : ℕ) (picture : Picture) (mine : List Act) (next : Act) (owed : List Act)
+    → picture_acts show number picture ≡ mine ++ next ∷ owed → StandsInPart before now (acts ++ mine) next → StandsInFrame before now acts show number picture
+frame_cut before now acts (AsMeshes prefix) number picture mine next owed same part =
+    with_prefix before now acts prefix (Some prefix) number (text_in picture.state (triangles_of picture)) (frame_line number picture) refl
+    (mesh_cut before now acts prefix number (text_in picture.state (triangles_of picture)) (frame_line number picture) mine next owed same part)
+frame_cut before now acts (AsStrips prefix) number picture mine next owed same part =
+    with_prefix before now acts prefix (Some prefix) number (text_in picture.state (strip_triangles picture)) (strip_line number picture) refl
+    (mesh_cut before now acts prefix number (text_in picture.state (strip_triangles picture)) (strip_line number picture) mine next owed same part)
+frame_cut before now acts (AsLeast prefix tolerance) number picture mine next owed same part =
+    with_prefix before now acts prefix (Some prefix) number (text_in picture.state (triangles_of picture)) (least_line number picture) refl
+    (mesh_cut before now acts prefix number (text_in picture.state (triangles_of picture)) (least_line number picture) mine next owed same part)
+frame_cut before now acts AsMeasures number picture mine next owed same part =
+    let line = text_cut before now acts (measure_line number picture) mine next owed same part in
+    let P : List Act → Type 0 = λ l. StandsInText before now l (measure_line number picture) in
+    inr (inr (subst P (sym (append-nil acts)) line))
+frame_cut before now acts (AsSums n seed) number picture mine next owed same part = absurd (not-empty mine next owed same)
+
 pub cut_runs : CutRunsStand
-cut_runs before now prefix pictures stop cut =
-    elim (cut_at prefix 1 pictures stop cut.done cut.next cut.owed (cut.in_order)) [
-      | inl frame ↦ inl (frame.0, frame.1, frame.2, in_frame frame.0 frame.1 frame.3)
-      | inr last ↦ inr (last.0, last.1, text_case before now _ _ (moved last.2 last.3))
+cut_runs before now show pictures stop cut =
+    elim (cut_at show 1 pictures (stop_acts stop) cut.done cut.next cut.owed cut.in_order) [
+      | inl frame ↦ inl (frame.j, frame.picture, frame.at, in_frame frame)
+      | inr last ↦ inr (in_refusal stop last)
     ]
   where
-    moved : {acts : List Act} {act : Act} → cut.done ≡ acts → cut.next ≡ act → StandsInPart before now acts act
-    moved {acts} {act} d n = subst (λ (a : List Act). StandsInPart before now a act) d (subst (λ (a : Act). StandsInPart before now cut.done a) n cut.standing)
+    in_frame : (frame : CutInFrame show 1 pictures cut.done cut.next) → StandsInFrame before now (first_frames show pictures frame.j) show (frame.j + 1) frame.picture
+    in_frame frame =
+        let number : frame.j + 1 ≡ 1 + frame.j = omega arith in
+        frame_cut before now (first_frames show pictures frame.j) show (frame.j + 1) frame.picture frame.mine cut.next frame.more
+        (ap (λ n. picture_acts show n frame.picture) number ∙ frame.cut)
+        (subst (λ (a : List Act). StandsInPart before now a cut.next) frame.before cut.standing)
 
-    in_frame : (j : ℕ) (picture : Picture) → CutInMesh prefix 1 pictures cut.done cut.next j picture ⊎ CutInLine prefix 1 pictures cut.done cut.next j picture
-        → StandsInFrame before now prefix pictures j picture
-    in_frame j picture (inl mesh) =
-        let number : 1 + j ≡ j + 1 = omega arith in
-        elim (mesh_cases before now (first_frames prefix pictures j) prefix (j + 1) (text_in picture.state (triangles_of picture)) before.meshes refl
-        (moved mesh.before (mesh.cut ∙ ap (λ n. mesh_act prefix n picture) number))) [
-          | inl none ↦ inl none
-          | inr some ↦ inr (inl some)
-        ]
-    in_frame j picture (inr line) =
-        let number : 1 + j ≡ j + 1 = omega arith in
-        inr (inr (text_case before now _ _ (moved
-        (line.before ∙ ap (λ n. first_frames prefix pictures j ++ mesh_act prefix n picture ∷ []) number)
-        (line.cut ∙ ap (λ n. ReportText (frame_line n picture)) number))))
+    in_refusal : (why : Option Refusal) → CutBehind show 1 pictures (stop_acts why) cut.done cut.next cut.owed
+        → (refusal : Refusal) × (why ≡ Some refusal) × StandsInText before now (shown_acts show 1 pictures) (line_refusal refusal)
+    in_refusal None last = absurd (not-empty last.mine cut.next cut.owed last.cut)
+    in_refusal (Some refusal) last = (
+      refusal,
+      refl,
+      text_cut before now (shown_acts show 1 pictures) (line_refusal refusal) last.mine cut.next cut.owed last.cut
+          (subst (λ (a : List Act). StandsInPart before now a cut.next) last.before cut.standing),
+    )
 
 pub cut_texts : CutTextsStand
-cut_texts before now bytes cut = only cut.done cut.next cut.owed cut.in_order cut.standing
-  where
-    only : (done : List Act) (next : Act) (owed : List Act) → ReportText bytes ∷ [] ≡ done ++ next ∷ owed → StandsInPart before now done next → StandsInText before now [] bytes
-    only [] next owed same part = text_case before now [] bytes (subst (λ (a : Act). StandsInPart before now [] a) (sym (heads _ _ _ _ same)) part)
-    only (d ∷ done) next owed same part = absurd (not-empty done next owed (tails _ _ _ _ same))
+cut_texts before now bytes cut = text_cut before now [] bytes cut.done cut.next cut.owed cut.in_order cut.standing
 
--- A run of `mesh` in which a write failed.
+-- A run in which a write failed.
 
 write-fault-is : (status other : Status) → status ≡ WriteFault → other ≢ WriteFault → status ≢ other
 write-fault-is status other failed not same = not (sym same ∙ failed)
 
+-- frames that are shown one by one have no sums behind them
+no-sums : (show : Show) (pictures : List Picture) → IsTrue (is_by_frame show) → sum_acts show pictures ≡ []
+no-sums (AsMeshes prefix) pictures is = refl
+no-sums (AsStrips prefix) pictures is = refl
+no-sums (AsLeast prefix tolerance) pictures is = refl
+no-sums AsMeasures pictures is = refl
+no-sums (AsSums n seed) pictures is = absurd (not_true is)
+  where
+    not_true : false ≡ true → ⊥
+    not_true e = cc
+
 pub write_faults : TextsAreRead → WriteFaultsStand
 unfolding IsOutcome
-write_faults read before now old new words files s grid prefix status ends failed run shown =
+write_faults read before now old new words files s grid status ends failed run by_frame =
     let e = ends.ends (write-fault-is status NoMemory failed (λ e. cc)) (write-fault-is status ReadFault failed (λ e. cc)) in
     let P : Option Command → Type 0 = λ c. IsWordsOutcome c files e.0 in
     let Q : Result HeightField PgmFault → Type 0 = λ r. IsGridOutcome (Frames s) r files e.0 in
@@ -195,10 +243,10 @@ write_faults read before now old new words files s grid prefix status ends faile
     let outcome : IsScriptOutcome s grid script e.0 = subst Q (read grid (bytes_of files run.grid_name) run.valid run.file_text) (subst P run.is_command e.1) in
     let R : List Act → Type 0 = λ acts. IsCutShort before now acts in
     let stop : Option Refusal = (script_walk s grid script).stop in
-    let acts : e.0.acts ≡ shown_acts (AsMeshes prefix) 1 outcome.0 ++ stop_acts stop =
-    ap (λ (o : Outcome). o.acts) outcome.2 ∙ ap (λ (show : Show). shown_acts show 1 outcome.0 ++ (sum_acts show outcome.0 ++ stop_acts stop)) shown in
+    let acts : e.0.acts ≡ shown_acts s.show 1 outcome.0 ++ stop_acts stop =
+    ap (λ (o : Outcome). o.acts) outcome.2 ∙ ap (λ (l : List Act). shown_acts s.show 1 outcome.0 ++ (l ++ stop_acts stop)) (no-sums s.show outcome.0 by_frame) in
     record {
       pictures = outcome.0;
       shown = outcome.1;
-      stands = cut_runs before now prefix outcome.0 stop (subst R acts (e.2.cut_short failed));
+      stands = cut_runs before now s.show outcome.0 stop (subst R acts (e.2.cut_short failed));
     }

@@ -1,7 +1,7 @@
 -- What stands where a write failed, frame by frame: one of four cases. This project's own words.
--- Words: mesh_act, first_frames, StandsInMesh, StandsInText, StandsInFrame, StandsInRun, LeavesAtWriteFault, CutRunsStand,
--- CutTextsStand, WriteFaultsStand.
-use Rattle.std.specs.Prelude.{◌≡◌, ◌⊎◌, ℕ, ◌+◌, false, List, [], ◌∷◌, ◌++◌, take, Option, Some, slice_get}
+-- Words: is_by_frame, shown_triangles, shown_line, mesh_acts, first_frames, StandsInMesh, StandsInText, StandsInFrame, StandsInRun,
+-- LeavesAtWriteFault, CutRunsStand, CutTextsStand, WriteFaultsStand.
+use Rattle.std.specs.Prelude.{◌≡◌, ◌⊎◌, ℕ, ◌+◌, Bool, true, false, IsTrue, List, [], ◌∷◌, ◌++◌, take, Option, None, Some, slice_get}
 use Rattle.mesh_defs.specs.State.{text_in}
 use Rattle.roam_edge.specs.MeshSink.{Mesh}
 use Rattle.mesh_defs.specs.HeightField.{HeightField}
@@ -11,21 +11,46 @@ use Rattle.obj_write.specs.Written.{mesh_with, Grows}
 use Rattle.run_laws.specs.Walk.{Refusal}
 use Rattle.run_laws.specs.declared.status.Status.{Status}
 use Rattle.run_laws.specs.declared.status.Status.TheVariants.{WriteFault}
-use Rattle.run_laws.specs.Words.{AsMeshes, Scripted}
+use Rattle.run_laws.specs.Words.{Show, AsMeshes, AsStrips, AsLeast, AsMeasures, AsSums, Scripted, prefix_of}
 use Rattle.run_laws.specs.Act.{Act, WholeMesh, ReportText, Told, Stands, IsCutShort, meshes_of, report_of}
-use Rattle.run_laws.specs.Picture.{Picture, triangles_of, ArePictures}
+use Rattle.run_laws.specs.Picture.{Picture, triangles_of, strip_triangles, ArePictures}
 use Rattle.run_laws.specs.Outcome.{shown_acts, stop_acts, script_walk}
 use Rattle.run_laws.specs.Promise.{Seen, EndsRight}
-use Rattle.run_laws.specs.Headline.{IsRunOf}
-use Rattle.run_laws.specs.ReportText.{frame_line, line_refusal}
+use Rattle.run_laws.specs.Headline.{IsScriptRunOf}
+use Rattle.run_laws.specs.ReportText.{frame_line, strip_line, least_line, measure_line, line_refusal}
 
--- the mesh of the frame of this number
-abbrev pub mesh_act : List ℕ → ℕ → Picture → Act
-mesh_act prefix number picture = WholeMesh prefix number (text_in picture.state (triangles_of picture))
+-- frames are shown one by one, and behind them nothing is told but a refusal
+abbrev pub is_by_frame : Show → Bool
+is_by_frame (AsMeshes prefix) = true
+is_by_frame (AsStrips prefix) = true
+is_by_frame (AsLeast prefix tolerance) = true
+is_by_frame AsMeasures = true
+is_by_frame (AsSums n seed) = false
 
--- the meshes and the lines of the first j frames
-abbrev pub first_frames : List ℕ → List Picture → ℕ → List Act
-first_frames prefix pictures j = shown_acts (AsMeshes prefix) 1 (take j pictures)
+-- the triangles of a frame in the order in which its mesh has them
+abbrev pub shown_triangles : Show → Picture → List ℕ
+shown_triangles (AsMeshes prefix) picture = triangles_of picture
+shown_triangles (AsStrips prefix) picture = strip_triangles picture
+shown_triangles (AsLeast prefix tolerance) picture = triangles_of picture
+shown_triangles AsMeasures picture = triangles_of picture
+shown_triangles (AsSums n seed) picture = triangles_of picture
+
+-- the line of the frame of this number; sums have none
+abbrev pub shown_line : Show → ℕ → Picture → List ℕ
+shown_line (AsMeshes prefix) number picture = frame_line number picture
+shown_line (AsStrips prefix) number picture = strip_line number picture
+shown_line (AsLeast prefix tolerance) number picture = least_line number picture
+shown_line AsMeasures number picture = measure_line number picture
+shown_line (AsSums n seed) number picture = []
+
+-- the mesh of a frame of this number with these bytes, where meshes are shown
+abbrev pub mesh_acts : Option (List ℕ) → ℕ → List ℕ → List Act
+mesh_acts None number bytes = []
+mesh_acts (Some prefix) number bytes = WholeMesh prefix number bytes ∷ []
+
+-- what is shown of the first j frames
+abbrev pub first_frames : Show → List Picture → ℕ → List Act
+first_frames show pictures j = shown_acts show 1 (take j pictures)
 
 -- these acts, and an unfinished mesh with a prefix of the bytes that were owed
 pub record StandsInMesh (before now : Told) (acts : List Act) (prefix : List ℕ) (number : ℕ) (bytes : List ℕ) : Type 0 where
@@ -39,38 +64,41 @@ pub record StandsInText (before now : Told) (acts : List Act) (bytes : List ℕ)
   pub report : (all : List ℕ) → before.report ≡ Some all → (front : List ℕ) × IsPrefix front bytes
       × (now.report ≡ Some (all ++ (report_of acts ++ front)))
 
--- The frame behind the first j was cut short: j whole meshes and j lines stand; or besides an unfinished mesh
--- with a prefix of the bytes of the next one; or the next mesh, whole, and a prefix of its line.
-abbrev pub StandsInFrame : Told → Told → List ℕ → List Picture → ℕ → Picture → Type 0
-StandsInFrame before now prefix pictures j picture =
-    Stands before now (first_frames prefix pictures j)
-    ⊎ StandsInMesh before now (first_frames prefix pictures j) prefix (j + 1) (text_in picture.state (triangles_of picture))
-    ⊎ StandsInText before now (first_frames prefix pictures j ++ mesh_act prefix (j + 1) picture ∷ []) (frame_line (j + 1) picture)
+-- The frame of this number was cut short behind these acts of the frames before it: they stand; or besides an unfinished mesh
+-- with a prefix of the bytes of this one, where meshes are shown; or its mesh, whole, and a prefix of its line.
+abbrev pub StandsInFrame : Told → Told → List Act → Show → ℕ → Picture → Type 0
+StandsInFrame before now acts show number picture =
+    Stands before now acts
+    ⊎ ((prefix : List ℕ) × (prefix_of show ≡ Some prefix)
+    × StandsInMesh before now acts prefix number (text_in picture.state (shown_triangles show picture)))
+    ⊎ StandsInText before now (acts ++ mesh_acts (prefix_of show) number (text_in picture.state (shown_triangles show picture)))
+    (shown_line show number picture)
 
--- A run of frames was cut short: in a frame, or in the line of a refusal behind all meshes and all lines.
-abbrev pub StandsInRun : Told → Told → List ℕ → List Picture → Option Refusal → Type 0
-StandsInRun before now prefix pictures stop =
-    ((j : ℕ) × (picture : Picture) × (slice_get pictures j ≡ Some picture) × StandsInFrame before now prefix pictures j picture)
-    ⊎ ((refusal : Refusal) × (stop ≡ Some refusal) × StandsInText before now (shown_acts (AsMeshes prefix) 1 pictures) (line_refusal refusal))
+-- A run of frames was cut short: in a frame behind the first j, or in the line of a refusal behind them all.
+abbrev pub StandsInRun : Told → Told → Show → List Picture → Option Refusal → Type 0
+StandsInRun before now show pictures stop =
+    ((j : ℕ) × (picture : Picture) × (slice_get pictures j ≡ Some picture)
+    × StandsInFrame before now (first_frames show pictures j) show (j + 1) picture)
+    ⊎ ((refusal : Refusal) × (stop ≡ Some refusal) × StandsInText before now (shown_acts show 1 pictures) (line_refusal refusal))
 
--- A write failed in a run of `mesh` over this grid and script: its frames show these pictures, and they or the refusal
--- behind them were cut short.
-pub record LeavesAtWriteFault (before now : Told) (s : Scripted) (grid : HeightField) (script : List ℕ) (prefix : List ℕ) : Type 0 where
+-- A write failed in a run over this grid and script: its frames show these pictures, and they or the refusal behind them
+-- were cut short.
+pub record LeavesAtWriteFault (before now : Told) (s : Scripted) (grid : HeightField) (script : List ℕ) : Type 0 where
   pub pictures : List Picture
   pub shown : ArePictures s.show [] (script_walk s grid script).frames pictures
-  pub stands : StandsInRun before now prefix pictures (script_walk s grid script).stop
+  pub stands : StandsInRun before now s.show pictures (script_walk s grid script).stop
 
 -- what stands of frames and a refusal that were cut short
 abbrev pub CutRunsStand : Type 0
-CutRunsStand = (before now : Told) (prefix : List ℕ) (pictures : List Picture) (stop : Option Refusal)
-    → IsCutShort before now (shown_acts (AsMeshes prefix) 1 pictures ++ stop_acts stop) → StandsInRun before now prefix pictures stop
+CutRunsStand = (before now : Told) (show : Show) (pictures : List Picture) (stop : Option Refusal)
+    → IsCutShort before now (shown_acts show 1 pictures ++ stop_acts stop) → StandsInRun before now show pictures stop
 
 -- what stands of one text that was cut short: a prefix of it
 abbrev pub CutTextsStand : Type 0
 CutTextsStand = (before now : Told) (bytes : List ℕ) → IsCutShort before now (ReportText bytes ∷ []) → StandsInText before now [] bytes
 
--- where a write failed in a run of `mesh`, one of the four cases is there
+-- where a write failed in a run that shows its frames one by one, one of the four cases is there
 abbrev pub WriteFaultsStand : Type 0
 WriteFaultsStand = (before now : Told) (old new : Seen) (words : List (List ℕ)) (files : List NamedFile) (s : Scripted) (grid : HeightField)
-    (prefix : List ℕ) (status : Status) → EndsRight before now old new words files status → status ≡ WriteFault
-    → IsRunOf words files s grid → s.show ≡ AsMeshes prefix → LeavesAtWriteFault before now s grid (bytes_of files s.script) prefix
+    (status : Status) → EndsRight before now old new words files status → status ≡ WriteFault
+    → IsScriptRunOf words files s grid → IsTrue (is_by_frame s.show) → LeavesAtWriteFault before now s grid (bytes_of files s.script)

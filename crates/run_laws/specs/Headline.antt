@@ -1,6 +1,6 @@
 -- The headline: each frame's mesh is a best mesh within the budget in force, whatever the mesh before; or the least mesh of a
 -- tolerance.
--- Words: IsBestIn, IsBestStripIn, IsLeastIn, IsGoodText, IsGoodFrame, AreGoodFrames, IsRunOf, KeepsGoodMeshes,
+-- Words: IsBestIn, IsBestStripIn, IsLeastIn, IsGoodText, IsGoodFrame, AreGoodFrames, IsScriptRunOf, IsRunOf, KeepsGoodMeshes,
 -- IsCheckOf, IsCertifiedMesh.
 use Rattle.std.specs.Prelude.{◌≡◌, ⊤, ℕ, ◌+◌, ◌≤◌, Bool, true, IsTrue, IsSome, List, [], ◌∷◌, ◌++◌, length, count_by, nat_eq, All, Contains, Option, Some}
 use Rattle.mesh_defs.specs.HeightField.{HeightField, IsHeightField}
@@ -64,14 +64,17 @@ AreGoodFrames show number [] (mesh ∷ meshes) = ⊥
 AreGoodFrames show number (state ∷ states) (mesh ∷ meshes) =
     (mesh.finished ≡ true → IsGoodFrame show number state mesh) × AreGoodFrames show (number + 1) states meshes
 
--- The words are a command that writes a mesh for each frame of a script; the file of its grid is a text of
--- this grid.
-pub record IsRunOf (words : List (List ℕ)) (files : List NamedFile) (s : Scripted) (grid : HeightField) : Type 0 where
+-- The words are a command on the frames of a script; the file of its grid is a text of this grid.
+pub record IsScriptRunOf (words : List (List ℕ)) (files : List NamedFile) (s : Scripted) (grid : HeightField) : Type 0 where
   pub grid_name : List ℕ
   pub is_command : command_of words ≡ Some (OnGrid grid_name (Frames s))
-  pub meshes : IsSome (prefix_of s.show)
   pub valid : IsHeightField grid
   pub file_text : IsFileText grid (bytes_of files grid_name)
+
+-- so of a command that writes a mesh for each frame
+pub record IsRunOf (words : List (List ℕ)) (files : List NamedFile) (s : Scripted) (grid : HeightField) : Type 0 where
+  pub meshes : IsSome (prefix_of s.show)
+  pub run : IsScriptRunOf words files s grid
 
 -- The meshes that were there stay, and behind them came good frames, those of the first frame lines in order,
 -- each seen in the state at its line; and where the script was carried out to its end or its refusal, one for

@@ -268,9 +268,9 @@ returns-in-Some-Check-clause-certified g c files check grid told_files is_check 
     (returns-in-Some-Check-clause-outcome g c files (λ some. told_files)) done
 
 pub returns-in-None-clause-write_fault : goal.returns-in-None-clause-write_fault
-returns-in-None-clause-write_fault g c files run grid prefix is_told failed is_run shown =
-    c.cut_short_laws.ensures.write_faults _ _ _ _ (map string_bytes c.args.words.now) files run grid prefix _
-    (returns-in-None-clause-outcome g c files (λ _. is_told)) failed is_run shown
+returns-in-None-clause-write_fault g c files run grid is_told failed is_run by_frame =
+    c.cut_short_laws.ensures.write_faults _ _ _ _ (map string_bytes c.args.words.now) files run grid _
+    (returns-in-None-clause-outcome g c files (λ _. is_told)) failed is_run by_frame
 
 pub returns-in-None-clause-text_fault : goal.returns-in-None-clause-text_fault
 returns-in-None-clause-text_fault g c files end text are failed one outcome acts =
@@ -278,9 +278,9 @@ returns-in-None-clause-text_fault g c files end text are failed one outcome acts
     (returns-in-None-clause-outcome g c files are) failed one end text outcome acts
 
 pub returns-in-Some-Frames-clause-write_fault : goal.returns-in-Some-Frames-clause-write_fault
-returns-in-Some-Frames-clause-write_fault g c files run grid prefix is_told failed is_run shown =
-    c.cut_short_laws.ensures.write_faults _ _ _ _ (map string_bytes c.args.words.now) files run grid prefix _
-    (returns-in-Some-Frames-clause-outcome g c files (λ _. is_told)) failed is_run shown
+returns-in-Some-Frames-clause-write_fault g c files run grid is_told failed is_run by_frame =
+    c.cut_short_laws.ensures.write_faults _ _ _ _ (map string_bytes c.args.words.now) files run grid _
+    (returns-in-Some-Frames-clause-outcome g c files (λ _. is_told)) failed is_run by_frame
 
 pub returns-in-Some-Frames-clause-text_fault : goal.returns-in-Some-Frames-clause-text_fault
 returns-in-Some-Frames-clause-text_fault g c files end text are failed one outcome acts =
@@ -288,9 +288,9 @@ returns-in-Some-Frames-clause-text_fault g c files end text are failed one outco
     (returns-in-Some-Frames-clause-outcome g c files are) failed one end text outcome acts
 
 pub returns-in-Some-Info-clause-write_fault : goal.returns-in-Some-Info-clause-write_fault
-returns-in-Some-Info-clause-write_fault g c files run grid prefix is_told failed is_run shown =
-    c.cut_short_laws.ensures.write_faults _ _ _ _ (map string_bytes c.args.words.now) files run grid prefix _
-    (returns-in-Some-Info-clause-outcome g c files (λ _. is_told)) failed is_run shown
+returns-in-Some-Info-clause-write_fault g c files run grid is_told failed is_run by_frame =
+    c.cut_short_laws.ensures.write_faults _ _ _ _ (map string_bytes c.args.words.now) files run grid _
+    (returns-in-Some-Info-clause-outcome g c files (λ _. is_told)) failed is_run by_frame
 
 pub returns-in-Some-Info-clause-text_fault : goal.returns-in-Some-Info-clause-text_fault
 returns-in-Some-Info-clause-text_fault g c files end text are failed one outcome acts =
@@ -298,9 +298,9 @@ returns-in-Some-Info-clause-text_fault g c files end text are failed one outcome
     (returns-in-Some-Info-clause-outcome g c files are) failed one end text outcome acts
 
 pub returns-in-Some-Try-clause-write_fault : goal.returns-in-Some-Try-clause-write_fault
-returns-in-Some-Try-clause-write_fault g c files run grid prefix is_told failed is_run shown =
-    c.cut_short_laws.ensures.write_faults _ _ _ _ (map string_bytes c.args.words.now) files run grid prefix _
-    (returns-in-Some-Try-clause-outcome g c files (λ _. is_told)) failed is_run shown
+returns-in-Some-Try-clause-write_fault g c files run grid is_told failed is_run by_frame =
+    c.cut_short_laws.ensures.write_faults _ _ _ _ (map string_bytes c.args.words.now) files run grid _
+    (returns-in-Some-Try-clause-outcome g c files (λ _. is_told)) failed is_run by_frame
 
 pub returns-in-Some-Try-clause-text_fault : goal.returns-in-Some-Try-clause-text_fault
 returns-in-Some-Try-clause-text_fault g c files end text are failed one outcome acts =
@@ -308,9 +308,9 @@ returns-in-Some-Try-clause-text_fault g c files end text are failed one outcome 
     (returns-in-Some-Try-clause-outcome g c files are) failed one end text outcome acts
 
 pub returns-in-Some-Make-clause-write_fault : goal.returns-in-Some-Make-clause-write_fault
-returns-in-Some-Make-clause-write_fault g c files run grid prefix is_told failed is_run shown =
-    c.cut_short_laws.ensures.write_faults _ _ _ _ (map string_bytes c.args.words.now) files run grid prefix _
-    (returns-in-Some-Make-clause-outcome g c files (λ _. is_told)) failed is_run shown
+returns-in-Some-Make-clause-write_fault g c files run grid is_told failed is_run by_frame =
+    c.cut_short_laws.ensures.write_faults _ _ _ _ (map string_bytes c.args.words.now) files run grid _
+    (returns-in-Some-Make-clause-outcome g c files (λ _. is_told)) failed is_run by_frame
 
 pub returns-in-Some-Make-clause-text_fault : goal.returns-in-Some-Make-clause-text_fault
 returns-in-Some-Make-clause-text_fault g c files end text are failed one outcome acts =
@@ -318,9 +318,9 @@ returns-in-Some-Make-clause-text_fault g c files end text are failed one outcome
     (returns-in-Some-Make-clause-outcome g c files are) failed one end text outcome acts
 
 pub returns-in-Some-Check-clause-write_fault : goal.returns-in-Some-Check-clause-write_fault
-returns-in-Some-Check-clause-write_fault g c files run grid prefix is_told failed is_run shown =
-    c.cut_short_laws.ensures.write_faults _ _ _ _ (map string_bytes c.args.words.now) files run grid prefix _
-    (returns-in-Some-Check-clause-outcome g c files (λ _. is_told)) failed is_run shown
+returns-in-Some-Check-clause-write_fault g c files run grid is_told failed is_run by_frame =
+    c.cut_short_laws.ensures.write_faults _ _ _ _ (map string_bytes c.args.words.now) files run grid _
+    (returns-in-Some-Check-clause-outcome g c files (λ _. is_told)) failed is_run by_frame
 
 pub returns-in-Some-Check-clause-text_fault : goal.returns-in-Some-Check-clause-text_fault
 returns-in-Some-Check-clause-text_fault g c files end text are failed one outcome acts =
