@@ -1,18 +1,19 @@
 -- A certificate that is read from a shelf, byte by byte and piece by piece.
-use Rattle.std.proofs.Common.{◌≡◌, ◌≢◌, ℕ, ◌+◌, ◌<◌, ◌≤◌, Bool, true, false, List, [], ◌∷◌, ◌++◌, take, drop, length, Option, Some, None, Result, Ok, Err, IfOk, OnOk, refl, sym, ◌∙◌, ap, subst, arith, append_assoc}
+use Rattle.std.proofs.Common.{◌≡◌, ◌≢◌, ℕ, ◌+◌, ◌<◌, ◌≤◌, Bool, false, List, [], ◌∷◌, ◌++◌, take, drop, length, Option, Some, None, Result, Ok, Err, IfOk, OnOk, refl, sym, ◌∙◌, ap, subst, arith, append_assoc}
 use Rattle.mesh_defs.specs.BoundingBox.{CameraAt}
 use Rattle.roam_edge.specs.Shelf.{NamedFile, bytes_of}
 use Rattle.roam_script.specs.declared.limits.TheConstants.{MOST_LINE_BYTES}
 use Rattle.cert_text.specs.declared.limits.TheConstants.{MOST_LEAVES, MOST_REASONS}
 use Rattle.cert_text.specs.Certificate.{Certificate}
 use Rattle.cert_text.specs.CertReader.{ReadSoFar, Reading, nothing_read, cert_line_in}
-use Rattle.run_laws.specs.CertFile.{CertPlace, HasCertCome, cert_of, cert_in}
+use Rattle.run_laws.specs.CertFile.{CertPlace, HasCertCome, CertHasRead, cert_of, cert_in}
 use Rattle.run_laws.proofs.CertFileLemmas.{cert_place, cert-begin, cert-byte, cert-line, refused-line, refused-byte, cert-end, cert-last, refused-last}
 use Rattle.roam_run.specs.declared.cert_file.CertStage.{CertStage}
 use Rattle.roam_run.specs.declared.cert_file.CertStop.{CertStop}
 use Rattle.roam_run.specs.declared.cert_file.CertStop.TheVariants.{BadLine}
-use Rattle.roam_run.specs.CertStage.{place_seen, IsCounted, TakesCert, EndsCert, StopsCert}
-use Rattle.roam_run.proofs.FileLemmas.{IsOfFile, read-nothing, file-cut, read-more, read-all, not_at_end}
+use Rattle.roam_run.specs.FileStop.{StopsReading}
+use Rattle.roam_run.specs.CertStage.{place_seen, IsCounted, TakesCert, EndsCert}
+use Rattle.roam_run.proofs.FileLemmas.{IsOfFile, read-nothing, file-cut, read-more, read-all, stops-behind}
 
 -- the refusal of a line, as an answer
 abbrev refused : ℕ → Result Certificate ℕ
@@ -148,25 +149,10 @@ module _ (n : ℕ) (files : Option (List NamedFile)) (rest : Option (List ℕ)) 
 
   -- a read failed
   pub cert-failed : (rest' : Option (List ℕ)) (ended' : Bool) → rest' ≡ rest → ended' ≡ false → (all : List NamedFile) → files ≡ Some all
-      → StopsCert n (bytes_of all name) rest' ended'
-  cert-failed rest' ended' kept open_file all told =
-      let here = reading.in_file all told in
-      record {
-        read = reading.bytes;
-        unread = here.0;
-        cut = here.2;
-        not_opened = λ e. absurd (not_at_end ended' open_file e);
-        left = λ e. kept ∙ here.1;
-        come = (place_seen stage, reading.come);
-      }
+      → StopsReading (CertHasRead n) (bytes_of all name) rest' ended'
+  cert-failed rest' ended' kept open_file =
+      stops-behind (CertHasRead n) files rest rest' ended' name reading.bytes reading.in_file kept open_file (place_seen stage, reading.come)
 
--- nothing was read of a file that could not be opened
-pub cert-not_opened : (n : ℕ) (file : List ℕ) (rest : Option (List ℕ)) (ended : Bool) → ended ≡ true → StopsCert n file rest ended
-cert-not_opened n file rest ended at_end = record {
-  read = [];
-  unread = file;
-  cut = refl;
-  not_opened = λ e. refl;
-  left = λ e. absurd (not_at_end ended e at_end);
-  come = (cert_place nothing_read 0 [], cert-begin n);
-}
+-- of nothing that was read a line is refused
+pub cert-nothing : (n : ℕ) → CertHasRead n []
+cert-nothing n = (cert_place nothing_read 0 [], cert-begin n)

@@ -16,7 +16,7 @@ use Rattle.roam_run.specs.declared.script.Stop.{Stop}
 use Rattle.roam_run.specs.declared.script.Stop.TheVariants.{Refused, Failed}
 use Rattle.roam_run.specs.StageView.{TellsFrames, IsAt, Begins}
 use Rattle.roam_run.proofs.FileLemmas.{IsOfFile, file-cut, read-all}
-use Rattle.roam_run.specs.Taking.{status_for, TakesBytes, DoesAs, Leaves, EndsScript, StopsReading}
+use Rattle.roam_run.specs.Taking.{status_for, TakesBytes, DoesAs, Leaves, EndsScript}
 
 -- a walk that was stopped ends as refused
 stop-refused : (stop : Option Refusal) → IsSome stop → stop_status stop ≡ ends.ScriptRefused
@@ -110,13 +110,6 @@ begins-at before show follows start stage begins lines part = record {
   shows = record { followed = begins.followed; lines = lines ∙ sym begins.first; begun = part };
   alone = begins.alone;
 }
-
--- a read failed: what was carried out stands
-pub stops-reading : (before now : Told) (show : Show) (start : Walk) (read file unread : List ℕ) (rest : Option (List ℕ)) (ended : Bool) (at : Place)
-    → HasCome before now show start read at → file ≡ read ++ unread → (ended ≡ true → read ≡ []) → (ended ≡ false → rest ≡ Some unread)
-    → StopsReading before now show start file rest ended
-stops-reading before now show start read file unread rest ended at come cut not_opened left =
-    record { read = read; unread = unread; here = at; cut = cut; not_opened = not_opened; left = left; come = come }
 
 -- a file that was read to its end is what was read
 pub ended-file : (before now : Told) (show : Show) (follows : Show → Walk → List Picture → Type 0) (start : Walk) (stage : Stage) (files : Option (List NamedFile)) (rest : Option (List ℕ)) (name bytes : List ℕ)

@@ -1,5 +1,5 @@
 -- How a command on a grid ends: at its grid, at its line of facts, and at its script.
-use Rattle.std.proofs.Common.{◌≡◌, ◌≢◌, ◌⊎◌, inl, inr, ℕ, ◌+◌, ◌^◌, ◌≤◌, false, true, IsTrue, if◌then◌else◌, List, [], ◌++◌, Option, None, Some, option_map, Result, Ok, Err, refl, sym, ◌∙◌, ap, subst, arith}
+use Rattle.std.proofs.Common.{◌≡◌, ◌≢◌, ◌⊎◌, inl, inr, ℕ, ◌+◌, ◌^◌, ◌≤◌, false, true, IsTrue, if◌then◌else◌, List, [], ◌++◌, slice_get, Option, None, Some, option_map, Result, Ok, Err, refl, sym, ◌∙◌, ap, subst, arith}
 use Rattle.std.proofs.Math.Nat.{min-eq_left}
 use Rattle.mesh_defs.specs.HeightField.{HeightField}
 use Rattle.mesh_defs.specs.State.{start_state}
@@ -12,20 +12,20 @@ use Rattle.pgm_grid.specs.Progress.{grid_of}
 use Rattle.run_laws.specs.declared.status.Status.{Status}
 use Rattle.run_laws.specs.declared.status.Status.TheVariants as ends
 use Rattle.run_laws.specs.Walk.{Walk, start_walk}
-use Rattle.run_laws.specs.Words.{Show, Scripted, Job, Frames, Facts, OnGrid, Make, Check}
+use Rattle.run_laws.specs.Words.{Show, Scripted, Job, Frames, Facts, Command, OnGrid, Make, Check, names_of}
 use Rattle.run_laws.specs.Picture.{Picture}
-use Rattle.run_laws.specs.Act.{Told, told}
+use Rattle.run_laws.specs.Act.{Act, Told, told, Stands}
 use Rattle.run_laws.specs.ReportText.{info_line, grid_refusal}
 use Rattle.run_laws.specs.Outcome.{Outcome, text_outcome, shown_acts, IsGridOutcome}
-use Rattle.run_laws.specs.Promise.{Seen, HasReadHeader, most_open_job, is_complete, ends_script}
+use Rattle.run_laws.specs.Promise.{Seen, HasRead, FileReadFault, CommandReadFault, HasReadHeader, most_open_job, CommandNoMemory, IsUndecided, is_complete, ends_script}
 use Rattle.run_laws.proofs.ActLemmas.{stands-nothing, cut-only-line}
 use Rattle.run_laws.proofs.StepLemmas.{come-read}
 use Rattle.frame_loop.specs.Engine.{EngineState}
 use Rattle.roam_run.specs.EngineSeen.{engine_seen}
 use Rattle.roam_run.specs.StageView.{TellsFrames, Begins}
-use Rattle.roam_run.specs.GridStop.{StopsUndecided}
-use Rattle.roam_run.specs.Taking.{IsScriptEnd, DoesAs, Leaves, EndsScript, StopsReading}
-use Rattle.roam_run.specs.Leaving.{CommandEnds, CommandReadFault, CommandNoMemory}
+use Rattle.roam_run.specs.FileStop.{StopsReading}
+use Rattle.roam_run.specs.Taking.{IsScriptEnd, DoesAs, Leaves, EndsScript, ScriptHasCome}
+use Rattle.roam_run.specs.Leaving.{CommandEnds}
 
 -- a count that is far from its greatest value goes up by one
 pub next-one : (before now : ℕ) → before ≤ 2 ^ 63 + 2 → now ≡ next_count before → now ≡ before + 1
@@ -73,9 +73,26 @@ facts-end before now old new name files grid text status found is opened does =
     let P : List ℕ → Type 0 = λ t. DoesAs before now (text_outcome t ends.Done 1) status in
     ends-as before now old new name Facts files (Ok grid) (text_outcome (info_line grid) ends.Done 1) status found refl opened (subst P is does) None (λ e. refl)
 
+-- a read of a command's file failed
+pub file-fault : (before now : Told) (new : Seen) (command : Command) (files : List NamedFile) (k : ℕ) (name : List ℕ) (acts : List Act) (holds : List ℕ → Type 0)
+    (at : StopsReading holds (bytes_of files name) new.rest new.ended) → slice_get (names_of command) k ≡ Some name → HasRead command files k at.read acts
+    → Stands before now acts → FileReadFault before now new command files k
+file-fault before now new command files k name acts holds at named has_read stands = record {
+  name = name;
+  read = at.read;
+  unread = at.unread;
+  acts = acts;
+  named = named;
+  cut = at.cut;
+  not_opened = at.not_opened;
+  left = at.left;
+  has_read = has_read;
+  stands = stands;
+}
+
 -- a read of its grid failed
 pub grid-fault : (before : Told) (old new : Seen) (name : List ℕ) (job : Job) → new.opens ≡ old.opens + 1
-    → ((files : List NamedFile) → old.files ≡ Some files → StopsUndecided (bytes_of files name) new.rest new.ended)
+    → ((files : List NamedFile) → old.files ≡ Some files → StopsReading IsUndecided (bytes_of files name) new.rest new.ended)
     → CommandReadFault before before old new (OnGrid name job)
 grid-fault before old new name job opened stops = record {
   file = 0;
@@ -83,18 +100,7 @@ grid-fault before old new name job opened stops = record {
   before_script = λ first. stands-nothing before;
   at_file = λ files told_files.
       let at = stops files told_files in
-      record {
-        name = name;
-        read = at.read;
-        unread = at.unread;
-        acts = [];
-        named = refl;
-        cut = at.cut;
-        not_opened = at.not_opened;
-        left = at.left;
-        has_read = (at.undecided, refl);
-        stands = stands-nothing before;
-      };
+      file-fault before before new (OnGrid name job) files 0 name [] IsUndecided at refl (at.has_read, refl) (stands-nothing before);
 }
 
 -- commands on grids are the same
@@ -171,7 +177,7 @@ module _ (s : Scripted) (grid : HeightField) where
 
     -- a read of the script failed
     pub script-fault : ((files : List NamedFile) → old.files ≡ Some files → grid_of (bytes_of files name) ≡ Ok grid)
-        → ((files : List NamedFile) → old.files ≡ Some files → StopsReading before now s.show first_walk (bytes_of files s.script) new.rest new.ended)
+        → ((files : List NamedFile) → old.files ≡ Some files → StopsReading (ScriptHasCome before now s.show first_walk) (bytes_of files s.script) new.rest new.ended)
         → CommandReadFault before now old new (OnGrid name (Frames s))
     script-fault found stops = record {
       file = 1;
@@ -179,18 +185,10 @@ module _ (s : Scripted) (grid : HeightField) where
       before_script = λ first. absurd (apart (first refl));
       at_file = λ files told_files.
           let at = stops files told_files in
-          record {
-            name = s.script;
-            read = at.read;
-            unread = at.unread;
-            acts = shown_acts s.show 1 at.here.pictures;
-            named = refl;
-            cut = at.cut;
-            not_opened = at.not_opened;
-            left = at.left;
-            has_read = (grid, found files told_files, come-read before now s.show first_walk at.read at.here at.come s grid refl (λ bytes. refl));
-            stands = at.come.stands;
-          };
+          let here = at.has_read.0 in
+          let come = at.has_read.1 in
+          file-fault before now new (OnGrid name (Frames s)) files 1 s.script (shown_acts s.show 1 here.pictures) _ at refl
+          (grid, found files told_files, come-read before now s.show first_walk at.read here come s grid refl (λ bytes. refl)) come.stands;
     }
       where
         apart : ◌≡◌ {A = ℕ} 1 0 → ⊥

@@ -20,16 +20,17 @@ use Rattle.run_laws.specs.CertFile.{cert_in}
 use Rattle.run_laws.specs.Certify.{IsFaultless, IsFirstDifference}
 use Rattle.run_laws.specs.Act.{Told}
 use Rattle.run_laws.specs.Outcome.{text_outcome, IsCheckOutcome}
-use Rattle.run_laws.specs.Promise.{Seen, OpensForStatus, is_complete}
+use Rattle.run_laws.specs.Promise.{Seen, OpensForStatus, CommandReadFault, CommandNoMemory, is_complete}
 use Rattle.run_laws.proofs.ActLemmas.{stands-nothing}
 use Rattle.roam_run.specs.declared.checking.CheckStop.{CheckStop}
 use Rattle.roam_run.specs.declared.verdict_report.Judgement.{Judgement}
 use Rattle.roam_run.specs.declared.verdict_report.Judgement.TheVariants.{Certified, Rejected}
 use Rattle.roam_run.specs.Taking.{DoesAs}
-use Rattle.roam_run.specs.Leaving.{CommandEnds, CommandReadFault, CommandNoMemory}
-use Rattle.roam_run.specs.Judging.{judged_text, judged_status, opened_for, judged_outcome, mesh_seen, IsJudged, IsFaultlessFile, JudgesNoMemory, StopsComparing, JudgesFault}
-use Rattle.roam_run.proofs.FileLemmas.{not_at_end}
-use Rattle.roam_run.proofs.GridLemmas.{ends-as, same-name}
+use Rattle.roam_run.specs.Leaving.{CommandEnds}
+use Rattle.roam_run.specs.FileStop.{StopsReading}
+use Rattle.roam_run.specs.Judging.{judged_text, judged_status, opened_for, judged_outcome, mesh_seen, IsJudged, IsFaultlessFile, JudgesNoMemory, MeshHasRead, JudgesFault}
+use Rattle.roam_run.proofs.FileLemmas.{not_at_end, stops-unopened}
+use Rattle.roam_run.proofs.GridLemmas.{ends-as, file-fault, same-name}
 
 -- triangles of the grid have levels of the grid
 levels-recursion : (n : ℕ) (leaves : List ℕ) → AllByRecursion (IsAddress n) leaves → AllByRecursion (λ a. level_of a ≤ 2 * n) leaves
@@ -53,18 +54,12 @@ rejected-two n budget priority leaves reasons TooFewReasons is = refl
 rejected-two n budget priority leaves reasons (MeshDiffers place) is = absurd is
 
 -- a mesh that could not be opened
-pub compare-not_opened : (text file : List ℕ) (rest : Option (List ℕ)) (ended : Bool) → ended ≡ true → StopsComparing text file rest ended
-compare-not_opened text file rest ended at_end = record {
-  read = [];
-  unread = file;
-  cut = refl;
-  not_opened = λ e. refl;
-  left = λ e. absurd (not_at_end ended e at_end);
-  of_text = record { back = text; joined = refl };
-}
+pub compare-not_opened : (text file : List ℕ) (rest : Option (List ℕ)) (ended : Bool) → ended ≡ true → StopsReading (MeshHasRead text) file rest ended
+compare-not_opened text file rest ended at_end = stops-unopened (MeshHasRead text) file rest ended at_end (record { back = text; joined = refl })
 
 -- a read of a mesh failed
-pub compare-stops : (text file : List ℕ) (rest rest' : Option (List ℕ)) (ended' : Bool) → IsCutShort text rest rest' → rest ≡ Some file → ended' ≡ false → StopsComparing text file rest' ended'
+pub compare-stops : (text file : List ℕ) (rest rest' : Option (List ℕ)) (ended' : Bool) → IsCutShort text rest rest' → rest ≡ Some file → ended' ≡ false
+    → StopsReading (MeshHasRead text) file rest' ended'
 compare-stops text file rest rest' ended' cut is goes_on =
     let there = cut.of_file file is in
     record {
@@ -73,7 +68,7 @@ compare-stops text file rest rest' ended' cut is goes_on =
       cut = there.2;
       not_opened = λ e. absurd (not_at_end ended' goes_on e);
       left = λ e. there.1;
-      of_text = cut.of_text;
+      has_read = cut.of_text;
     }
 
 -- an answer of a check of a certificate, as one of its file
@@ -97,7 +92,7 @@ module _ (c : Checking) (grid : HeightField) (cert : Certificate) (told told' : 
 
   -- a read of the mesh failed
   pub judged-stops : (before middle now : ℕ) (rest : Option (List ℕ)) (ended : Bool) → middle ≡ before + 1 → now ≡ middle + 1 → IsFaultless c grid cert
-      → ((files : List NamedFile) → told' ≡ Some files → StopsComparing (mesh_seen c grid cert) (bytes_of files c.mesh) rest ended)
+      → ((files : List NamedFile) → told' ≡ Some files → StopsReading (MeshHasRead (mesh_seen c grid cert)) (bytes_of files c.mesh) rest ended)
       → JudgesFault c grid told rest ended before now
   judged-stops before middle now rest ended one more faultless stops =
       inr (omega (arith, more, one), λ files here. (cert, is files here, faultless, stops files (same ∙ here)))
@@ -197,36 +192,32 @@ same-found name other c check grid files e found =
     let P : List ℕ → Type 0 = λ l. grid_of (bytes_of files l) ≡ Ok grid in
     subst P (same-name name other (Check c) (Check check) e) found
 
+-- memory ran out behind the grid, with so many files opened
+behind-memory : (before : Told) (old new : Seen) (name : List ℕ) (c : Checking) (grid : HeightField) (count : ℕ) → new.opens ≡ old.opens + count → 2 ≤ count → count ≤ 3
+    → ((files : List NamedFile) → old.files ≡ Some files → grid_of (bytes_of files name) ≡ Ok grid)
+    → (3 ≤ count → (files : List NamedFile) → old.files ≡ Some files → IsFaultlessFile c grid files) → CommandNoMemory before before old new (OnGrid name (Check c))
+behind-memory before old new name c grid count opens low high found faultless = record {
+  opened = count;
+  count = opens;
+  least = omega (arith, low);
+  most = high;
+  stands = stands-nothing before;
+  header = λ other job files e told one. absurd (omega (arith, one, low));
+  in_order = λ other check files e told two. (
+    grid,
+    same-found name other c check grid files e (found files told),
+    λ three. (let P : Checking → Type 0 = λ d. IsFaultlessFile d grid files in subst P (same-check name other c check e) (faultless three files told)),
+  );
+}
+
 -- memory ran out behind the grid
 pub check-memory : (before : Told) (old new : Seen) (name : List ℕ) (c : Checking) (grid : HeightField) (middle : ℕ) → middle ≡ old.opens + 1
     → ((files : List NamedFile) → old.files ≡ Some files → grid_of (bytes_of files name) ≡ Ok grid) → JudgesNoMemory c grid old.files middle new.opens
     → CommandNoMemory before before old new (OnGrid name (Check c))
-check-memory before old new name c grid middle one found (inl first) = record {
-  opened = 2;
-  count = omega (arith, one, first);
-  least = omega arith;
-  most = omega arith;
-  stands = stands-nothing before;
-  header = λ other job files e told two. absurd (omega (arith, two));
-  in_order = λ other check files e told two. (
-    grid,
-    same-found name other c check grid files e (found files told),
-    λ three. absurd (omega (arith, three)),
-  );
-}
-check-memory before old new name c grid middle one found (inr (second, faultless)) = record {
-  opened = 3;
-  count = omega (arith, one, second);
-  least = omega arith;
-  most = omega arith;
-  stands = stands-nothing before;
-  header = λ other job files e told three. absurd (omega (arith, three));
-  in_order = λ other check files e told two. (
-    grid,
-    same-found name other c check grid files e (found files told),
-    λ three. (let P : Checking → Type 0 = λ d. IsFaultlessFile d grid files in subst P (same-check name other c check e) (faultless files told)),
-  );
-}
+check-memory before old new name c grid middle one found (inl first) =
+    behind-memory before old new name c grid 2 (omega (arith, one, first)) (omega arith) (omega arith) found (λ three. absurd (omega (arith, three)))
+check-memory before old new name c grid middle one found (inr (second, faultless)) =
+    behind-memory before old new name c grid 3 (omega (arith, one, second)) (omega arith) (omega arith) found (λ three. faultless)
 
 -- a read failed behind the grid
 pub check-fault : (before : Told) (old new : Seen) (name : List ℕ) (c : Checking) (grid : HeightField) (middle : ℕ) → middle ≡ old.opens + 1
@@ -239,18 +230,7 @@ check-fault before old new name c grid middle one found (inl (first, stops)) = r
   before_script = λ scripted. stands-nothing before;
   at_file = λ files told.
       let at = stops files told in
-      record {
-        name = c.certificate;
-        read = at.read;
-        unread = at.unread;
-        acts = [];
-        named = refl;
-        cut = at.cut;
-        not_opened = at.not_opened;
-        left = at.left;
-        has_read = (grid, found files told, (at.come, refl));
-        stands = stands-nothing before;
-      };
+      file-fault before before new (OnGrid name (Check c)) files 1 c.certificate [] _ at refl (grid, found files told, (at.has_read, refl)) (stands-nothing before);
 }
 check-fault before old new name c grid middle one found (inr (second, stops)) = record {
   file = 2;
@@ -258,17 +238,6 @@ check-fault before old new name c grid middle one found (inr (second, stops)) = 
   before_script = λ scripted. stands-nothing before;
   at_file = λ files told.
       let at = stops files told in
-      let text = at.3 in
-      record {
-        name = c.mesh;
-        read = text.read;
-        unread = text.unread;
-        acts = [];
-        named = refl;
-        cut = text.cut;
-        not_opened = text.not_opened;
-        left = text.left;
-        has_read = (grid, found files told, ((at.0, at.1, at.2, text.of_text), refl));
-        stands = stands-nothing before;
-      };
+      file-fault before before new (OnGrid name (Check c)) files 2 c.mesh [] _ at.3 refl
+      (grid, found files told, ((at.0, at.1, at.2, at.3.has_read), refl)) (stands-nothing before);
 }

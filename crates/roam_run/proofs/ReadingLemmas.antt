@@ -2,6 +2,7 @@
 use Rattle.std.proofs.Common.{arith, ◌+◌, length-append, Result, OnOk, IfOk, Bool, true, ◌≡◌, ◌≢◌, ℕ, List, [], ◌++◌, length, take, drop, Option, Some, Ok, Err, refl, sym, ◌∙◌, ap, append_assoc, append-nil, false, ◌∷◌}
 use Rattle.mesh_defs.specs.HeightField.{HeightField}
 use Rattle.roam_edge.specs.Shelf.{NamedFile, bytes_of}
+use Rattle.roam_edge.specs.Told.{StaysTold}
 use Rattle.pgm_grid.specs.declared.fault.PgmFault.{PgmFault}
 use Rattle.pgm_grid.specs.declared.fault.PgmFault.TheVariants.{BadMagic, BadHeader, HeaderTooLong, BadMaxval, NotSquare, BadSide, Truncated, BadSample, AboveMaxval, Trailing, NoMemory, TooLong}
 use Rattle.std.proofs.lemmas.Result.{IfOk-at_ok, IfErr-at_err}
@@ -11,8 +12,9 @@ use Rattle.pgm_grid.specs.Progress.{Progress, grid_of, resume, taken, IsSettled,
 use Rattle.run_laws.specs.Promise.{seen, HasEnded, HasReadHeader, IsUndecided}
 use Rattle.roam_run.specs.declared.grid_file.GridStop.{GridStop}
 use Rattle.roam_run.specs.declared.grid_file.GridStop.TheVariants as stop
-use Rattle.roam_run.specs.GridStop.{stop_for, StopsUndecided}
-use Rattle.roam_run.proofs.FileLemmas.{IsOfFile, read-nothing, file-split, file-cut, read-more, same-unread, not_at_end}
+use Rattle.roam_run.specs.FileStop.{StopsReading}
+use Rattle.roam_run.specs.GridStop.{stop_for}
+use Rattle.roam_run.proofs.FileLemmas.{IsOfFile, read-nothing, file-split, file-cut, read-more, same-unread, read-end, has-ended, stops-behind}
 
 -- The reader has taken some bytes, which were read of the named file.
 pub record IsReading (files : Option (List NamedFile)) (rest : Option (List ℕ)) (name : List ℕ) (reader : Progress) : Type 0 where
@@ -59,7 +61,7 @@ reading-refused files rest name piece count reader fault reading gives refusal a
     ∙ sym (reading.means (piece ++ drop count here.0))
     ∙ refusal (drop count here.0)
 
--- a refusal that is not want of memory is that of the reader
+-- a refusal other than out of memory is that of the reader
 pub stop_for-refused : (found fault : PgmFault) → stop_for found ≡ stop.Refused fault → (found ≡ fault) × (found ≢ NoMemory)
 stop_for-refused BadMagic fault is = (cc, λ e. cc)
 stop_for-refused (BadHeader place) fault is = (cc, λ e. cc)
@@ -74,7 +76,7 @@ stop_for-refused (Trailing place) fault is = (cc, λ e. cc)
 stop_for-refused NoMemory fault is = absurd cc
 stop_for-refused TooLong fault is = (cc, λ e. cc)
 
--- a refusal that is want of memory is that of the reader
+-- a run stops as out of memory only where its reader is out of memory
 pub stop_for-memory : (found : PgmFault) → stop_for found ≡ stop.NoMemory → found ≡ NoMemory
 stop_for-memory BadMagic is = absurd cc
 stop_for-memory (BadHeader place) is = absurd cc
@@ -89,7 +91,7 @@ stop_for-memory (Trailing place) is = absurd cc
 stop_for-memory NoMemory is = refl
 stop_for-memory TooLong is = absurd cc
 
--- a reader of a file's bytes is not settled on want of memory
+-- the bytes of a file settle no answer that a reader is out of memory
 pub reading-unsettled : (files : Option (List NamedFile)) (rest : Option (List ℕ)) (name : List ℕ) (reader : Progress)
     → OthersAreAbsent → IsReading files rest name reader → IsSettled reader NoMemory → ⊥
 unfolding IsSettled
@@ -126,18 +128,11 @@ reading-header files rest rest' name piece count reader reading takes gives ends
 -- a read failed: no refusal of what was read is settled
 pub reading-failed : (files : Option (List NamedFile)) (rest rest' : Option (List ℕ)) (ended' : Bool) (name : List ℕ) (reader : Progress)
     → IsReading files rest name reader → ((fault : PgmFault) → IsSettled reader fault → ⊥) → rest' ≡ rest → ended' ≡ false
-    → (all : List NamedFile) → files ≡ Some all → StopsUndecided (bytes_of all name) rest' ended'
+    → (all : List NamedFile) → files ≡ Some all → StopsReading IsUndecided (bytes_of all name) rest' ended'
 unfolding IsSettled
-reading-failed files rest rest' ended' name reader reading unsettled kept not_ended all is =
-    let here = reading.in_file all is in
-    record {
-      read = reading.bytes;
-      unread = here.0;
-      cut = here.2;
-      not_opened = λ e. absurd (not_at_end ended' not_ended e);
-      left = λ e. kept ∙ here.1;
-      undecided = λ fault settled. unsettled fault (λ more. reading.means more ∙ settled more);
-    }
+reading-failed files rest rest' ended' name reader reading unsettled kept not_ended =
+    stops-behind IsUndecided files rest rest' ended' name reading.bytes reading.in_file kept not_ended
+    (λ fault settled. unsettled fault (λ more. reading.means more ∙ settled more))
 
 -- nothing is no grid, and a first byte of 0 has another refusal
 nothing-read : grid_of [] ≡ Err Truncated
@@ -184,27 +179,13 @@ module _ (files : Option (List NamedFile)) (rest : Option (List ℕ)) (name : Li
 
   -- a read that gave no byte leaves nothing
   pub grid-ended : (ended : Bool) (rest' : Option (List ℕ)) (opens count : ℕ) (files' : Option (List NamedFile)) (answer : Result HeightField GridStop)
-      → files' ≡ files → count ≡ 0 → ended ≡ true → ((unread : List ℕ) → rest ≡ Some unread → rest' ≡ Some (drop count unread))
+      → files' ≡ files → count ≡ 0 → ended ≡ true → StaysTold rest rest' → ((unread : List ℕ) → rest ≡ Some unread → rest' ≡ Some (drop count unread))
       → OnOk answer (HasEnded (seen files' rest' opens ended))
-  grid-ended ended rest' opens count files' answer same none at_end takes = on-ok answer _ (λ grid is. record {
-    at_end = at_end;
-    nothing_left = λ all told.
-        let here = reading.in_file all (sym same ∙ told) in
-        takes here.0 here.1 ∙ ap (λ k. Some (drop k here.0)) none ∙ ap Some (nothing here.0 here.1);
-  })
+  grid-ended ended rest' opens count files' answer same none at_end stays takes = on-ok answer _ (λ grid is.
+      has-ended files' rest rest' opens ended at_end stays (λ all told. (let here = reading.in_file all (sym same ∙ told) in (here.0, here.1)))
+      (read-end rest rest' count none takes nothing))
 
 -- a new reader has settled nothing
 pub start-unsettled : (reader : Progress) → ((more : List ℕ) → resume reader more ≡ grid_of more) → (fault : PgmFault) → IsSettled reader fault → ⊥
 unfolding IsSettled
 start-unsettled reader means fault settled = nothing-undecided fault (λ more. sym (means more) ∙ settled more)
-
--- nothing was read of a file that could not be opened
-pub opening-failed : (file : List ℕ) (rest : Option (List ℕ)) (ended : Bool) → ended ≡ true → StopsUndecided file rest ended
-opening-failed file rest ended at_end = record {
-  read = [];
-  unread = file;
-  cut = refl;
-  not_opened = λ e. refl;
-  left = λ e. absurd (not_at_end ended e at_end);
-  undecided = nothing-undecided;
-}

@@ -11,12 +11,12 @@ use Rattle.frame_loop.specs.Engine.{EngineState}
 use Rattle.run_laws.specs.Laws.{AcceptedIsDone, OutcomesAreUnique, EnginesAreUnique}
 use Rattle.run_laws.specs.Words.{Job, Command, OnGrid, file_count, command_of}
 use Rattle.run_laws.specs.Outcome.{Outcome, plain_outcome, IsWordsOutcome, IsOutcome, HasOneOutcome}
-use Rattle.run_laws.specs.Promise.{Seen, AreFiles, is_complete, leaves_engine, EndsRight, LeavesAtReadFault, LeavesAtNoMemory, IsAccepted}
+use Rattle.run_laws.specs.Promise.{Seen, AreFiles, is_complete, leaves_engine, EndsRight, CommandReadFault, LeavesAtReadFault, CommandNoMemory, LeavesAtNoMemory, IsAccepted}
 use Rattle.run_laws.proofs.ActLemmas.{stands-nothing}
 use Rattle.roam_run.specs.declared.words.Command.{Command as ReadCommand}
 use Rattle.roam_run.specs.EngineSeen.{engine_seen}
 use Rattle.roam_run.specs.WordView.{command_seen}
-use Rattle.roam_run.specs.Leaving.{CommandEnds, CommandReadFault, CommandNoMemory}
+use Rattle.roam_run.specs.Leaving.{CommandEnds}
 use Rattle.roam_run.proofs.GridLemmas.{not-complete}
 
 -- words that were read as a command are that command
@@ -84,28 +84,11 @@ module _ (before now : Told) (old new : Seen) (words : List (List ℕ)) (command
 
   -- a read failed, of a file of the words
   pub words-read_fault : CommandReadFault before now old new command → LeavesAtReadFault before now old new words
-  words-read_fault is = record {
-    command = command;
-    file = is.file;
-    is_command = is_command;
-    opened = is.opened;
-    before_script = is.before_script;
-    at_file = is.at_file;
-  }
+  words-read_fault is = record { command = command; is_command = is_command; leaves = is }
 
   -- memory ran out, for words of this command
   pub words-no_memory : CommandNoMemory before now old new command → LeavesAtNoMemory before now old new words
-  words-no_memory is = record {
-    command = command;
-    opened = is.opened;
-    is_command = is_command;
-    count = is.count;
-    least = is.least;
-    most = is.most;
-    stands = is.stands;
-    header = is.header;
-    in_order = is.in_order;
-  }
+  words-no_memory is = record { command = command; is_command = is_command; leaves = is }
 
 -- a count that did not change did not rise
 same-not-rose : (old new : ℕ) → old < 2 ^ 64 - 1 → new ≡ old → Rose old new → ⊥

@@ -1,11 +1,11 @@
 -- How far a certificate was read, and what the calls do that read it.
--- Words: place_seen, IsCounted, TakesCert, EndsCert, StopsCert.
-use Rattle.std.specs.Prelude.{◌≡◌, ℕ, ◌≤◌, Bool, true, false, List, [], ◌++◌, length, Option, Some, None, Result, Ok, Err, OnOk, IfOk}
+-- Words: place_seen, IsCounted, TakesCert, EndsCert.
+use Rattle.std.specs.Prelude.{◌≡◌, ℕ, ◌≤◌, List, ◌++◌, length, None, Result, Ok, Err, OnOk, IfOk}
 use Rattle.roam_script.specs.declared.limits.TheConstants.{MOST_LINE_BYTES}
 use Rattle.cert_text.specs.Certificate.{Certificate}
 use Rattle.cert_text.specs.Laws.{line_count}
 use Rattle.cert_text.specs.declared.limits.TheConstants.{MOST_LEAVES, MOST_REASONS}
-use Rattle.run_laws.specs.CertFile.{CertPlace, HasCertCome, CertHasRead, cert_in}
+use Rattle.run_laws.specs.CertFile.{CertPlace, HasCertCome, cert_in}
 use Rattle.roam_run.specs.declared.cert_file.CertStage.{CertStage}
 use Rattle.roam_run.specs.declared.cert_file.CertStop.{CertStop}
 use Rattle.roam_run.specs.declared.cert_file.CertStop.TheVariants.{BadLine}
@@ -31,12 +31,3 @@ pub record TakesCert {T : Type 0} (n : ℕ) (read : List ℕ) (stage : CertStage
 pub record EndsCert (n : ℕ) (file : List ℕ) (answer : Result Certificate CertStop) : Type 0 where
   pub ok : IfOk answer (λ cert. cert_in n file ≡ Ok cert)
   pub bad : (line : ℕ) → answer ≡ Err (BadLine line) → cert_in n file ≡ Err line
-
--- a read of this file failed, or its opening, and then none of it was read; no line that was read is refused
-pub record StopsCert (n : ℕ) (file : List ℕ) (rest : Option (List ℕ)) (ended : Bool) : Type 0 where
-  pub read : List ℕ
-  pub unread : List ℕ
-  pub cut : file ≡ read ++ unread
-  pub not_opened : ended ≡ true → read ≡ []
-  pub left : ended ≡ false → rest ≡ Some unread
-  pub come : CertHasRead n read

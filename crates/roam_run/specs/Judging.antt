@@ -1,7 +1,7 @@
 -- What a check of a certificate and a mesh comes to, and where it stops.
--- Words: judged_text, judged_status, opened_for, judged_outcome, mesh_seen, IsJudged, IsFaultlessFile, JudgesNoMemory, StopsComparing,
+-- Words: judged_text, judged_status, opened_for, judged_outcome, mesh_seen, IsJudged, IsFaultlessFile, JudgesNoMemory, MeshHasRead,
 -- StopsMesh, JudgesFault.
-use Rattle.std.specs.Prelude.{◌≡◌, ℕ, ◌+◌, ◌⊎◌, Bool, true, false, List, [], ◌++◌, Option, Some, Ok}
+use Rattle.std.specs.Prelude.{◌≡◌, ℕ, ◌+◌, ◌⊎◌, Bool, List, Option, Some, Ok}
 use Rattle.mesh_defs.specs.HeightField.{HeightField}
 use Rattle.mesh_defs.specs.State.{text_in}
 use Rattle.roam_edge.specs.Shelf.{NamedFile, bytes_of}
@@ -11,13 +11,13 @@ use Rattle.cert_text.specs.Certificate.{Certificate}
 use Rattle.run_laws.specs.declared.status.Status.{Status}
 use Rattle.run_laws.specs.declared.status.Status.TheVariants as ends
 use Rattle.run_laws.specs.Words.{Checking}
-use Rattle.run_laws.specs.CertFile.{cert_in}
+use Rattle.run_laws.specs.CertFile.{cert_in, CertHasRead}
 use Rattle.run_laws.specs.Certify.{checks_at, IsFaultless}
 use Rattle.run_laws.specs.ReportText.{certified_line, rejection}
 use Rattle.run_laws.specs.Outcome.{Outcome, text_outcome, IsCheckOutcome}
 use Rattle.roam_run.specs.declared.verdict_report.Judgement.{Judgement}
 use Rattle.roam_run.specs.declared.verdict_report.Judgement.TheVariants.{Certified, Rejected}
-use Rattle.roam_run.specs.CertStage.{StopsCert}
+use Rattle.roam_run.specs.FileStop.{StopsReading}
 
 -- the line of a judgement
 abbrev pub judged_text : Judgement → List ℕ
@@ -63,23 +63,18 @@ JudgesNoMemory c grid told before now =
     (now ≡ before + 1)
     ⊎ ((now ≡ before + 2) × ((files : List NamedFile) → told ≡ Some files → IsFaultlessFile c grid files))
 
--- a read of this file failed, or its opening, and then none of it was read; what was read is a prefix of this text
-pub record StopsComparing (text file : List ℕ) (rest : Option (List ℕ)) (ended : Bool) : Type 0 where
-  pub read : List ℕ
-  pub unread : List ℕ
-  pub cut : file ≡ read ++ unread
-  pub not_opened : ended ≡ true → read ≡ []
-  pub left : ended ≡ false → rest ≡ Some unread
-  pub of_text : IsPrefix read text
+-- so much of a mesh was read: a prefix of this text
+abbrev pub MeshHasRead : List ℕ → List ℕ → Type 0
+MeshHasRead text read = IsPrefix read text
 
--- so of the mesh, behind a certificate without a fault
+-- a read of the mesh failed, behind a certificate without a fault
 abbrev pub StopsMesh : Checking → HeightField → List NamedFile → Option (List ℕ) → Bool → Type 0
 StopsMesh c grid files rest ended =
     (cert : Certificate) × (cert_in grid.n (bytes_of files c.certificate) ≡ Ok cert) × IsFaultless c grid cert
-    × StopsComparing (mesh_seen c grid cert) (bytes_of files c.mesh) rest ended
+    × StopsReading (MeshHasRead (mesh_seen c grid cert)) (bytes_of files c.mesh) rest ended
 
 -- a read failed, at the certificate or at the mesh
 abbrev pub JudgesFault : Checking → HeightField → Option (List NamedFile) → Option (List ℕ) → Bool → ℕ → ℕ → Type 0
 JudgesFault c grid told rest ended before now =
-    ((now ≡ before + 1) × ((files : List NamedFile) → told ≡ Some files → StopsCert grid.n (bytes_of files c.certificate) rest ended))
+    ((now ≡ before + 1) × ((files : List NamedFile) → told ≡ Some files → StopsReading (CertHasRead grid.n) (bytes_of files c.certificate) rest ended))
     ⊎ ((now ≡ before + 2) × ((files : List NamedFile) → told ≡ Some files → StopsMesh c grid files rest ended))

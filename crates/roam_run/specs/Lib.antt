@@ -1,5 +1,6 @@
 pub mod ShowView
 pub mod CertifyView
+pub mod FileStop
 pub mod CertStage
 pub mod Judging
 pub mod WordView

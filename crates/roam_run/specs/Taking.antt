@@ -1,6 +1,6 @@
 -- What the calls do that carry a script out, by their answers.
--- Words: status_for, NotFailed, StopsHaveCause, TakesFrame, IsRefused, TakesBytes, IsScriptEnd, DoesAs, Leaves, EndsScript, StopsReading.
-use Rattle.std.specs.Prelude.{◌≡◌, ◌≢◌, ◌⊎◌, ℕ, ◌+◌, Bool, true, false, IsTrue, List, [], ◌∷◌, ◌++◌, length, Option, Some, Result, Err, OnOk, OnErr}
+-- Words: status_for, NotFailed, StopsHaveCause, TakesFrame, IsRefused, TakesBytes, IsScriptEnd, DoesAs, Leaves, EndsScript, ScriptHasCome.
+use Rattle.std.specs.Prelude.{◌≡◌, ◌≢◌, ◌⊎◌, ℕ, ◌+◌, IsTrue, List, [], ◌∷◌, ◌++◌, length, Result, Err, OnOk, OnErr}
 use Rattle.roam_script.specs.declared.line.Line.TheVariants.{Frame}
 use Rattle.run_laws.specs.declared.status.Status.{Status}
 use Rattle.run_laws.specs.declared.status.Status.TheVariants as ends
@@ -75,12 +75,6 @@ EndsScript before now show follows start read status =
     (end : Outcome) × IsFramesOutcome show 2 (walk_of start read) end × DoesAs before now end status
     × (IsTrue (is_complete status) → Leaves show follows end)
 
--- a read of this file failed, or its opening, and then none of it was read: what the lines do that were read stands
-pub record StopsReading (before now : Told) (show : Show) (start : Walk) (file : List ℕ) (rest : Option (List ℕ)) (ended : Bool) : Type 0 where
-  pub read : List ℕ
-  pub unread : List ℕ
-  pub here : Place
-  pub cut : file ≡ read ++ unread
-  pub not_opened : ended ≡ true → read ≡ []
-  pub left : ended ≡ false → rest ≡ Some unread
-  pub come : HasCome before now show start read here
+-- a script was carried out as far as these bytes of it lead
+abbrev pub ScriptHasCome : Told → Told → Show → Walk → List ℕ → Type 0
+ScriptHasCome before now show start read = (here : Place) × HasCome before now show start read here

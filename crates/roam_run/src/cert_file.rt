@@ -6,8 +6,9 @@ ghost use Rattle.mesh_defs.specs.declared.level.TheConstants.{GREATEST_LEVEL};
 ghost use Rattle.roam_edge.specs.Fault.{Rose, next_count};
 ghost use Rattle.roam_edge.specs.Shelf.{NamedFile, bytes_of};
 ghost use Rattle.cert_text.specs.CertReader.{cert_line_in, nothing_read};
-ghost use Rattle.run_laws.specs.CertFile.{HasCertCome, cert_of, cert_in};
-ghost use Rattle.roam_run.specs.CertStage.{place_seen, IsCounted, TakesCert, EndsCert, StopsCert};
+ghost use Rattle.run_laws.specs.CertFile.{HasCertCome, CertHasRead, cert_of, cert_in};
+ghost use Rattle.roam_run.specs.FileStop.{StopsReading};
+ghost use Rattle.roam_run.specs.CertStage.{place_seen, IsCounted, TakesCert, EndsCert};
 
 use crate::grid_file::PIECE;
 use arrayvec::ArrayVec;
@@ -164,7 +165,7 @@ pub(crate) fn read_cert<F: Shelf>(
         cert_in n (bytes_of files name.now) ≡ Err line }
     // Where a read failed, no line that was read is refused.
     ensures undecided { result ≡ Err CertStop.Failed → (files : List NamedFile) → F.files shelf.old ≡ Some files →
-        StopsCert n (bytes_of files name.now) (F.rest shelf.new) (F.ended shelf.new) }
+        StopsReading (CertHasRead n) (bytes_of files name.now) (F.rest shelf.new) (F.ended shelf.new) }
     ensures files { F.files shelf.new ≡ F.files shelf.old }
     ensures opens { F.opens shelf.new ≡ next_count (F.opens shelf.old) }
     ensures failed { result ≡ Err CertStop.Failed → Rose (F.faults shelf.old) (F.faults shelf.new) }

@@ -9,10 +9,10 @@ ghost use Rattle.run_laws.specs.Cause.{StatusHasCause, StatusWritesHaveCause};
 ghost use Rattle.run_laws.specs.Words.{OnGrid, Make};
 ghost use Rattle.run_laws.specs.Certify.{IsMade};
 ghost use Rattle.run_laws.specs.Outcome.{text_outcome};
-ghost use Rattle.run_laws.specs.Promise.{seen, HasEnded};
+ghost use Rattle.run_laws.specs.Promise.{seen, HasEnded, CommandReadFault, CommandNoMemory};
 ghost use Rattle.roam_run.specs.CertifyView.{making_seen, AreInBounds};
 ghost use Rattle.roam_run.specs.Taking.{DoesAs};
-ghost use Rattle.roam_run.specs.Leaving.{CommandEnds, CommandReadFault, CommandNoMemory};
+ghost use Rattle.roam_run.specs.Leaving.{CommandEnds};
 
 use crate::certify_words::MakeWords;
 use crate::grid_file::{GridStop, read_grid};

@@ -11,10 +11,11 @@ ghost use Rattle.run_laws.specs.Cause.{StatusHasCause};
 ghost use Rattle.run_laws.specs.Words.{OnGrid, Check};
 ghost use Rattle.run_laws.specs.Certify.{IsFaultless};
 ghost use Rattle.run_laws.specs.Outcome.{IsCheckOutcome};
-ghost use Rattle.run_laws.specs.Promise.{seen, HasEnded, OpensForStatus};
+ghost use Rattle.run_laws.specs.Promise.{seen, HasEnded, OpensForStatus, CommandReadFault, CommandNoMemory};
 ghost use Rattle.roam_run.specs.CertifyView.{checking_seen, AreInBounds};
-ghost use Rattle.roam_run.specs.Judging.{judged_status, opened_for, judged_outcome, mesh_seen, IsJudged, JudgesNoMemory, StopsComparing, JudgesFault};
-ghost use Rattle.roam_run.specs.Leaving.{CommandEnds, CommandReadFault, CommandNoMemory};
+ghost use Rattle.roam_run.specs.FileStop.{StopsReading};
+ghost use Rattle.roam_run.specs.Judging.{judged_status, opened_for, judged_outcome, mesh_seen, IsJudged, JudgesNoMemory, MeshHasRead, JudgesFault};
+ghost use Rattle.roam_run.specs.Leaving.{CommandEnds};
 
 use crate::cert_file::{CertStop, read_cert};
 use crate::certify_words::CheckWords;
@@ -147,8 +148,8 @@ fn judge_cert<F: Shelf>(
     ensures faultless { result ≡ Err CheckStop.Failed → IsFaultless (checking_seen words.now) wedges.now cert.now }
     ensures opened { result ≡ Err CheckStop.Failed → F.opens shelf.new ≡ F.opens shelf.old + 1 }
     ensures stopped { result ≡ Err CheckStop.Failed → (files : List NamedFile) → F.files shelf.old ≡ Some files →
-        StopsComparing (mesh_seen (checking_seen words.now) wedges.now cert.now) (bytes_of files words.now.mesh.now)
-        (F.rest shelf.new) (F.ended shelf.new) }
+        StopsReading (MeshHasRead (mesh_seen (checking_seen words.now) wedges.now cert.now))
+        (bytes_of files words.now.mesh.now) (F.rest shelf.new) (F.ended shelf.new) }
     ensures files { F.files shelf.new ≡ F.files shelf.old }
     ensures failed { result ≡ Err CheckStop.Failed → Rose (F.faults shelf.old) (F.faults shelf.new) }
     ensures no_fault { result ≢ Err CheckStop.Failed → F.faults shelf.new ≡ F.faults shelf.old }
@@ -188,8 +189,8 @@ fn difference<F: Shelf>(
         HasEnded (seen (F.files shelf.new) (F.rest shelf.new) (F.opens shelf.new) (F.ended shelf.new))) }
     ensures opened { F.opens shelf.new ≡ next_count (F.opens shelf.old) }
     ensures stopped { result ≡ Err CheckStop.Failed → (files : List NamedFile) → F.files shelf.old ≡ Some files →
-        StopsComparing (mesh_seen (checking_seen words.now) wedges.now cert.now) (bytes_of files words.now.mesh.now)
-        (F.rest shelf.new) (F.ended shelf.new) }
+        StopsReading (MeshHasRead (mesh_seen (checking_seen words.now) wedges.now cert.now))
+        (bytes_of files words.now.mesh.now) (F.rest shelf.new) (F.ended shelf.new) }
     ensures files { F.files shelf.new ≡ F.files shelf.old }
     ensures failed { result ≡ Err CheckStop.Failed → Rose (F.faults shelf.old) (F.faults shelf.new) }
     ensures no_fault { result ≢ Err CheckStop.Failed → F.faults shelf.new ≡ F.faults shelf.old }

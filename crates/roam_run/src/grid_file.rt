@@ -5,8 +5,9 @@ ghost use Rattle.roam_edge.specs.Fault.{Rose, next_count};
 ghost use Rattle.roam_edge.specs.Shelf.{NamedFile, bytes_of};
 ghost use Rattle.pgm_grid.specs.declared.fault.PgmFault.{PgmFault as Fault};
 ghost use Rattle.pgm_grid.specs.Progress.{grid_of, resume};
-ghost use Rattle.run_laws.specs.Promise.{seen, HasEnded, HasReadHeader};
-ghost use Rattle.roam_run.specs.GridStop.{stop_for, StopsUndecided};
+ghost use Rattle.run_laws.specs.Promise.{seen, HasEnded, HasReadHeader, IsUndecided};
+ghost use Rattle.roam_run.specs.FileStop.{StopsReading};
+ghost use Rattle.roam_run.specs.GridStop.{stop_for};
 
 use pgm_grid::{Grid, PgmFault, PgmReader, grids_and_texts};
 use roam_edge::Shelf;
@@ -47,7 +48,7 @@ pub(crate) fn read_grid<F: Shelf>(
         HasReadHeader (bytes_of files name.now) (F.rest shelf.new) }
     // Where a read failed, no refusal of the grid is settled yet.
     ensures undecided { result ≡ Err GridStop.Failed → (files : List NamedFile) → F.files shelf.old ≡ Some files →
-        StopsUndecided (bytes_of files name.now) (F.rest shelf.new) (F.ended shelf.new) }
+        StopsReading IsUndecided (bytes_of files name.now) (F.rest shelf.new) (F.ended shelf.new) }
     ensures files { F.files shelf.new ≡ F.files shelf.old }
     ensures opens { F.opens shelf.new ≡ next_count (F.opens shelf.old) }
     ensures failed { result ≡ Err GridStop.Failed → Rose (F.faults shelf.old) (F.faults shelf.new) }

@@ -16,7 +16,7 @@ ghost use Rattle.run_laws.specs.Promise.{Seen, seen, AreFiles, EndsRight, HasEnd
 ghost use Rattle.run_laws.specs.Headline.{IsScriptRunOf, IsRunOf, KeepsGoodMeshes, IsCheckOf, IsCertifiedMesh};
 ghost use Rattle.roam_run.specs.EngineSeen.{engine_seen};
 ghost use Rattle.roam_run.specs.Taking.{DoesAs};
-ghost use Rattle.roam_run.specs.Leaving.{CommandEnds, CommandReadFault, CommandNoMemory};
+ghost use Rattle.roam_run.specs.Leaving.{CommandEnds};
 ghost use Rattle.roam_run.specs.WordView.{show_for, scripted_seen, IsFrameCommand};
 
 use crate::certify::run_make;
@@ -129,11 +129,11 @@ pub fn roam<F: Shelf, M: MeshSink, R: Sink>(
         (seen (F.files shelf.old) (F.rest shelf.old) (F.opens shelf.old) (F.ended shelf.old))
         (seen (F.files shelf.new) (F.rest shelf.new) (F.opens shelf.new) (F.ended shelf.new))
         (map string_bytes words.now) }
-    ensures write_fault { (files : List NamedFile) (run : Scripted) (grid : HeightField) (prefix : List ℕ) →
+    ensures write_fault { (files : List NamedFile) (run : Scripted) (grid : HeightField) →
         F.files shelf.old ≡ Some files → result.status ≡ Status.WriteFault →
         IsScriptRunOf (map string_bytes words.now) files run grid → IsTrue (is_by_frame run.show) →
         LeavesAtWriteFault (told (M.meshes meshes.old) (R.contents report.old))
-        (told (M.meshes meshes.new) (R.contents report.new)) run grid (bytes_of files run.script) prefix }
+        (told (M.meshes meshes.new) (R.contents report.new)) run grid (bytes_of files run.script) }
     ensures text_fault { (files : List NamedFile) (end : Outcome) (text : List ℕ) →
         AreFiles (F.files shelf.old) (map string_bytes words.now) files → result.status ≡ Status.WriteFault →
         HasOneOutcome (command_of (map string_bytes words.now)) →

@@ -11,7 +11,8 @@ ghost use Rattle.run_laws.specs.Words.{Show};
 ghost use Rattle.run_laws.specs.Act.{Told, told};
 ghost use Rattle.run_laws.specs.ReportText.{line_refusal};
 ghost use Rattle.roam_run.specs.StageView.{IsStage, IsAt, Starts, Begins, refusal};
-ghost use Rattle.roam_run.specs.Taking.{NotFailed, StopsHaveCause, TakesBytes, status_for, IsScriptEnd, EndsScript, StopsReading};
+ghost use Rattle.roam_run.specs.FileStop.{StopsReading};
+ghost use Rattle.roam_run.specs.Taking.{NotFailed, StopsHaveCause, TakesBytes, status_for, IsScriptEnd, EndsScript, ScriptHasCome};
 
 use crate::grid_file::PIECE;
 use crate::maker::FrameMaker;
@@ -205,8 +206,8 @@ pub(crate) fn run_script<K: FrameMaker, F: Shelf, M: MeshSink, R: Sink>(
         (bytes_of files name.now) result }
     ensures read_fault { result ≡ Status.ReadFault → (show : Show) (start : Walk) →
         Begins show (K.follows frames.old) start → (files : List NamedFile) → F.files shelf.old ≡ Some files →
-        StopsReading (told (M.meshes meshes.old) (R.contents report.old))
-        (told (M.meshes meshes.new) (R.contents report.new)) show start
+        StopsReading (ScriptHasCome (told (M.meshes meshes.old) (R.contents report.old))
+        (told (M.meshes meshes.new) (R.contents report.new)) show start)
         (bytes_of files name.now) (F.rest shelf.new) (F.ended shelf.new) }
     ensures status { (result ≡ Status.ReadFault) ⊎ IsScriptEnd result }
     ensures done { result ≡ Status.Done → HasEnded (seen (F.files shelf.new) (F.rest shelf.new)

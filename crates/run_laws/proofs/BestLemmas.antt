@@ -110,7 +110,7 @@ module _ (best : FramesAreBest) (two : BudgetsAreTwo) (read_texts : TextsAreRead
   pub run-keeps : (status : Status) → EndsRight before now old new words files status → (status ≡ ReadFault → LeavesAtReadFault before now old new words)
       → (status ≡ NoMemory → LeavesAtNoMemory before now old new words) → Keeps status
   run-keeps Done ends read memory = complete Done refl (λ e. cc) (λ e. cc) ends
-  run-keeps NoMemory ends read memory = nothing NoMemory (λ e. cc) (memory refl).stands
+  run-keeps NoMemory ends read memory = nothing NoMemory (λ e. cc) (memory refl).leaves.stands
   run-keeps Usage ends read memory = complete Usage refl (λ e. cc) (λ e. cc) ends
   run-keeps GridRefused ends read memory = complete GridRefused refl (λ e. cc) (λ e. cc) ends
   run-keeps ScriptRefused ends read memory = complete ScriptRefused refl (λ e. cc) (λ e. cc) ends

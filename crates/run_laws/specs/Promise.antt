@@ -1,7 +1,7 @@
 -- What a run of `roam` promises, by its status.
 -- Words: Seen, seen, AreFiles, is_complete, ends_script, EndsAs, EndsRight, HasEnded, may_end, OpensForStatus,
--- IsUndecided, ScriptHasRead, CheckHasRead, JobHasRead, HasRead, FileReadFault, LeavesAtReadFault, least_open, most_open_job, most_open,
--- HasReadHeader, CheckHasCome, LeavesAtNoMemory, IsAcceptedCheck, IsAcceptedJob, IsAcceptedInput, IsAccepted, leaves_engine.
+-- IsUndecided, ScriptHasRead, CheckHasRead, JobHasRead, HasRead, FileReadFault, CommandReadFault, LeavesAtReadFault, least_open,
+-- most_open_job, most_open, HasReadHeader, CheckHasCome, CommandNoMemory, LeavesAtNoMemory, IsAcceptedCheck, IsAcceptedJob, IsAcceptedInput, IsAccepted, leaves_engine.
 use Rattle.std.specs.Prelude.{◌≡◌, ◌≢◌, ⊤, ℕ, zero, suc, ◌+◌, ◌<◌, ◌≤◌, Bool, true, false, ◌&&◌, nat_lt, IsTrue, List, [], ◌++◌, length, Option, Some, None, Ok, Err, slice_get}
 use Rattle.mesh_defs.specs.HeightField.{HeightField, IsHeightField}
 use Rattle.roam_edge.specs.Shelf.{NamedFile, bytes_of}
@@ -64,10 +64,11 @@ pub record EndsAs (before now : Told) (old new : Seen) (end : Outcome) (status :
 pub record EndsRight (before now : Told) (old new : Seen) (words : List (List ℕ)) (files : List NamedFile) (status : Status) : Type 0 where
   pub ends : status ≢ NoMemory → status ≢ ReadFault → (end : Outcome) × IsOutcome words files end × EndsAs before now old new end status
 
--- the end of the file was read, and where files are told nothing is unread
+-- the end of the file was read: nothing is unread where the shelf tells its files, and nothing where it tells what is unread
 pub record HasEnded (now : Seen) : Type 0 where
   pub at_end : now.ended ≡ true
   pub nothing_left : (all : List NamedFile) → now.files ≡ Some all → now.rest ≡ Some []
+  pub nothing_unread : (unread : List ℕ) → now.rest ≡ Some unread → unread ≡ []
 
 -- the words allow this status: Usage is for words that are no command, a refusal for a command that reads what
 -- is refused, a failed read for one that reads a file, a rejection for a check
@@ -150,13 +151,17 @@ pub record FileReadFault (before now : Told) (new : Seen) (command : Command) (f
 
 -- A read failed, at one of the command's files. Unless it was that of a script nothing was done, whether the
 -- shelf tells its files or not.
-pub record LeavesAtReadFault (before now : Told) (old new : Seen) (words : List (List ℕ)) : Type 0 where
-  pub command : Command
+pub record CommandReadFault (before now : Told) (old new : Seen) (command : Command) : Type 0 where
   pub file : ℕ
-  pub is_command : command_of words ≡ Some command
   pub opened : new.opens ≡ old.opens + (file + 1)
   pub before_script : (IsTrue (has_script command) → file ≡ 0) → Stands before now []
   pub at_file : (files : List NamedFile) → old.files ≡ Some files → FileReadFault before now new command files file
+
+-- so of the command that the words are
+pub record LeavesAtReadFault (before now : Told) (old new : Seen) (words : List (List ℕ)) : Type 0 where
+  pub command : Command
+  pub is_command : command_of words ≡ Some command
+  pub leaves : CommandReadFault before now old new command
 
 -- how many files are open at least when memory runs out: the grid, if the command names one
 abbrev pub least_open : Command → ℕ
@@ -185,12 +190,10 @@ abbrev pub CheckHasCome : List ℕ → Checking → List NamedFile → ℕ → T
 CheckHasCome name c files opened = 2 ≤ opened → (grid : HeightField) × (grid_of (bytes_of files name) ≡ Ok grid)
     × (3 ≤ opened → (cert : Certificate) × (cert_in grid.n (bytes_of files c.certificate) ≡ Ok cert) × IsFaultless c grid cert)
 
--- Memory ran out, which is free. It does so only for words of a command, before a script is opened and before anything
--- is written, and if they name a grid not before a whole accepted header of it was read.
-pub record LeavesAtNoMemory (before now : Told) (old new : Seen) (words : List (List ℕ)) : Type 0 where
-  pub command : Command
+-- Memory ran out, which is free. It does so only before a script is opened and before anything is written, and if the command
+-- names a grid not before a whole accepted header of it was read.
+pub record CommandNoMemory (before now : Told) (old new : Seen) (command : Command) : Type 0 where
   pub opened : ℕ
-  pub is_command : command_of words ≡ Some command
   pub count : new.opens ≡ old.opens + opened
   pub least : least_open command ≤ opened
   pub most : opened ≤ most_open command
@@ -199,6 +202,12 @@ pub record LeavesAtNoMemory (before now : Told) (old new : Seen) (words : List (
       → opened ≡ 1 → HasReadHeader (bytes_of files name) new.rest
   pub in_order : (name : List ℕ) (c : Checking) (files : List NamedFile) → command ≡ OnGrid name (Check c) → old.files ≡ Some files
       → CheckHasCome name c files opened
+
+-- so only for words of a command
+pub record LeavesAtNoMemory (before now : Told) (old new : Seen) (words : List (List ℕ)) : Type 0 where
+  pub command : Command
+  pub is_command : command_of words ≡ Some command
+  pub leaves : CommandNoMemory before now old new command
 
 -- what a check reads is accepted: a certificate without a fault, and the text of its triangles
 abbrev pub IsAcceptedCheck : Checking → HeightField → List NamedFile → Type 0

@@ -2,12 +2,12 @@ use Rattle.std.proofs.Common.{◌≡◌, take, rules, arith, ◌∙◌}
 use Rattle.std.proofs.lemmas.Grind.{common_steps}
 use Rattle.std.proofs.lemmas.Result.{err_from_is_err_and}
 use Rattle.roam_run.specs.declared.cert_file.CertStop.TheVariants.{BadLine}
-use Rattle.roam_run.proofs.FileLemmas.{piece-read}
-use Rattle.roam_run.proofs.CertStageLemmas.{cert-more, cert-refused, cert-ok, cert-bad, cert-not_opened}
+use Rattle.roam_run.proofs.FileLemmas.{piece-read, stops-unopened}
+use Rattle.roam_run.proofs.CertStageLemmas.{cert-more, cert-refused, cert-ok, cert-bad, cert-nothing}
 use Rattle.roam_run.proofs.cert_file.read_cert.Goals as goal
 
 pub returns-in_default-clause-undecided : goal.returns-in_default-clause-undecided
-returns-in_default-clause-undecided g c is all told = cert-not_opened c.args.n _ _ _ (grind (arith, common_steps))
+returns-in_default-clause-undecided g c is all told = stops-unopened _ _ _ _ (grind (arith, common_steps)) (cert-nothing c.args.n)
 
 pub returns-then-count-eq0-clause-ok : goal.returns-then-count-eq0-clause-ok
 returns-then-count-eq0-clause-ok g c =

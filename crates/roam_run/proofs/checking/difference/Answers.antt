@@ -1,4 +1,5 @@
 use Rattle.std.proofs.Common.{sym, ◌∙◌}
+use Rattle.roam_run.proofs.FileLemmas.{has-ended}
 use Rattle.roam_run.proofs.JudgingLemmas.{leaf-levels}
 use Rattle.roam_run.proofs.checking.difference.Goals as goal
 
@@ -6,8 +7,7 @@ pub compare-requires-clause-levels : goal.compare-requires-clause-levels
 compare-requires-clause-levels g c = leaf-levels _ _ c.requires.leaves
 
 pub returns-in-Ok-compare-clause-ended : goal.returns-in-Ok-compare-clause-ended
-returns-in-Ok-compare-clause-ended g c none = record {
-  at_end = c.in-Ok-compare.ensures.ended none;
-  nothing_left = λ all is_told. c.in-Ok-compare.ensures.all_read none _
-      (c.in-Ok.ensures.opened.chosen all (sym (c.in-Ok-compare.ensures.files ∙ c.in-Ok.ensures.others) ∙ is_told));
-}
+returns-in-Ok-compare-clause-ended g c none =
+    has-ended _ _ _ _ _ (c.in-Ok-compare.ensures.ended none) c.in-Ok-compare.ensures.told
+    (λ all is_told. (_, c.in-Ok.ensures.opened.chosen all (sym (c.in-Ok-compare.ensures.files ∙ c.in-Ok.ensures.others) ∙ is_told)))
+    (c.in-Ok-compare.ensures.all_read none)

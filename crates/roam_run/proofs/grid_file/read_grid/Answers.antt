@@ -2,8 +2,8 @@ use Rattle.std.proofs.Common.{◌≡◌, Err, inl, inr, rules, arith, ap, ◌∙
 use Rattle.std.proofs.lemmas.Grind.{common_steps}
 use Rattle.roam_run.specs.GridStop.{stop_for}
 use Rattle.roam_run.specs.declared.grid_file.GridStop.TheVariants.{Refused, NoMemory}
-use Rattle.roam_run.proofs.FileLemmas.{piece-read}
-use Rattle.roam_run.proofs.ReadingLemmas.{reading-begin, reading-more, reading-refused, reading-unsettled, reading-failed, start-unsettled, opening-failed, reading-header, grid-header, grid-ended, stop_for-refused, stop_for-memory}
+use Rattle.roam_run.proofs.FileLemmas.{piece-read, stops-unopened}
+use Rattle.roam_run.proofs.ReadingLemmas.{reading-begin, reading-more, reading-refused, reading-unsettled, reading-failed, start-unsettled, nothing-undecided, reading-header, grid-header, grid-ended, stop_for-refused, stop_for-memory}
 use Rattle.roam_run.proofs.grid_file.read_grid.Goals as goal
 
 pub pieces-init : goal.pieces-init
@@ -54,11 +54,12 @@ returns-then-count-eq0-clause-header g c =
 pub returns-then-count-eq0-clause-ended : goal.returns-then-count-eq0-clause-ended
 returns-then-count-eq0-clause-ended g c =
     grid-ended _ _ _ _ c.pieces.invariant.reading (λ unread is. (c.in-Ok-read.ensures.bytes.empty unread is).0 c.if-count-eq0.true)
-    _ _ _ c.in-Ok-read.count _ c.finished.result (c.in-Ok-read.ensures.others ∙ c.pieces.invariant.files) c.if-count-eq0.true (c.in-Ok-read.ensures.ends.at_end c.if-count-eq0.true) c.in-Ok-read.ensures.bytes.takes
+    _ _ _ c.in-Ok-read.count _ c.finished.result (c.in-Ok-read.ensures.others ∙ c.pieces.invariant.files) c.if-count-eq0.true (c.in-Ok-read.ensures.ends.at_end c.if-count-eq0.true)
+    c.in-Ok-read.ensures.bytes.told c.in-Ok-read.ensures.bytes.takes
 
 pub returns-in_default-read-clause-undecided : goal.returns-in_default-read-clause-undecided
 returns-in_default-read-clause-undecided g c is all told =
     reading-failed _ _ _ _ _ _ c.pieces.invariant.reading c.pieces.invariant.unsettled c.in_default-read.ensures.bytes.kept (c.in_default-read.ensures.ends.failed ∙ c.pieces.invariant.open_file) all told
 
 pub returns-in_default-clause-undecided : goal.returns-in_default-clause-undecided
-returns-in_default-clause-undecided g c is all told = opening-failed _ _ _ (grind (arith, common_steps))
+returns-in_default-clause-undecided g c is all told = stops-unopened _ _ _ _ (grind (arith, common_steps)) nothing-undecided

@@ -4,16 +4,14 @@ use Rattle.roam_edge.specs.Shelf.{bytes_of}
 use Rattle.run_laws.specs.declared.status.Status.{Status}
 use Rattle.run_laws.specs.Act.{told}
 use Rattle.roam_run.specs.Taking.{EndsScript}
-use Rattle.run_laws.proofs.StepLemmas.{come-begin}
-use Rattle.roam_run.proofs.FileLemmas.{file-cut, piece-read}
-use Rattle.roam_run.proofs.EndLemmas.{begins-at, stops-reading, ended-file, piece-file, ends-stop}
+use Rattle.run_laws.proofs.StepLemmas.{place, come-begin}
+use Rattle.roam_run.proofs.FileLemmas.{file-cut, piece-read, read-end, has-ended, stops-unopened, stops-behind}
+use Rattle.roam_run.proofs.EndLemmas.{begins-at, ended-file, piece-file, ends-stop}
 use Rattle.roam_run.proofs.script.run_script.Goals as goal
 
 pub returns-in_default-clause-read_fault : goal.returns-in_default-clause-read_fault
 returns-in_default-clause-read_fault g c is show start begins all told_files =
-    let at_end : g.F.Shelf.ended c.open_named.new.self ≡ true = grind (arith, common_steps) in
-    stops-reading _ _ show start [] (bytes_of all c.args.name.now) (bytes_of all c.args.name.now) _ _ _ (come-begin _ show start begins.goes begins.none) refl (λ e. refl)
-    (λ e. absurd (let f : true ≡ false = sym at_end ∙ e in cc))
+    stops-unopened _ (bytes_of all c.args.name.now) _ _ (grind (arith, common_steps)) (place start [] [], come-begin _ show start begins.goes begins.none)
 
 pub pieces-init : goal.pieces-init
 pieces-init g c = record {
@@ -38,10 +36,8 @@ pieces-init g c = record {
 pub returns-in_default-read-clause-read_fault : goal.returns-in_default-read-clause-read_fault
 returns-in_default-read-clause-read_fault g c is show start begins all told_files =
     let old = c.pieces.invariant.carried show start begins in
-    let there = old.1.in_file all told_files in
-    stops-reading _ _ show start old.0 (bytes_of all c.args.name.now) there.0 _ _ _ old.1.place.come there.2
-    (λ e. absurd (let f : false ≡ true = sym (c.in_default-read.ensures.ends.failed ∙ c.pieces.invariant.open_file) ∙ e in cc))
-    (λ e. c.in_default-read.ensures.bytes.kept ∙ there.1)
+    stops-behind _ _ _ _ _ c.args.name.now old.0 old.1.in_file c.in_default-read.ensures.bytes.kept (c.in_default-read.ensures.ends.failed ∙ c.pieces.invariant.open_file)
+    (old.1.place.here, old.1.place.come) all told_files
 
 pub returns-then-count-eq0-clause-ends : goal.returns-then-count-eq0-clause-ends
 returns-then-count-eq0-clause-ends g c show start begins all told_files read =
@@ -53,13 +49,10 @@ returns-then-count-eq0-clause-ends g c show start begins all told_files read =
     subst P (sym same) (c.end_script.ensures.ends _ show start old.0 begins.starts old.1.place)
 
 pub returns-then-count-eq0-clause-done : goal.returns-then-count-eq0-clause-done
-returns-then-count-eq0-clause-done g c is = record {
-  at_end = c.in-Ok-read.ensures.ends.at_end c.if-count-eq0.true;
-  nothing_left = λ all is_told.
-      let there = c.pieces.invariant.told_rest all (sym (c.in-Ok-read.ensures.others ∙ c.pieces.invariant.files) ∙ is_told) in
-      c.in-Ok-read.ensures.bytes.takes there.0 there.1 ∙ (ap (λ k. Some (drop k there.0)) c.if-count-eq0.true
-      ∙ ap (λ (l : List ℕ). Some l) ((c.in-Ok-read.ensures.bytes.empty there.0 there.1).0 c.if-count-eq0.true));
-}
+returns-then-count-eq0-clause-done g c is =
+    has-ended _ _ _ _ _ (c.in-Ok-read.ensures.ends.at_end c.if-count-eq0.true) c.in-Ok-read.ensures.bytes.told
+    (λ all is_told. c.pieces.invariant.told_rest all (sym (c.in-Ok-read.ensures.others ∙ c.pieces.invariant.files) ∙ is_told))
+    (read-end _ _ c.in-Ok-read.count c.if-count-eq0.true c.in-Ok-read.ensures.bytes.takes (λ unread told. (c.in-Ok-read.ensures.bytes.empty unread told).0 c.if-count-eq0.true))
 
 pub returns-in-Err-clause-ends : goal.returns-in-Err-clause-ends
 returns-in-Err-clause-ends g c show start begins all told_files read =
