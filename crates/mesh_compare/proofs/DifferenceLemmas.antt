@@ -5,7 +5,7 @@ use Rattle.std.proofs.Math.Seq.{drop-cons}
 use Rattle.std.proofs.lemmas.Bool.{cond-true, cond-false, ne_eqb}
 use Rattle.std.proofs.lemmas.List.{length-take-le, take_more}
 use Rattle.mesh_compare.specs.Differs.{first_difference, FindsDifference, HasFront, Gives, Matches, Agrees, IsCutShort}
-use Rattle.mesh_compare.proofs.FileLemmas.{front-none, front-then}
+use Rattle.mesh_compare.proofs.FileLemmas.{front-then}
 
 -- a place moved on by so many, and by one more
 moved-more : (count : ℕ) (found : Option ℕ) → option_map (λ k. suc k) (option_map (λ k. count + k) found) ≡ option_map (λ k. suc count + k) found
@@ -76,10 +76,6 @@ piece-cut piece file left unread i has same = record {
   of_file = rw (← same) has;
 }
 
--- nothing was compared yet
-pub agrees-none : (text : List ℕ) (file : Option (List ℕ)) → Agrees text file text file 0
-agrees-none text file = record { front = []; of_text = refl; of_file = front-none file; place = refl }
-
 -- the next piece of what is to come, where it came into an empty page
 pub piece-first : (slice page empty to_come more : List ℕ) → slice ≡ page → page ++ more ≡ empty ++ to_come → empty ≡ [] →
     to_come ≡ slice ++ more
@@ -125,12 +121,6 @@ module _ (text : List ℕ) (file : Option (List ℕ)) (to_come : List ℕ) (left
   pub differs-nowhere : (left' : Option (List ℕ)) → to_come ≡ [] → Gives None left left' → FindsDifference text file None
   differs-nowhere left' none gives = differs-later None (λ bytes is. rw (none, (gives bytes is).0) refl)
 
-  -- all of the file was read then
-  pub all-read : (left' : Option (List ℕ)) → Gives None left left' → (bytes : List ℕ) → file ≡ Some bytes → left' ≡ Some []
-  all-read left' gives bytes is =
-      let here = agrees.of_file bytes is in
-      (gives here.0 here.1).1
-
   -- a read failed in the next piece
   pub cut-in : (piece more : List ℕ) (unread : Option (List ℕ)) → to_come ≡ piece ++ more → IsCutShort piece left unread →
       IsCutShort text file unread
@@ -143,12 +133,4 @@ module _ (text : List ℕ) (file : Option (List ℕ)) (to_come : List ℕ) (left
           ∙ sym (append_assoc agrees.front cut.read (cut.of_text.back ++ more));
     };
     of_file = front-then agrees.front cut.read file left unread agrees.of_file cut.of_file;
-  }
-
-  -- a read failed behind the text
-  pub cut-here : (unread : Option (List ℕ)) → left ≡ unread → IsCutShort text file unread
-  cut-here unread same = record {
-    read = agrees.front;
-    of_text = record { back = to_come; joined = agrees.of_text };
-    of_file = rw (← same) agrees.of_file;
   }

@@ -7,7 +7,7 @@ use Rattle.cert_text.specs.declared.limits.TheConstants.{MOST_LEAVES, MOST_REASO
 use Rattle.cert_text.specs.Certificate.{Certificate}
 use Rattle.cert_text.specs.CertReader.{ReadSoFar, Reading, nothing_read, cert_line_in}
 use Rattle.run_laws.specs.CertFile.{CertPlace, HasCertCome, CertHasRead, cert_of, cert_in}
-use Rattle.run_laws.proofs.CertFileLemmas.{cert_place, cert-begin, cert-byte, cert-line, refused-line, refused-byte, cert-end, cert-last, refused-last}
+use Rattle.run_laws.proofs.CertFileLemmas.{cert_place, cert-begin, cert-line, refused-line, refused-byte, cert-end, cert-last, refused-last}
 use Rattle.roam_run.specs.declared.cert_file.CertStage.{CertStage}
 use Rattle.roam_run.specs.declared.cert_file.CertStop.{CertStop}
 use Rattle.roam_run.specs.declared.cert_file.CertStop.TheVariants.{BadLine}
@@ -48,18 +48,6 @@ module _ (n : ℕ) (read : List ℕ) (old : CertStage) (come : HasCertCome n rea
     bad = λ line e more. refused-byte n read (place_seen old) come byte other long more ∙ ap refused (same-line (old.lines + 1) line e);
   }
 
-  -- the line goes on by a byte
-  pub takes-on : (byte : ℕ) (new : CertStage) → byte ≢ 10 → length old.part.items < MOST_LINE_BYTES → new.reader ≡ old.reader → new.lines ≡ old.lines
-      → new.part.items ≡ old.part.items ++ byte ∷ [] → TakesCert {T = Unit {0}} n (read ++ byte ∷ []) new (Ok tt)
-  takes-on byte new other short reader lines part =
-      let P : ReadSoFar → Type 0 = λ r. HasCertCome n (read ++ byte ∷ []) (cert_place r old.lines (old.part.items ++ byte ∷ [])) in
-      let Q : ℕ → Type 0 = λ k. HasCertCome n (read ++ byte ∷ []) (cert_place new.reader.read k (old.part.items ++ byte ∷ [])) in
-      let R : List ℕ → Type 0 = λ l. HasCertCome n (read ++ byte ∷ []) (cert_place new.reader.read new.lines l) in
-      record {
-        ok = subst R (sym part) (subst Q (sym lines) (subst P (sym (ap (λ (r : Reading). r.read) reader)) (cert-byte n read (place_seen old) come byte other short)));
-        bad = λ line e. cc;
-      }
-
   -- the file ended behind whole lines
   pub ends-whole : (answer : Result Certificate CertStop) → old.part.items ≡ [] → IfOk answer (λ cert. cert_of old.reader.read ≡ Ok cert)
       → ((line : ℕ) → answer ≡ Err (BadLine line) → cert_of old.reader.read ≡ Err line) → EndsCert n read answer
@@ -92,28 +80,11 @@ takes-longer n bytes tail whole old new stop is takes = record {
   bad = λ line e more. ap (λ (l : List ℕ). cert_in n (l ++ more)) is ∙ (ap (cert_in n) (append_assoc bytes tail more) ∙ takes.bad line e (tail ++ more));
 }
 
-camera-once : (camera : Option CameraAt) → (elim camera as (λ _. ℕ) [ None ↦ 0 | Some seen_from ↦ 1 ]) ≤ 1
-camera-once None = omega arith
-camera-once (Some seen_from) = omega arith
-
--- a certificate has no more lines than a camera, leaves and reasons
-pub lines-bound : (stage : CertStage) → IsCounted stage → stage.lines ≤ 1 + MOST_LEAVES + MOST_REASONS
-lines-bound stage counted =
-    let one = camera-once stage.reader.read.camera in
-    omega (arith, one, counted.counted, counted.few_leaves, counted.few_reasons)
-
 -- Some bytes of a certificate were read of the named file.
 pub record IsReadingCert (n : ℕ) (files : Option (List NamedFile)) (rest : Option (List ℕ)) (name : List ℕ) (stage : CertStage) : Type 0 where
   pub bytes : List ℕ
   pub come : HasCertCome n bytes (place_seen stage)
   pub in_file : IsOfFile files rest name bytes
-
--- nothing was read of a file that was just opened
-pub cert-starts : (n : ℕ) (files : Option (List NamedFile)) (rest : Option (List ℕ)) (name : List ℕ) (stage : CertStage) → place_seen stage ≡ cert_place nothing_read 0 []
-    → ((all : List NamedFile) → files ≡ Some all → rest ≡ Some (bytes_of all name)) → IsReadingCert n files rest name stage
-cert-starts n files rest name stage is chosen =
-    let P : CertPlace → Type 0 = λ p. HasCertCome n [] p in
-    record { bytes = []; come = subst P (sym is) (cert-begin n); in_file = read-nothing files rest name chosen }
 
 module _ (n : ℕ) (files : Option (List NamedFile)) (rest : Option (List ℕ)) (name : List ℕ) (stage : CertStage) (reading : IsReadingCert n files rest name stage) where
   -- a piece was read and taken
@@ -146,12 +117,6 @@ module _ (n : ℕ) (files : Option (List NamedFile)) (rest : Option (List ℕ)) 
   pub cert-bad : (answer : Result Certificate CertStop) (line : ℕ) → ((unread : List ℕ) → rest ≡ Some unread → unread ≡ []) → EndsCert n reading.bytes answer
       → answer ≡ Err (BadLine line) → (all : List NamedFile) → files ≡ Some all → cert_in n (bytes_of all name) ≡ Err line
   cert-bad answer line nothing ends is all told = ap (cert_in n) (cert-whole nothing all told) ∙ ends.bad line is
-
-  -- a read failed
-  pub cert-failed : (rest' : Option (List ℕ)) (ended' : Bool) → rest' ≡ rest → ended' ≡ false → (all : List NamedFile) → files ≡ Some all
-      → StopsReading (CertHasRead n) (bytes_of all name) rest' ended'
-  cert-failed rest' ended' kept open_file =
-      stops-behind (CertHasRead n) files rest rest' ended' name reading.bytes reading.in_file kept open_file (place_seen stage, reading.come)
 
 -- of nothing that was read a line is refused
 pub cert-nothing : (n : ℕ) → CertHasRead n []

@@ -72,13 +72,8 @@ module _ (meshes meshes' : Option (List Mesh)) (report report' : Option (List �
         let text_came = stands-text meshes' report report' line (subst P says came) in
         record { meshes_grow = grown; report_grows = text_came.report_grows }
 
--- one line, written or cut short
+-- one line, cut short
 module _ (meshes : Option (List Mesh)) (report report' : Option (List ℕ)) (line words : List ℕ) (says : words ≡ line) where
-  pub stands-words : ((all : List ℕ) → report ≡ Some all → report' ≡ Some (all ++ words)) → Stands (told meshes report) (told meshes report') (ReportText line ∷ [])
-  stands-words came =
-      let P : List ℕ → Type 0 = λ t. (all : List ℕ) → report ≡ Some all → report' ≡ Some (all ++ t) in
-      stands-text meshes report report' line (subst P says came)
-
   pub cut-words : ((all : List ℕ) → report ≡ Some all → (front : List ℕ) × IsPrefix front words × (report' ≡ Some (all ++ front)))
       → IsCutShort (told meshes report) (told meshes report') (ReportText line ∷ [])
   cut-words part =

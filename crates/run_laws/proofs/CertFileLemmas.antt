@@ -4,12 +4,9 @@ use Rattle.std.proofs.lemmas.Bool.{lt-ltb}
 use Rattle.std.proofs.lemmas.List.Elements.{All-from_recursion}
 use Rattle.roam_script.specs.declared.limits.TheConstants.{MOST_LINE_BYTES}
 use Rattle.text_laws.specs.Fields.{fields_of, without_last_cr}
-use Rattle.mesh_defs.specs.BoundingBox.{CameraAt}
 use Rattle.cert_text.specs.Certificate.{Certificate}
 use Rattle.cert_text.specs.CertLine.{fields_line, line_in}
-use Rattle.cert_text.specs.CertReader.{ReadSoFar, nothing_read, taken, cert_line_in, finished}
-use Rattle.cert_text.specs.declared.fault.CertFault.{CertFault}
-use Rattle.cert_text.specs.Laws.{line_count, LinesAreCounted}
+use Rattle.cert_text.specs.CertReader.{ReadSoFar, nothing_read, taken, cert_line_in}
 use Rattle.run_laws.specs.Walk.{lines_of, AreWhole}
 use Rattle.run_laws.specs.CertFile.{said_behind, said_in, cert_of, cert_in, CertPlace, HasCertCome}
 use Rattle.run_laws.proofs.LineLemmas.{NoEnd, no_end, no_end-append, lines_of-ends, lines_of-last, lines_of-begins, BeginsWith}
@@ -59,42 +56,6 @@ pub cert_in-said : (n : ℕ) (bytes : List ℕ) (answer : Result ReadSoFar ℕ) 
 unfolding cert_in
 cert_in-said n bytes answer is = ap certificate_of is
 
--- a reader that has not refused ends with the same certificate, or where there was no line with the first one refused
-pub cert_of-finished : (said : ReadSoFar) (cert : Certificate) → finished None said ≡ Ok cert → cert_of said ≡ Ok cert
-cert_of-finished said cert is = elim-camera said.camera is
-  where
-    elim-camera : (place : Option CameraAt) → finished None (record said { camera = place }) ≡ Ok cert → cert_of (record said { camera = place }) ≡ Ok cert
-    elim-camera None e = absurd (refused e)
-      where
-        refused : finished None (record said { camera = None }) ≡ Ok cert → ⊥
-        refused f = cc
-    elim-camera (Some place) e = ap Ok (same e)
-      where
-        same : finished None (record said { camera = Some place }) ≡ Ok cert → record { camera = place; leaves = said.leaves; reasons = said.reasons } ≡ cert
-        same f = cc
-
-pub cert_of-refused : (said : ReadSoFar) (fault : CertFault) → finished None said ≡ Err fault → cert_of said ≡ Err 1
-cert_of-refused said fault is = elim-camera said.camera is
-  where
-    elim-camera : (place : Option CameraAt) → finished None (record said { camera = place }) ≡ Err fault → cert_of (record said { camera = place }) ≡ Err 1
-    elim-camera None e = refl
-    elim-camera (Some place) e = absurd (accepted e)
-      where
-        accepted : finished None (record said { camera = Some place }) ≡ Err fault → ⊥
-        accepted f = cc
-
--- how many lines were accepted
-
-said-count : LinesAreCounted → (n number : ℕ) (said last : ReadSoFar) (lines : List (List ℕ)) → said_behind n number said lines ≡ Ok last → line_count last ≡ line_count said + length lines
-said-count one n number said last [] is = sym (ap (λ (s : ReadSoFar). line_count s) (same-said said last is)) ∙ omega arith
-said-count one n number said last (bytes ∷ lines) is = go (cert_line_in n said bytes) refl (λ next e. said-count one n (number + 1) next last lines e) is
-  where
-    go : (answer : Option ReadSoFar) → cert_line_in n said bytes ≡ answer
-        → ((next : ReadSoFar) → said_behind n (number + 1) next lines ≡ Ok last → line_count last ≡ line_count next + length lines)
-        → said_next n number lines answer ≡ Ok last → line_count last ≡ line_count said + length (bytes ∷ lines)
-    go None at rest e = absurd (no-refusal number last e)
-    go (Some next) at rest e = (let more = rest next e in let first = one n said next bytes at in omega (arith, more, first))
-
 -- the place that was reached
 
 abbrev pub cert_place : ReadSoFar → ℕ → List ℕ → CertPlace
@@ -123,10 +84,6 @@ module _ (n : ℕ) (read : List ℕ) (here : CertPlace) (come : HasCertCome n re
   begun-ends : NoEnd here.begun
   begun-ends = no_end here.begun come.one_line
 
-  -- so many lines were accepted
-  pub come-count : LinesAreCounted → here.lines ≡ line_count here.said
-  come-count one = sym come.counted ∙ sym (said-count one n 1 nothing_read here.said (lines_of come.whole) come.accepted ∙ omega arith)
-
   -- what was read, and more, leads on from the place
   said-come : (more : List ℕ) → said_in n (read ++ more) ≡ said_behind n (here.lines + 1) here.said (lines_of (here.begun ++ more))
   said-come more =
@@ -141,18 +98,6 @@ module _ (n : ℕ) (read : List ℕ) (here : CertPlace) (come : HasCertCome n re
   said-ended more =
       ap (said_in n) (append_assoc read (10 ∷ []) more)
       ∙ (said-come (10 ∷ more) ∙ ap (λ (l : List (List ℕ)). said_behind n (here.lines + 1) here.said l) (lines_of-ends here.begun more begun-ends))
-
-  -- the line goes on by a byte
-  pub cert-byte : (byte : ℕ) → byte ≢ 10 → length here.begun < MOST_LINE_BYTES → HasCertCome n (read ++ byte ∷ []) (cert_place here.said here.lines (here.begun ++ byte ∷ []))
-  cert-byte byte other short = record {
-    whole = come.whole;
-    cut = ap (λ (l : List ℕ). l ++ byte ∷ []) come.cut ∙ append_assoc come.whole here.begun (byte ∷ []);
-    ended = come.ended;
-    accepted = come.accepted;
-    counted = come.counted;
-    one_line = All-from_recursion (λ b. b ≢ 10) (here.begun ++ byte ∷ []) (no_end-append here.begun byte begun-ends other);
-    short = (let e = length-append here.begun (byte ∷ []) in omega (arith, e, short));
-  }
 
   -- an accepted line was read
   pub cert-line : (next : ReadSoFar) → cert_line_in n here.said here.begun ≡ Some next → HasCertCome n (read ++ 10 ∷ []) (cert_place next (here.lines + 1) [])
