@@ -38,7 +38,9 @@ pub(crate) fn info_report(wedges: &Wedges) -> Text
 fn base_thickness(wedges: &Wedges) -> u32
     ensures { result ≡ max (thickness_of wedges.now.n wedges.now.heights 2) (thickness_of wedges.now.n wedges.now.heights 3) }
 {
-    wedges.thickness(Tri::LOWER).max(wedges.thickness(Tri::UPPER))
+    wedges
+        .thickness(Tri::LOWER)
+        .max(wedges.thickness(Tri::UPPER))
 }
 
 /// The least and the greatest height, of which there is one at least.
