@@ -28,12 +28,20 @@ same_point i j k l x y = rw (x, y) refl
 same_corners : (a p q b r s : Point) → a ≡ b → p ≡ r → q ≡ s → three a p q ≡ three b r s
 same_corners a p q b r s apex v0 v1 = rw (apex, v0, v1) refl
 
--- corners are equal if their six coordinates are
-pub same_by_coordinates : (c d : Corners) → c.apex.x ≡ d.apex.x → c.apex.y ≡ d.apex.y → c.v0.x ≡ d.v0.x →
-    c.v0.y ≡ d.v0.y → c.v1.x ≡ d.v1.x → c.v1.y ≡ d.v1.y → c ≡ d
-same_by_coordinates c d ax ay px py qx qy =
-    same_corners c.apex c.v0 c.v1 d.apex d.v0 d.v1 (same_point c.apex.x c.apex.y d.apex.x d.apex.y ax ay)
-    (same_point c.v0.x c.v0.y d.v0.x d.v0.y px py) (same_point c.v1.x c.v1.y d.v1.x d.v1.y qx qy)
+-- the six coordinates of the two are equal
+pub record AreAlike (c d : Corners) : Type 0 where
+  pub apex_x : c.apex.x ≡ d.apex.x
+  pub apex_y : c.apex.y ≡ d.apex.y
+  pub v0_x : c.v0.x ≡ d.v0.x
+  pub v0_y : c.v0.y ≡ d.v0.y
+  pub v1_x : c.v1.x ≡ d.v1.x
+  pub v1_y : c.v1.y ≡ d.v1.y
+
+-- so the two are equal
+pub same_by_coordinates : (c d : Corners) → AreAlike c d → c ≡ d
+same_by_coordinates c d h =
+    same_corners c.apex c.v0 c.v1 d.apex d.v0 d.v1 (same_point c.apex.x c.apex.y d.apex.x d.apex.y h.apex_x h.apex_y)
+    (same_point c.v0.x c.v0.y d.v0.x d.v0.y h.v0_x h.v0_y) (same_point c.v1.x c.v1.y d.v1.x d.v1.y h.v1_x h.v1_y)
 
 -- ---- lattice steps
 
@@ -69,36 +77,22 @@ halved (suc zero) = 1
 halved (suc (suc level)) = suc (halved level)
 
 scaled-base : (step half : ℕ) → base_triangle step half ≡ scaled step (base_triangle 1 half)
-scaled-base step zero = same_by_coordinates (base_triangle step 0) (scaled step (base_triangle 1 0)) (omega arith)
-    (omega arith) (omega arith) (omega arith) (omega arith) (omega arith)
-scaled-base step (suc h) = same_by_coordinates (base_triangle step (suc h)) (scaled step (base_triangle 1 (suc h)))
-    (omega arith) (omega arith) (omega arith) (omega arith) (omega arith) (omega arith)
+scaled-base step zero = same_by_coordinates _ _ (grind arith)
+scaled-base step (suc _) = same_by_coordinates _ _ (grind arith)
 
 scaled-child_of_base : (step side half : ℕ) → child side (base_triangle (2 * step) half) ≡ scaled step
     (child side (base_triangle 2 half))
-scaled-child_of_base step zero zero = same_by_coordinates (child 0 (base_triangle (2 * step) 0))
-    (scaled step (child 0 (base_triangle 2 0))) (omega arith) (omega arith) (omega arith) (omega arith) (omega arith)
-    (omega arith)
-scaled-child_of_base step zero (suc h) = same_by_coordinates (child 0 (base_triangle (2 * step) (suc h)))
-    (scaled step (child 0 (base_triangle 2 (suc h)))) (omega arith) (omega arith) (omega arith) (omega arith)
-    (omega arith) (omega arith)
-scaled-child_of_base step (suc s) zero = same_by_coordinates (child (suc s) (base_triangle (2 * step) 0))
-    (scaled step (child (suc s) (base_triangle 2 0))) (omega arith) (omega arith) (omega arith) (omega arith)
-    (omega arith) (omega arith)
-scaled-child_of_base step (suc s) (suc h) = same_by_coordinates (child (suc s) (base_triangle (2 * step) (suc h)))
-    (scaled step (child (suc s) (base_triangle 2 (suc h)))) (omega arith) (omega arith) (omega arith) (omega arith)
-    (omega arith) (omega arith)
+scaled-child_of_base step zero zero = same_by_coordinates _ _ (grind arith)
+scaled-child_of_base step zero (suc _) = same_by_coordinates _ _ (grind arith)
+scaled-child_of_base step (suc _) zero = same_by_coordinates _ _ (grind arith)
+scaled-child_of_base step (suc _) (suc _) = same_by_coordinates _ _ (grind arith)
 
 child_of_child : (step half side : ℕ) (c : Corners) → half < 2 → side < 2 → child side
     (child half (scaled (2 * step) c)) ≡ scaled step (grandchild (2 * half + side) c)
-child_of_child step zero zero c _ _ = same_by_coordinates (child 0 (child 0 (scaled (2 * step) c)))
-    (scaled step (grandchild 0 c)) (omega arith) (omega arith) (omega arith) (omega arith) (omega arith) (omega arith)
-child_of_child step zero (suc zero) c _ _ = same_by_coordinates (child 1 (child 0 (scaled (2 * step) c)))
-    (scaled step (grandchild 1 c)) (omega arith) (omega arith) (omega arith) (omega arith) (omega arith) (omega arith)
-child_of_child step (suc zero) zero c _ _ = same_by_coordinates (child 0 (child 1 (scaled (2 * step) c)))
-    (scaled step (grandchild 2 c)) (omega arith) (omega arith) (omega arith) (omega arith) (omega arith) (omega arith)
-child_of_child step (suc zero) (suc zero) c _ _ = same_by_coordinates (child 1 (child 1 (scaled (2 * step) c)))
-    (scaled step (grandchild 3 c)) (omega arith) (omega arith) (omega arith) (omega arith) (omega arith) (omega arith)
+child_of_child step zero zero c _ _ = same_by_coordinates _ _ (grind arith)
+child_of_child step zero (suc zero) c _ _ = same_by_coordinates _ _ (grind arith)
+child_of_child step (suc zero) zero c _ _ = same_by_coordinates _ _ (grind arith)
+child_of_child step (suc zero) (suc zero) c _ _ = same_by_coordinates _ _ (grind arith)
 child_of_child step (suc (suc _)) _ c low _ = absurd (omega (arith, low))
 child_of_child step _ (suc (suc _)) c _ low = absurd (omega (arith, low))
 

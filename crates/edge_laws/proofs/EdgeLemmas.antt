@@ -25,7 +25,7 @@ step_of-double n level fits =
     step_of-power (n + 1) level (k + 1) (omega arith) ∙ pow_next k ∙ ap (λ t. 2 * t) (sym (step_of-power n level k refl))
 
 scaled-twice : (step : ℕ) (c : Corners) → scaled (2 * step) c ≡ scaled 2 (scaled step c)
-scaled-twice step c = same_by_coordinates (scaled (2 * step) c) (scaled 2 (scaled step c)) (omega arith) (omega arith) (omega arith) (omega arith) (omega arith) (omega arith)
+scaled-twice step c = same_by_coordinates _ _ (grind arith)
 
 -- in the grid of twice the side all corners are doubled
 pub corners_of-double : (n a : ℕ) → level_of a ≤ 2 * n → corners_of (n + 1) a ≡ scaled 2 (corners_of n a)
