@@ -1,4 +1,4 @@
-use Rattle.std.proofs.Common.{◌≡◌, ◌∙◌, ap, sym, subst, ℕ, ◌*◌, ◌^◌, ◌<◌, List, length, false}
+use Rattle.std.proofs.Common.{◌≡◌, ◌∙◌, rules, ap, sym, subst, ℕ, ◌*◌, ◌^◌, ◌<◌, List, length, false}
 use Rattle.std.proofs.lemmas.Option.{IfSome_then}
 use Rattle.mesh_defs.specs.Triangle.{corners_of}
 use Rattle.edge_laws.specs.Slots.{address_at, has_children, IsLive, IsPool, split_set}
@@ -15,12 +15,10 @@ link_words n pairs seen_n seen s link same_n same pool short live leaf read =
     subst (λ t. IsLeafLink seen_n t (address_at t s) (corners_of seen_n (address_at t s)).apex (corners_of seen_n (address_at t s)).v0 link) same
     (subst (λ m. IsLeafLink m pairs (address_at pairs s) (corners_of m (address_at pairs s)).apex (corners_of m (address_at pairs s)).v0 link) same_n words)
 
-pub returns-clause-none : goal.returns-clause-none
-returns-clause-none c =
-    let words = link_words c.self.inside.nodes.n c.self.inside.nodes.pairs c.args.self.now.n c.args.self.now.pairs c.args.s.0 c.left.result (ap (λ p. p.n) c.self.view_is) (ap (λ p. p.pairs) c.self.view_is) c.n-n.ensures.valid c.n-n.ensures.short c.requires.leaf.live c.requires.leaf.leaf c.left.ensures in
-    ((λ none. words.border (c.linked.ensures.none.0 none)), (λ side. c.linked.ensures.none.1 (words.none side)))
-
-pub returns-clause-some : goal.returns-clause-some
-returns-clause-some c =
-    let words = link_words c.self.inside.nodes.n c.self.inside.nodes.pairs c.args.self.now.n c.args.self.now.pairs c.args.s.0 c.left.result (ap (λ p. p.n) c.self.view_is) (ap (λ p. p.pairs) c.self.view_is) c.n-n.ensures.valid c.n-n.ensures.short c.requires.leaf.live c.requires.leaf.leaf c.left.ensures in
-    IfSome_then c.linked.result c.linked.ensures.some (λ t is. subst (λ x. IsLeafAcross c.args.self.now.n (split_set c.args.self.now.pairs) (address_at c.args.self.now.pairs c.args.s.0) (corners_of c.args.self.now.n (address_at c.args.self.now.pairs c.args.s.0)).apex (corners_of c.args.self.now.n (address_at c.args.self.now.pairs c.args.s.0)).v0 (address_at c.args.self.now.pairs x)) (sym is.0) (words.some is.1))
+pub returns : goal.returns
+returns c =
+    let words = link_words c.self.inside.nodes.n c.self.inside.nodes.pairs c.args.self.now.n c.args.self.now.pairs c.args.s.0 c.left.result (ap (λ p. p.n) c.self.view_is) (ap (λ p. p.pairs) c.self.view_is) c.n-n.ensures.valid c.n-n.ensures.short c.requires.leaf.live c.requires.leaf.leaf c.left.ensures in record {
+      none = ((λ none. words.border (c.linked.ensures.none.0 none)), (λ side. c.linked.ensures.none.1 (words.none side)));
+      some = IfSome_then c.linked.result c.linked.ensures.some (λ t is. subst (λ x. IsLeafAcross c.args.self.now.n (split_set c.args.self.now.pairs) (address_at c.args.self.now.pairs c.args.s.0) (corners_of c.args.self.now.n (address_at c.args.self.now.pairs c.args.s.0)).apex (corners_of c.args.self.now.n (address_at c.args.self.now.pairs c.args.s.0)).v0 (address_at c.args.self.now.pairs x)) (sym is.0) (words.some is.1));
+      valid = search rules;
+    }
