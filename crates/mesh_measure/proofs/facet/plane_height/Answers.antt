@@ -33,21 +33,14 @@ overflow_cast-result c =
     let small = product-small c.side.result c.weighted.result c.facet_of-facet.result.area c.side.ensures.small c.weighted.ensures.small in
     let less = small.1 in omega arith
 
-pub returns-clause-value : goal.returns-clause-value
-returns-clause-value c =
+pub returns : goal.returns
+returns c =
     let small = product-small c.side.result c.weighted.result c.facet_of-facet.result.area c.side.ensures.small c.weighted.ensures.small in
     let same : c.n.result ≡ c.args.w.now.n = c.n.ensures.value ∙ ap (λ (g : HeightField). g.n) c.grid.ensures.value in
     let quotient = plane_height-facet c.args.w.now.n c.args.w.now.heights c.args.t c.facet_of-facet.result (point c.args.x c.args.y)
     c.of-areas.result c.side.result c.weighted.result c.facet_of-facet.ensures.valid c.facet_of-facet.ensures.corners c.of-areas.ensures
     (c.side.ensures.value ∙ ap (λ k. 2 ^ k) same) c.weighted.ensures.value in
-    let less = small.1 in
-    to_z_pos w64 (c.side.result * c.weighted.result / c.facet_of-facet.result.area) (omega arith) ∙ ap pos quotient
-
-pub returns-clause-small : goal.returns-clause-small
-returns-clause-small c =
-    let small = product-small c.side.result c.weighted.result c.facet_of-facet.result.area c.side.ensures.small c.weighted.ensures.small in
-    let same : c.n.result ≡ c.args.w.now.n = c.n.ensures.value ∙ ap (λ (g : HeightField). g.n) c.grid.ensures.value in
-    let quotient = plane_height-facet c.args.w.now.n c.args.w.now.heights c.args.t c.facet_of-facet.result (point c.args.x c.args.y)
-    c.of-areas.result c.side.result c.weighted.result c.facet_of-facet.ensures.valid c.facet_of-facet.ensures.corners c.of-areas.ensures
-    (c.side.ensures.value ∙ ap (λ k. 2 ^ k) same) c.weighted.ensures.value in
-    let less = small.1 in omega arith
+    let less = small.1 in record {
+      value = to_z_pos w64 (c.side.result * c.weighted.result / c.facet_of-facet.result.area) (omega arith) ∙ ap pos quotient;
+      small = omega arith;
+    }
