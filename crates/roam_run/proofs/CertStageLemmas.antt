@@ -1,19 +1,16 @@
 -- A certificate that is read from a shelf, byte by byte and piece by piece.
-use Rattle.std.proofs.Common.{◌≡◌, ◌≢◌, ℕ, ◌+◌, ◌<◌, ◌≤◌, Bool, false, List, [], ◌∷◌, ◌++◌, take, drop, length, Option, Some, None, Result, Ok, Err, IfOk, OnOk, refl, sym, ◌∙◌, ap, subst, arith, append_assoc}
-use Rattle.mesh_defs.specs.BoundingBox.{CameraAt}
+use Rattle.std.proofs.Common.{◌≡◌, ◌≢◌, ℕ, ◌+◌, ◌≤◌, List, [], ◌∷◌, ◌++◌, take, drop, length, Option, Some, None, Result, Ok, Err, IfOk, OnOk, sym, ◌∙◌, ap, subst, append_assoc}
 use Rattle.roam_edge.specs.Shelf.{NamedFile, bytes_of}
 use Rattle.roam_script.specs.declared.limits.TheConstants.{MOST_LINE_BYTES}
-use Rattle.cert_text.specs.declared.limits.TheConstants.{MOST_LEAVES, MOST_REASONS}
 use Rattle.cert_text.specs.Certificate.{Certificate}
-use Rattle.cert_text.specs.CertReader.{ReadSoFar, Reading, nothing_read, cert_line_in}
-use Rattle.run_laws.specs.CertFile.{CertPlace, HasCertCome, CertHasRead, cert_of, cert_in}
+use Rattle.cert_text.specs.CertReader.{ReadSoFar, nothing_read, cert_line_in}
+use Rattle.run_laws.specs.CertFile.{HasCertCome, CertHasRead, cert_of, cert_in}
 use Rattle.run_laws.proofs.CertFileLemmas.{cert_place, cert-begin, cert-line, refused-line, refused-byte, cert-end, cert-last, refused-last}
 use Rattle.roam_run.specs.declared.cert_file.CertStage.{CertStage}
 use Rattle.roam_run.specs.declared.cert_file.CertStop.{CertStop}
 use Rattle.roam_run.specs.declared.cert_file.CertStop.TheVariants.{BadLine}
-use Rattle.roam_run.specs.FileStop.{StopsReading}
-use Rattle.roam_run.specs.CertStage.{place_seen, IsCounted, TakesCert, EndsCert}
-use Rattle.roam_run.proofs.FileLemmas.{IsOfFile, read-nothing, file-cut, read-more, read-all, stops-behind}
+use Rattle.roam_run.specs.CertStage.{place_seen, TakesCert, EndsCert}
+use Rattle.roam_run.proofs.FileLemmas.{IsOfFile, file-cut, read-more, read-all}
 
 -- the refusal of a line, as an answer
 abbrev refused : ℕ → Result Certificate ℕ

@@ -1,5 +1,5 @@
 -- The end of a script, and a script that is read from a shelf, piece by piece.
-use Rattle.std.proofs.Common.{◌≡◌, ◌≢◌, ℕ, Bool, true, false, List, [], ◌∷◌, ◌++◌, take, drop, IsTrue, Option, Some, None, IsSome, Err, refl, sym, ◌∙◌, ap, subst, append-nil}
+use Rattle.std.proofs.Common.{◌≡◌, ◌≢◌, ℕ, true, false, List, [], ◌∷◌, ◌++◌, take, drop, IsTrue, Option, Some, None, IsSome, Err, refl, sym, ◌∙◌, ap, subst, append-nil}
 use Rattle.roam_edge.specs.Shelf.{NamedFile, bytes_of}
 use Rattle.run_laws.specs.declared.status.Status.{Status}
 use Rattle.run_laws.specs.declared.status.Status.TheVariants as ends
@@ -8,7 +8,6 @@ use Rattle.run_laws.specs.Words.{Show}
 use Rattle.run_laws.specs.Picture.{Picture, ArePictures}
 use Rattle.run_laws.specs.Act.{Act, Told, Stands, IsCutShort}
 use Rattle.run_laws.specs.Outcome.{Outcome, shown_acts, sum_acts, stop_acts, stop_status, engine_for, frames_outcome, IsFramesOutcome}
-use Rattle.run_laws.specs.Step.{Place, HasCome}
 use Rattle.run_laws.proofs.StepLemmas.{place, come-begin, walk_of-end, walk_of-empty}
 use Rattle.run_laws.specs.Promise.{is_complete}
 use Rattle.roam_run.specs.declared.stage.Stage.{Stage}

@@ -1,5 +1,5 @@
 -- A certificate and a mesh are judged: what the calls of a check come to.
-use Rattle.std.proofs.Common.{◌≡◌, ◌≢◌, ℕ, ◌+◌, ◌*◌, ◌≤◌, ◌⊎◌, inl, inr, Bool, true, false, List, [], ◌∷◌, take, slice_get, Option, Some, None, Result, Ok, Err, IfOk, All, refl, sym, ◌∙◌, subst, arith}
+use Rattle.std.proofs.Common.{◌≡◌, ℕ, ◌+◌, ◌*◌, ◌≤◌, inl, inr, List, [], ◌∷◌, Some, None, Ok, All, refl, subst, arith}
 use Rattle.std.specs.List.{AllByRecursion}
 use Rattle.std.proofs.lemmas.List.Elements.{recursion_from_All, All-from_recursion}
 use Rattle.mesh_defs.specs.HeightField.{HeightField}
@@ -7,29 +7,16 @@ use Rattle.mesh_defs.specs.Triangle.{level_of, IsAddress}
 use Rattle.bintree_laws.proofs.LevelLemmas.{level-le}
 use Rattle.roam_edge.specs.Shelf.{NamedFile, bytes_of}
 use Rattle.pgm_grid.specs.Progress.{grid_of}
-use Rattle.mesh_compare.specs.Differs.{IsCutShort}
-use Rattle.certificate_laws.specs.declared.reason.Reason.{Reason}
-use Rattle.certificate_laws.specs.declared.reason.Reject.{Reject}
-use Rattle.certificate_laws.specs.declared.reason.Reject.TheVariants.{BadLine, NotConforming, OverBudget, BadReason, TooFewReasons, MeshDiffers}
-use Rattle.certificate_laws.specs.Certificate.{IsRejected}
-use Rattle.cert_text.specs.Certificate.{Certificate}
 use Rattle.run_laws.specs.declared.status.Status.{Status}
-use Rattle.run_laws.specs.declared.status.Status.TheVariants as ends
 use Rattle.run_laws.specs.Words.{Checking, Check, OnGrid}
-use Rattle.run_laws.specs.CertFile.{cert_in}
-use Rattle.run_laws.specs.Certify.{IsFaultless, IsFirstDifference}
 use Rattle.run_laws.specs.Act.{Told}
-use Rattle.run_laws.specs.Outcome.{text_outcome, IsCheckOutcome}
-use Rattle.run_laws.specs.Promise.{Seen, OpensForStatus, CommandReadFault, CommandNoMemory, is_complete}
+use Rattle.run_laws.specs.Outcome.{text_outcome}
+use Rattle.run_laws.specs.Promise.{Seen, CommandReadFault, CommandNoMemory}
 use Rattle.run_laws.proofs.ActLemmas.{stands-nothing}
-use Rattle.roam_run.specs.declared.checking.CheckStop.{CheckStop}
 use Rattle.roam_run.specs.declared.verdict_report.Judgement.{Judgement}
-use Rattle.roam_run.specs.declared.verdict_report.Judgement.TheVariants.{Certified, Rejected}
 use Rattle.roam_run.specs.Taking.{DoesAs}
 use Rattle.roam_run.specs.Leaving.{CommandEnds}
-use Rattle.roam_run.specs.FileStop.{StopsReading}
-use Rattle.roam_run.specs.Judging.{judged_text, judged_status, opened_for, judged_outcome, mesh_seen, IsJudged, IsFaultlessFile, JudgesNoMemory, MeshHasRead, JudgesFault}
-use Rattle.roam_run.proofs.FileLemmas.{not_at_end, stops-unopened}
+use Rattle.roam_run.specs.Judging.{judged_text, judged_status, opened_for, judged_outcome, IsJudged, IsFaultlessFile, JudgesNoMemory, JudgesFault}
 use Rattle.roam_run.proofs.GridLemmas.{ends-as, file-fault, same-name}
 
 -- triangles of the grid have levels of the grid
