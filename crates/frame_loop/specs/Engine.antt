@@ -7,6 +7,7 @@ use Rattle.mesh_defs.specs.State.{State, priority_in}
 use Rattle.mesh_defs.specs.ClosedSet.{leaves_of, among}
 use Rattle.mesh_defs.specs.MeshText.{vertices_of}
 use Rattle.mesh_defs.specs.declared.level.TheConstants.{GREATEST_LEVEL}
+use Rattle.wedgie_tree.specs.declared.wedges.TheConstants.{GREATEST_SPACING}
 use Rattle.edge_laws.specs.Slots.{split_set}
 use Rattle.closure_laws.specs.Frame.{IsFrame}
 use Rattle.frame_steps.specs.Stamps.{Stamp}
@@ -46,7 +47,7 @@ pub record IsEngine (e : EngineState) : Type 0 where
   pub budget_low : 2 ≤ e.state.budget
   pub budget_high : e.state.budget ≤ e.most
   pub spacing_low : 1 ≤ e.state.view.spacing
-  pub spacing_high : e.state.view.spacing ≤ 1024
+  pub spacing_high : e.state.view.spacing ≤ GREATEST_SPACING
   pub far : e.odometer ≤ 2 ^ 62
   pub frame_count : e.frames ≤ 1000000
   pub evaluation_count : e.evaluations ≤ e.frames * 2 ^ 30

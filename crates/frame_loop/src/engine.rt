@@ -10,6 +10,7 @@ ghost use Rattle.triangle_pool.specs.declared.pool.TheConstants.{MOST_LEAVES};
 ghost use Rattle.obj_write.specs.Numbers.{numbers_of};
 ghost use Rattle.mesh_defs.specs.HeightField.{side_of};
 ghost use Rattle.mesh_defs.specs.declared.level.TheConstants.{GREATEST_LEVEL};
+ghost use Rattle.wedgie_tree.specs.declared.wedges.TheConstants.{GREATEST_SPACING};
 ghost use Rattle.roam_mesh.specs.Mesh.{stamp_of, pool_members, OnlyEntriesStamped};
 ghost use Rattle.frame_loop.specs.Outlook.{outlook_of, AreBracketed};
 
@@ -77,7 +78,7 @@ impl Engine {
         requires some { 2 ≤ budget }
         requires few { budget ≤ MOST_LEAVES }
         requires spacing_low { 1 ≤ spacing }
-        requires spacing_high { spacing ≤ 1024 }
+        requires spacing_high { spacing ≤ GREATEST_SPACING }
         ensures state { IfOk result (λ e. e.state ≡ start_state grid spacing budget) }
         ensures most { IfOk result (λ e. e.most ≡ budget) }
         ensures base { IfOk result (λ e. (a : ℕ) → split_set e.mesh.pool.pairs a ≡ false) }
@@ -211,7 +212,7 @@ impl Engine {
         ensures members { result.leaves.now ≡ leaves_of self.now.state.grid.n (among (pool_members self.now.mesh.pool)) }
         ensures levels { All (λ a. level_of a ≤ 2 * self.now.state.grid.n) result.leaves.now }
         ensures spacing_low { 1 ≤ result.spacing }
-        ensures spacing_high { result.spacing ≤ 1024 }
+        ensures spacing_high { result.spacing ≤ GREATEST_SPACING }
     {
         let _pool = self.mesh.pool();
         MeshView {
@@ -227,7 +228,7 @@ impl Engine {
 /// What is seen of the wedges from (0, 0, 0), without a plane.
 fn start_outlook(wedges: Wedges, spacing: u32) -> Outlook
     requires spacing_low { 1 ≤ spacing }
-    requires spacing_high { spacing ≤ 1024 }
+    requires spacing_high { spacing ≤ GREATEST_SPACING }
     ensures { result ≡ record { grid = wedges; view = start_view spacing } }
 {
     Outlook {
