@@ -23,8 +23,8 @@ const BLOCK: usize = 64;
 
 /// The vertex number of each grid point of a mesh, or 0, by y and then by x.
 ///
-/// For meshes that follow one another over the same grid: what is done for a mesh of few triangles on a large grid
-/// is bounded by the triangles, but for a look at one flag in 64 places.
+/// For meshes that follow one another over the same grid: what is done for a mesh of few triangles
+/// on a large grid is bounded by the triangles, but for a look at one flag in 64 places.
 #[derive(Drop)]
 pub struct VertexTable {
     numbers: Vec<u32>,
@@ -63,10 +63,12 @@ impl VertexTable {
         &self.numbers
     }
 
-    /// Gives each vertex of the leaves its number, counted from 1, and answers how many there are. It is
-    /// `number_vertices` in other steps.
-    /// Cost (not proved): for each leaf that of `corners_on_the_way`, a step or two in depth-first order; three passes over the blocks of 64 places in which a vertex stands or
-    /// stood before, and a look at the flags of all blocks.
+    /// Gives each vertex of the leaves its number, counted from 1, and answers how many there are.
+    /// It is `number_vertices` in other steps.
+    ///
+    /// Cost (not proved): for each leaf that of `corners_on_the_way`, a step or two in depth-first
+    /// order; three passes over the blocks of 64 places in which a vertex stands or stood before,
+    /// and a look at the flags of all blocks.
     pub fn number(&mut self, leaves: &[Tri], n: u32) -> u32
         requires in_grid { (1 ≤ n) × (n ≤ GREATEST_LEVEL) }
         requires levels { All (λ a. level_of a ≤ 2 * n) leaves.now }
@@ -162,7 +164,8 @@ fn number_blocks(numbers: &mut [u32], used: &[bool]) -> u32
     count
 }
 
-/// Numbers the marks of a block, where there are so many before it, and answers how many there are up to its end.
+/// Numbers the marks of a block, where there are so many before it, and answers how many there are
+/// up to its end.
 fn number_block(numbers: &mut [u32], block: usize, before: u32) -> u32
     requires room { length numbers.old < 2 ^ 32 }
     requires few { before ≤ block_end numbers.old block }
