@@ -165,7 +165,8 @@ pub(crate) fn read_cert<F: Shelf>(
         cert_in n (bytes_of files name.now) ≡ Err line }
     // Where a read failed, no line that was read is refused.
     ensures undecided { result ≡ Err CertStop.Failed → (files : List NamedFile) → F.files shelf.old ≡ Some files →
-        StopsReading (CertHasRead n) (bytes_of files name.now) (F.rest shelf.new) (F.ended shelf.new) }
+        StopsReading (CertHasRead n) (bytes_of files name.now)
+        (F.rest shelf.new) (F.ended shelf.new) }
     ensures files { F.files shelf.new ≡ F.files shelf.old }
     ensures opens { F.opens shelf.new ≡ next_count (F.opens shelf.old) }
     ensures failed { result ≡ Err CertStop.Failed → Rose (F.faults shelf.old) (F.faults shelf.new) }
