@@ -20,6 +20,7 @@ pub(crate) struct Areas {
 impl Across {
     ghost use Rattle.std.specs.Prelude.{◌≡◌, ◌+◌, ◌-◌, ◌^◌, ◌≤◌, ℕ};
     ghost use Rattle.mesh_defs.specs.BoundingBox.{point};
+    ghost use Rattle.mesh_defs.specs.declared.level.TheConstants.{GREATEST_LEVEL};
     ghost use Rattle.bintree_laws.specs.Corners.{IsInSquare};
     ghost use Rattle.mesh_measure.specs.Areas.{IsAcross};
 
@@ -67,6 +68,7 @@ impl Areas {
     ghost use Rattle.mesh_defs.specs.declared.point.Point.{Point};
     ghost use Rattle.mesh_defs.specs.declared.point.Corners.{Corners};
     ghost use Rattle.mesh_defs.specs.BoundingBox.{point, is_in_closed};
+    ghost use Rattle.mesh_defs.specs.declared.level.TheConstants.{GREATEST_LEVEL};
     ghost use Rattle.bintree_laws.specs.Corners.{IsWithin, IsInSquare};
     ghost use Rattle.mesh_measure.specs.Areas.{AreAcross, AreSmall};
 
