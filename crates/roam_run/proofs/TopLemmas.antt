@@ -6,30 +6,23 @@ use Rattle.run_laws.specs.declared.status.Status.{Status}
 use Rattle.run_laws.specs.declared.status.Status.TheVariants.{Done, NoMemory, Usage, GridRefused, ScriptRefused, ReadFault, WriteFault, Rejected}
 use Rattle.run_laws.specs.Act.{Told, Act, ReportText, IsCutShort}
 use Rattle.run_laws.specs.CutShort.{StandsInText, CutTextsStand}
-use Rattle.run_laws.specs.Cause.{StatusHasCause, StatusWritesHaveCause}
+use Rattle.run_laws.specs.Cause.{StatusHasCause}
 use Rattle.frame_loop.specs.Engine.{EngineState}
 use Rattle.run_laws.specs.Laws.{AcceptedIsDone, OutcomesAreUnique, EnginesAreUnique}
-use Rattle.run_laws.specs.Words.{Job, Command, OnGrid, file_count, command_of}
+use Rattle.run_laws.specs.Words.{Command, file_count, command_of}
 use Rattle.run_laws.specs.Outcome.{Outcome, plain_outcome, IsWordsOutcome, IsOutcome, HasOneOutcome}
-use Rattle.run_laws.specs.Promise.{Seen, AreFiles, is_complete, leaves_engine, EndsRight, CommandReadFault, LeavesAtReadFault, CommandNoMemory, LeavesAtNoMemory, IsAccepted}
+use Rattle.run_laws.specs.Promise.{Seen, AreFiles, is_complete, leaves_engine, EndsRight, IsAccepted}
 use Rattle.run_laws.proofs.ActLemmas.{stands-nothing}
-use Rattle.roam_run.specs.declared.words.Command.{Command as ReadCommand}
 use Rattle.roam_run.specs.EngineSeen.{engine_seen}
-use Rattle.roam_run.specs.WordView.{command_seen}
 use Rattle.roam_run.specs.Leaving.{CommandEnds}
 use Rattle.roam_run.proofs.GridLemmas.{not-complete}
 
--- words that were read as a command are that command
-pub read-command : (words : List (List ℕ)) (found command : ReadCommand) → Some (command_seen found) ≡ command_of words → found ≡ command
-    → command_of words ≡ Some (command_seen command)
-read-command words found command value is = sym value ∙ ap (λ (c : ReadCommand). Some (command_seen c)) is
-
--- words of a command name a file: so the shelf's files are told where an outcome is over them
-pub told-files : (told : Option (List NamedFile)) (words : List (List ℕ)) (files : List NamedFile) (name : List ℕ) (job : Job)
-    → command_of words ≡ Some (OnGrid name job) → AreFiles told words files → told ≡ Some files
-told-files told words files name job is are =
-    let P : Option Command → Type 0 = λ c. 0 < file_count c in
-    are (subst P (sym is) (omega arith))
+-- the files are told where the command names one
+pub files-told : (told : Option (List NamedFile)) (words : List (List ℕ)) (files : List NamedFile) (command : Command) → command_of words ≡ Some command
+    → AreFiles told words files → 0 < file_count (Some command) → told ≡ Some files
+files-told told words files command is are =
+    let P : Option Command → Type 0 = λ c. 0 < file_count c → told ≡ Some files in
+    subst P is are
 
 -- words that are no command open nothing, and do nothing
 pub usage-ends : (before : Told) (old : Seen) (words : List (List ℕ)) (files : List NamedFile) → command_of words ≡ None → EndsRight before before old old words files Usage
@@ -82,14 +75,6 @@ module _ (before now : Told) (old new : Seen) (words : List (List ℕ)) (command
       let P : Option Command → Type 0 = λ c. IsWordsOutcome c files e.0 in
       e.3 complete ∙ unique words files e.0 end (subst P (sym is_command) e.1) outcome
 
-  -- a read failed, of a file of the words
-  pub words-read_fault : CommandReadFault before now old new command → LeavesAtReadFault before now old new words
-  words-read_fault is = record { command = command; is_command = is_command; leaves = is }
-
-  -- memory ran out, for words of this command
-  pub words-no_memory : CommandNoMemory before now old new command → LeavesAtNoMemory before now old new words
-  words-no_memory is = record { command = command; is_command = is_command; leaves = is }
-
 -- a count that did not change did not rise
 same-not-rose : (old new : ℕ) → old < 2 ^ 64 - 1 → new ≡ old → Rose old new → ⊥
 same-not-rose old new low same rose = omega (arith, rose, same, low)
@@ -109,33 +94,6 @@ pub not-write : (shelf shelf' meshes meshes' report report' : ℕ) (status : Sta
     → StatusHasCause shelf shelf' meshes meshes' report report' status → status ≢ WriteFault
 not-write shelf shelf' meshes meshes' report report' status low_meshes low_report same_meshes same_report cause e =
     not-either meshes meshes' report report' low_meshes low_report same_meshes same_report (cause.writes.write e).cause
-
--- the count of the report rose, where that of the meshes is as before
-rose-report : (meshes report report' : ℕ) → meshes < 2 ^ 64 - 1 → report < 2 ^ 64 - 1 → Rose meshes meshes ⊎ Rose report report' → (meshes < meshes) ⊎ (report < report')
-rose-report meshes report report' low_meshes low_report (inl rose) = absurd (same-not-rose meshes meshes low_meshes refl rose)
-rose-report meshes report report' low_meshes low_report (inr rose) = inr (omega (arith, rose, low_report))
-
-not-rose : (meshes report report' : ℕ) → report' ≡ report → (meshes < meshes) ⊎ (report < report') → ⊥
-not-rose meshes report report' same (inl less) = omega (arith, less)
-not-rose meshes report report' same (inr less) = omega (arith, less, same)
-
--- a write failed exactly where a count rose, of a command that writes no mesh
-pub write-cause : (meshes report report' : ℕ) (status : Status) → meshes < 2 ^ 64 - 1 → report < 2 ^ 64 - 1
-    → StatusWritesHaveCause meshes meshes report report' status → (status ≡ WriteFault) ↔ ((meshes < meshes) ⊎ (report < report'))
-write-cause meshes report report' status low_meshes low_report cause = (
-  (λ e. rose-report meshes report report' low_meshes low_report (cause.write e).cause),
-  (λ rose. only-write status (λ other. not-rose meshes report report' (cause.not_write other).report_same rose)),
-)
-  where
-    only-write : (end : Status) → (end ≢ WriteFault → ⊥) → end ≡ WriteFault
-    only-write Done none = absurd (none (λ e. cc))
-    only-write NoMemory none = absurd (none (λ e. cc))
-    only-write Usage none = absurd (none (λ e. cc))
-    only-write GridRefused none = absurd (none (λ e. cc))
-    only-write ScriptRefused none = absurd (none (λ e. cc))
-    only-write ReadFault none = absurd (none (λ e. cc))
-    only-write WriteFault none = refl
-    only-write Rejected none = absurd (none (λ e. cc))
 
 -- where the outcome is one text, a failed write leaves a prefix of it
 pub prefix-stands : CutTextsStand → OutcomesAreUnique → (before now : Told) (old new : Seen) (words : List (List ℕ)) (files : List NamedFile) (status : Status)

@@ -17,7 +17,8 @@ ghost use Rattle.run_laws.specs.Headline.{IsScriptRunOf, IsRunOf, KeepsGoodMeshe
 ghost use Rattle.roam_run.specs.EngineSeen.{engine_seen};
 ghost use Rattle.roam_run.specs.Taking.{DoesAs};
 ghost use Rattle.roam_run.specs.Leaving.{CommandEnds};
-ghost use Rattle.roam_run.specs.WordView.{show_for, scripted_seen, IsFrameCommand};
+ghost use Rattle.roam_run.specs.WordView.{show_for, scripted_seen, command_seen, IsFrameCommand};
+ghost use Rattle.roam_run.specs.WordView.{IsAccepted as IsAcceptedCommand};
 
 use crate::certify::run_make;
 use crate::checking::run_check;
@@ -187,29 +188,57 @@ pub fn roam<F: Shelf, M: MeshSink, R: Sink>(
             status: Status::Usage,
             engine: None,
         },
-        Some(Command::Frames(command)) => run_frames(alloc, &command, shelf, meshes, report),
-        Some(Command::Info(grid)) => {
-            let status = run_info(alloc, grid, shelf, report);
-            Run {
-                status,
-                engine: None,
-            }
-        }
-        Some(Command::Try { n, seed }) => run_try(alloc, n, seed, report),
-        Some(Command::Make(making)) => {
-            let status = run_make(alloc, &making, shelf, report);
-            Run {
-                status,
-                engine: None,
-            }
-        }
-        Some(Command::Check(checking)) => {
-            let status = run_check(alloc, &checking, shelf, report);
-            Run {
-                status,
-                engine: None,
-            }
-        }
+        Some(command) => run_command(alloc, &command, shelf, meshes, report),
+    }
+}
+
+/// Carries out a command.
+fn run_command<F: Shelf, M: MeshSink, R: Sink>(
+    alloc: Global,
+    command: &Command<'_>,
+    shelf: &mut F,
+    meshes: &mut M,
+    report: &mut R,
+) -> Run
+    requires idle { M.under_way meshes.old ≡ false }
+    requires accepted { IsAcceptedCommand command.now }
+    requires opens { F.opens shelf.old ≤ 2 ^ 63 }
+    ensures outcome { (files : List NamedFile) →
+        (0 < file_count (Some (command_seen command.now)) → F.files shelf.old ≡ Some files) →
+        CommandEnds (told (M.meshes meshes.old) (R.contents report.old))
+        (told (M.meshes meshes.new) (R.contents report.new))
+        (seen (F.files shelf.old) (F.rest shelf.old) (F.opens shelf.old) (F.ended shelf.old))
+        (seen (F.files shelf.new) (F.rest shelf.new) (F.opens shelf.new) (F.ended shelf.new))
+        (command_seen command.now) files result.status result.engine }
+    ensures read_fault { result.status ≡ Status.ReadFault →
+        CommandReadFault (told (M.meshes meshes.old) (R.contents report.old))
+        (told (M.meshes meshes.new) (R.contents report.new))
+        (seen (F.files shelf.old) (F.rest shelf.old) (F.opens shelf.old) (F.ended shelf.old))
+        (seen (F.files shelf.new) (F.rest shelf.new) (F.opens shelf.new) (F.ended shelf.new))
+        (command_seen command.now) }
+    ensures no_memory { result.status ≡ Status.NoMemory →
+        CommandNoMemory (told (M.meshes meshes.old) (R.contents report.old))
+        (told (M.meshes meshes.new) (R.contents report.new))
+        (seen (F.files shelf.old) (F.rest shelf.old) (F.opens shelf.old) (F.ended shelf.old))
+        (seen (F.files shelf.new) (F.rest shelf.new) (F.opens shelf.new) (F.ended shelf.new))
+        (command_seen command.now) }
+    ensures engine { IsSome result.engine ↔ IsTrue (leaves_engine (Some (command_seen command.now)) result.status) }
+    ensures status { IsTrue (may_end (Some (command_seen command.now)) result.status) }
+    ensures faults { StatusHasCause (F.faults shelf.old) (F.faults shelf.new) (M.faults meshes.old)
+        (M.faults meshes.new) (R.faults report.old) (R.faults report.new) result.status }
+    ensures opens { OpensForStatus (F.opens shelf.old) (F.opens shelf.new)
+        (file_count (Some (command_seen command.now))) result.status }
+    ensures done { result.status ≡ Status.Done → 0 < file_count (Some (command_seen command.now)) →
+        HasEnded (seen (F.files shelf.new) (F.rest shelf.new) (F.opens shelf.new) (F.ended shelf.new)) }
+    ensures files { F.files shelf.new ≡ F.files shelf.old }
+    ensures idle { result.status ≢ Status.WriteFault → M.under_way meshes.new ≡ false }
+{
+    match command {
+        Command::Frames(words) => run_frames(alloc, words, shelf, meshes, report),
+        Command::Info(grid) => Run::without_engine(run_info(alloc, grid, shelf, report)),
+        Command::Try { n, seed } => run_try(alloc, *n, *seed, report),
+        Command::Make(words) => Run::without_engine(run_make(alloc, words, shelf, report)),
+        Command::Check(words) => Run::without_engine(run_check(alloc, words, shelf, report)),
     }
 }
 
