@@ -6,6 +6,8 @@
 fake=$room/fake
 mkdir -p "$fake/bin" "$fake/repository/crates" "$room/caller" || exit 1
 cp -- "$top/roam" "$fake/repository/roam"
+mkdir "$fake/repository/tools"
+cp -- "$top/tools/rt_once" "$fake/repository/tools/"
 ln -s ../repository/roam "$fake/bin/roam"
 printf '# a comment\nroam_cli: middle low\nunused:\nmiddle staticlib: low kit_library\nlow:\n' >"$fake/repository/crates.txt"
 for name in low middle roam_cli unused; do
@@ -15,15 +17,15 @@ done
 
 # The toolchain: notes when a command begins and ends, with its crate; `run` makes a program that tells its folder
 # and words. A crate whose text is 'beside NAME' waits until NAME has begun, for at most ten seconds; 'after NAME' until it
-# is refused, and then half a second in which the launcher can see it; 'slow' says which process it is, and sleeps; 'pause'
-# sleeps half a second; 'broken' is refused.
+# is refused, and then half a second in which the launcher can see it; 'slow' keeps work, says which process it is, and
+# sleeps; 'pause' sleeps half a second; 'broken' is refused.
 cat >"$fake/bin/rt" <<'RT'
 #!/usr/bin/env bash
 notes=${0%/*}/commands
 echo "$1 ${PWD##*/}" >>"$notes"
 read -r first other <src/text
 [ "$first" = pause ] && sleep 0.5
-[ "$first" = slow ] && echo $$ >>"${0%/*}/slow" && exec sleep 60
+[ "$first" = slow ] && mkdir -p out/incremental && : >out/incremental/proved && echo $$ >>"${0%/*}/slow" && exec sleep 60
 await() { # LINE FILE: until it stands there
   for ((k = 0; k < 1000; k++)); do grep -qsx "$1" "$2" && break; sleep 0.01; done
   [ $k -lt 1000 ] || exit 1
@@ -128,6 +130,18 @@ wide_run() {
 }
 
 wide
+mkdir -p "$fake/repository/bench"
+printf '# seconds\nleft 100\nright 100\nchain1 10\nchain2 200\nroam_cli 90\n' >"$fake/repository/bench/seconds.txt"
+wide_run foretold 1 3 '^roam: proving and building 5 of 5 crates on 1 processors, about 8 minutes; '
+decide launcher_says_how_long_it_takes ${why[0]+"${why[@]}"}
+sleep 0.01
+echo changed >"$fake/repository/crates/left/src/text"
+wide_run foretold_again 1 3 '^roam: proving and building 2 of 5 crates on 1 processors, about 3 minutes; '
+decide launcher_counts_only_what_is_to_be_proved ${why[0]+"${why[@]}"}
+rm -r "$fake/repository/bench"
+rm -rf "$fake/repository/crates"/*/out
+
+wide
 wide_run one_at_a_time 1 3 'roam: left is proved, in [0-9]* s; [0-9] left$'
 [ "$(tr '\n' ' ' <"$fake/bin/commands")" = 'lib chain1 end chain1 lib left end left lib right end right lib chain2 end chain2 run roam_cli end roam_cli ' ] ||
   why+=("commands: $(tr '\n' ' ' <"$fake/bin/commands")")
@@ -153,6 +167,12 @@ if [ "$(nproc)" -ge 2 ] && [ "${two:-0}" -eq 1 ] && [ $((BASH_VERSINFO[0] * 100 
   ROAM_JOBS=2 PATH=$fake/bin:$PATH "$fake/bin/roam" mesh >"$room/report" 2>"$room/said" &
   launcher=$!
   for ((k = 0; k < 1000; k++)); do [ "$(wc -l <"$fake/bin/slow")" -eq 2 ] && break; sleep 0.01; done
+  # The signal of the half minute.
+  kill -USR1 "$launcher"
+  for ((k = 0; k < 1000; k++)); do grep -q 'under way' "$room/said" && break; sleep 0.01; done
+  grep -q '^roam: 0 of 5 crates are done, under way: .*; about .* left$' "$room/said" || why+=("standard error: $(head -c 600 "$room/said")")
+  decide launcher_says_what_is_under_way ${why[0]+"${why[@]}"}
+  why=()
   kill "$launcher"
   wait "$launcher" 2>/dev/null
   status=$?
@@ -161,6 +181,11 @@ if [ "$(nproc)" -ge 2 ] && [ "${two:-0}" -eq 1 ] && [ $((BASH_VERSINFO[0] * 100 
   while read -r it; do kill -0 "$it" 2>/dev/null && why+=("$it goes on"); done <"$fake/bin/slow"
   [ -z "$(find "$fake/repository/crates" -name tree)" ] || why+=("left: $(find "$fake/repository/crates" -name tree | tr '\n' ' ')")
   decide launcher_ends_what_it_began_when_it_is_ended ${why[0]+"${why[@]}"}
+  why=()
+  for it in left chain1; do
+    [ -f "$fake/repository/crates/$it/out/incremental/proved" ] || why+=("what was proved of $it is gone")
+  done
+  decide launcher_keeps_what_was_proved_when_it_is_ended ${why[0]+"${why[@]}"}
 else
   skip launcher_proves_side_by_side 'two processors, 4 GB of free memory or bash 5.1 are not there'
 fi
