@@ -24,6 +24,9 @@ lines_of_code() {
 # The law crates, whose functions have empty bodies: no edit of their code could turn a meaning.
 laws=$(sed -n 's/^| \[`\([a-z0-9_]*\)`\].* | law |.*/\1/p' docs/CRATES.md)
 
+# says NAME WORDS: whether a line of the crate's README begins with these words and a colon, and a reason behind it.
+says() { grep -q "^$2: [^ ]" "crates/$1/README.md" 2>/dev/null; }
+
 for name in $crates; do
   why=()
   if [ ! -f "crates/$name/README.md" ]; then
@@ -32,8 +35,10 @@ for name in $crates; do
     why+=("README.md has more than 120 lines")
   fi
   grep -q "^| \[\`$name\`\](../crates/$name/README.md) | \(law\|code\) |" docs/CRATES.md || why+=("no row in docs/CRATES.md")
-  if ! grep -qx "$name" <<<"$laws" && [ "$(lines_of_code "crates/$name")" -gt 60 ]; then
-    ls "crates/$name"/must-fail/*.edit >/dev/null 2>&1 || why+=("no edit that must fail")
+  edits=("crates/$name"/must-fail/*.edit)
+  [ -e "${edits[0]}" ] || edits=()
+  if [ "${#edits[@]}" -eq 0 ] && [[ $name != *_tests ]] && ! grep -qx "$name" <<<"$laws" && [ "$(lines_of_code "crates/$name")" -gt 60 ]; then
+    says "$name" 'No edit that must fail' || why+=("no edit that must fail, and no line 'No edit that must fail: ..' in README.md")
   fi
   decide "crate_$name" ${why[0]+"${why[@]}"}
 done
