@@ -24,8 +24,11 @@ lines_of_code() {
 # The law crates, whose functions have empty bodies: no edit of their code could turn a meaning.
 laws=$(sed -n 's/^| \[`\([a-z0-9_]*\)`\].* | law |.*/\1/p' docs/CRATES.md)
 
-# says NAME WORDS: whether a line of the crate's README begins with these words and a colon, and a reason behind it.
+# says NAME WORDS: whether a line of the crate's README begins with these words, a colon and a reason.
 says() { grep -q "^$2: [^ ]" "crates/$1/README.md" 2>/dev/null; }
+
+# The most edits that a crate has without a reason: each costs the gate 6 to 40 seconds.
+most_edits=6
 
 for name in $crates; do
   why=()
@@ -39,6 +42,13 @@ for name in $crates; do
   [ -e "${edits[0]}" ] || edits=()
   if [ "${#edits[@]}" -eq 0 ] && [[ $name != *_tests ]] && ! grep -qx "$name" <<<"$laws" && [ "$(lines_of_code "crates/$name")" -gt 60 ]; then
     says "$name" 'No edit that must fail' || why+=("no edit that must fail, and no line 'No edit that must fail: ..' in README.md")
+  fi
+  if [ "${#edits[@]}" -gt "$most_edits" ]; then
+    says "$name" 'More than six edits' || why+=("${#edits[@]} edits that must fail, and no line 'More than six edits: ..' in README.md")
+  fi
+  # A crate with tests is proved twice, so they stand in the crates of tests alone.
+  if [[ $name != *_tests ]] && grep -rqE '^[[:space:]]*#\[test\]' "crates/$name/src"; then
+    says "$name" 'Tests of its own' || why+=("tests of its own, and no line 'Tests of its own: ..' in README.md")
   fi
   decide "crate_$name" ${why[0]+"${why[@]}"}
 done
