@@ -1,0 +1,312 @@
+//! Runs of an engine over small grids, whose numbers were found by hand; at the end of each the mesh is that from scratch.
+
+use crate::grids::grid_with;
+use cull_marks::Plane;
+use frame_loop::{Camera, Engine, FrameNote, Grid};
+use plain_mesh::plain_frame;
+use roam_script::Line;
+use std::alloc::Global;
+use wedgie_tree::Wedges;
+
+/// What a frame tells: triangles, vertices, worst, splits, merges, and what blocks with its need.
+type Told = (u32, u32, u64, u32, u32, Option<(u32, u32)>);
+
+/// A step of a worked run.
+#[derive(Clone, Copy)]
+enum Step {
+    /// The state changes as by this line of a script.
+    Change(Line),
+    /// A frame tells this.
+    Frame(Told),
+    /// A frame splits and merges nothing, and so many triangles are inside, cut and outside.
+    Still(u32, u32, u32),
+    /// A frame looks again at what blocks and at nothing else: by a reading and a rank.
+    Cheap,
+    /// A view has so many planes and leaves.
+    View(u32, usize),
+}
+
+/// Changes the state as a line of a script says. Tells whether the engine may be asked for that.
+pub fn change(engine: &mut Engine, line: Line) -> bool {
+    match line {
+        Line::Camera { x, y, z } => move_to(engine, x, y, z),
+        Line::Set { x, y, h } => set_height(engine, x, y, h),
+        Line::Raise { x0, y0, x1, y1, dz } => raise(engine, (x0, y0), (x1, y1), dz),
+        Line::Plane { a, b, c, d } => add_plane(engine, Plane::new(a, b, c, d)),
+        Line::NoPlanes => {
+            engine.clear_planes();
+            true
+        }
+        Line::Budget { n } => set_budget(engine, n),
+        Line::Blank | Line::Frame => false,
+    }
+}
+
+fn move_to(engine: &mut Engine, x: i64, y: i64, z: i64) -> bool {
+    let Some(place) = Camera::new(x, y, z) else {
+        return false;
+    };
+    let odometer = engine.odometer().saturating_add(engine.way_to(place));
+    if odometer > 1 << 62 {
+        return false;
+    }
+    engine.camera(place);
+    engine.odometer() == odometer
+}
+
+fn set_height(engine: &mut Engine, x: u32, y: u32, h: u16) -> bool {
+    let side = engine.grid().side();
+    if x as usize >= side || y as usize >= side || h > engine.grid().maxval() {
+        return false;
+    }
+    engine.set_height(x, y, h);
+    true
+}
+
+fn raise(engine: &mut Engine, low: (u32, u32), high: (u32, u32), dz: i32) -> bool {
+    let side = engine.grid().side();
+    let within = (high.0 as usize) < side && (high.1 as usize) < side;
+    if !within || low.0 > high.0 || low.1 > high.1 || dz < -65535 || dz > 65535 {
+        return false;
+    }
+    engine.raise(low.0, low.1, high.0, high.1, dz);
+    true
+}
+
+fn add_plane(engine: &mut Engine, plane: Option<Plane>) -> bool {
+    let Some(plane) = plane else {
+        return false;
+    };
+    if engine.planes() >= 6 {
+        return false;
+    }
+    engine.add_plane(plane);
+    true
+}
+
+fn set_budget(engine: &mut Engine, budget: u32) -> bool {
+    if budget < 2 || budget > engine.most() {
+        return false;
+    }
+    engine.budget(budget);
+    engine.budget_in_force() == budget
+}
+
+/// The next frame, if there may be one more and it adds up.
+pub fn frame(engine: &mut Engine) -> Option<FrameNote> {
+    let frames = engine.frames();
+    if frames >= 1000000 {
+        return None;
+    }
+    let before = u64::from(engine.pool().leaf_count());
+    let note = engine.frame();
+    let after = u64::from(engine.pool().leaf_count());
+    let adds_up = before + u64::from(note.splits) == after + u64::from(note.merges);
+    if adds_up && engine.frames() == frames + 1 {
+        Some(note)
+    } else {
+        None
+    }
+}
+
+fn told(note: &FrameNote) -> Told {
+    let blocked = note.blocked.map(|b| (b.tri.number(), b.need));
+    (
+        note.triangles,
+        note.vertices,
+        note.worst,
+        note.splits,
+        note.merges,
+        blocked,
+    )
+}
+
+/// Whether the step goes as it says.
+fn goes(engine: &mut Engine, step: Step) -> bool {
+    let before = engine.evaluations();
+    match step {
+        Step::Change(line) => change(engine, line),
+        Step::Frame(wanted) => frame(engine).is_some_and(|note| told(&note) == wanted),
+        Step::Still(inside, cut, outside) => frame(engine).is_some_and(|note| {
+            (note.splits, note.merges) == (0, 0)
+                && (note.inside, note.cut, note.outside) == (inside, cut, outside)
+        }),
+        Step::Cheap => frame(engine).is_some() && engine.evaluations().saturating_sub(before) <= 2,
+        Step::View(planes, leaves) => {
+            let view = engine.view();
+            view.planes.len() == planes && view.leaves.len() == leaves
+        }
+    }
+}
+
+/// Whether the mesh of the engine is that from scratch, seen from this place.
+fn is_from_scratch(alloc: Global, engine: &Engine, place: (i64, i64, i64)) -> Option<bool> {
+    let view = engine.view();
+    let camera = Camera::new(place.0, place.1, place.2)?;
+    let wedges = Wedges::build(alloc, copy_of(alloc, view.wedges.grid())?).ok()?;
+    let budget = engine.budget_in_force();
+    let plain = plain_frame(alloc, &wedges, &camera, view.spacing, view.planes, budget).ok()?;
+    let leaves = plain.split.leaves(alloc).ok()?;
+    Some(view.leaves == leaves.as_slice())
+}
+
+fn copy_of(alloc: Global, grid: &Grid) -> Option<Grid> {
+    let heights = Vec::from_slice(alloc, grid.heights()).ok()?;
+    Some(Grid::from_heights(grid.n(), grid.maxval(), heights))
+}
+
+/// The place of the camera after these steps.
+fn place_after(steps: &[Step]) -> (i64, i64, i64) {
+    let mut place = (0, 0, 0);
+    for step in steps {
+        if let Step::Change(Line::Camera { x, y, z }) = step {
+            place = (*x, *y, *z);
+        }
+    }
+    place
+}
+
+/// How many of the steps over a flat grid at spacing 1 go as they say, before the first that does not; and whether the mesh is
+/// that from scratch then.
+fn steps_that_go(alloc: Global, n: u32, budget: u32, steps: &[Step]) -> Option<(usize, bool)> {
+    if budget < 2 || budget > 1 << 20 {
+        return None;
+    }
+    let mut engine = Engine::make(alloc, grid_with(alloc, n, &[])?, budget, 1).ok()?;
+    let mut count = 0usize;
+    for step in steps {
+        if !goes(&mut engine, *step) {
+            break;
+        }
+        count = count.saturating_add(1);
+    }
+    Some((count, is_from_scratch(alloc, &engine, place_after(steps))?))
+}
+
+/// A height is put.
+fn set(x: u32, y: u32, h: u16) -> Step {
+    Step::Change(Line::Set { x, y, h })
+}
+
+/// A plane whose inside is where x + d is at least 0.
+fn right_of(d: i64) -> Step {
+    Step::Change(Line::Plane {
+        a: 1,
+        b: 0,
+        c: 0,
+        d,
+    })
+}
+
+#[test]
+fn a_mesh_follows_the_camera_and_stands_still_with_it(rt: HostRuntime) {
+    let steps = [
+        set(1, 0, 10),
+        set(3, 4, 10),
+        Step::Frame((9, 9, 436906, 7, 0, Some((6, 10)))),
+        Step::Change(Line::Camera { x: 4, y: 4, z: 0 }),
+        Step::Frame((9, 9, 436906, 5, 5, Some((4, 10)))),
+        Step::Cheap,
+        Step::Frame((9, 9, 436906, 0, 0, Some((4, 10)))),
+    ];
+    assert_eq!(rt;
+        steps_that_go(rt.alloc(), 2, 9, &steps),
+        Some((steps.len(), true))
+    );
+}
+
+#[test]
+fn a_mesh_follows_a_height(rt: HostRuntime) {
+    let steps = [
+        set(1, 0, 10),
+        Step::Frame((9, 9, 0, 7, 0, None)),
+        set(1, 0, 0),
+        Step::Frame((2, 4, 0, 0, 7, None)),
+    ];
+    assert_eq!(rt;
+        steps_that_go(rt.alloc(), 2, 9, &steps),
+        Some((steps.len(), true))
+    );
+}
+
+#[test]
+fn a_budget_stays_in_force(rt: HostRuntime) {
+    let steps = [
+        set(1, 0, 10),
+        Step::Frame((9, 9, 0, 7, 0, None)),
+        Step::Change(Line::Budget { n: 7 }),
+        Step::Frame((5, 6, 1310720, 0, 4, Some((8, 8)))),
+        Step::Frame((5, 6, 1310720, 0, 0, Some((8, 8)))),
+        Step::Change(Line::Budget { n: 9 }),
+        Step::Frame((9, 9, 0, 4, 0, None)),
+    ];
+    assert_eq!(rt;
+        steps_that_go(rt.alloc(), 2, 9, &steps),
+        Some((steps.len(), true))
+    );
+}
+
+/// A view has the mesh of the frame before, and the planes that are in force now.
+#[test]
+fn a_view_has_the_planes_of_now(rt: HostRuntime) {
+    let steps = [
+        set(1, 1, 10),
+        Step::Frame((4, 5, 0, 2, 0, None)),
+        Step::Still(4, 0, 0),
+        right_of(-2),
+        Step::View(1, 4),
+        Step::Frame((4, 5, 0, 0, 0, None)),
+        Step::Still(0, 3, 1),
+    ];
+    assert_eq!(rt;
+        steps_that_go(rt.alloc(), 1, 4, &steps),
+        Some((steps.len(), true))
+    );
+}
+
+#[test]
+fn a_mesh_goes_where_a_plane_leaves_all_out_and_comes_back(rt: HostRuntime) {
+    let steps = [
+        set(1, 1, 10),
+        right_of(-2),
+        Step::Frame((4, 5, 0, 2, 0, None)),
+        Step::Change(Line::NoPlanes),
+        right_of(-3),
+        Step::Frame((2, 4, 0, 0, 2, None)),
+        Step::Still(0, 0, 2),
+        Step::Change(Line::NoPlanes),
+        Step::Frame((4, 5, 0, 2, 0, None)),
+        Step::Still(4, 0, 0),
+    ];
+    assert_eq!(rt;
+        steps_that_go(rt.alloc(), 1, 4, &steps),
+        Some((steps.len(), true))
+    );
+}
+
+/// All from column 2 on is raised or lowered.
+fn raise_the_right(dz: i32) -> Step {
+    Step::Change(Line::Raise {
+        x0: 2,
+        y0: 0,
+        x1: 4,
+        y1: 4,
+        dz,
+    })
+}
+
+/// The triangles to the left have the raised column 2 as their border, and no more of the area.
+#[test]
+fn a_raise_reaches_what_only_its_border_meets(rt: HostRuntime) {
+    let steps = [
+        Step::Frame((2, 4, 0, 0, 0, None)),
+        raise_the_right(5),
+        Step::Frame((12, 11, 163840, 10, 0, Some((23, 14)))),
+        raise_the_right(-5),
+        Step::Frame((2, 4, 0, 0, 10, None)),
+    ];
+    assert_eq!(rt;
+        steps_that_go(rt.alloc(), 2, 12, &steps),
+        Some((steps.len(), true))
+    );
+}

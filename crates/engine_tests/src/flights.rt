@@ -1,0 +1,92 @@
+//! The callers of the engine on a small grid, with numbers worked by hand, and a generated run.
+
+use crate::engine::{change, frame};
+use crate::grids::{Peak, grid_with};
+use engine_uses::{fly, set_and_look};
+use frame_loop::{Camera, Engine};
+use roam_gen::{gen_grid, gen_line};
+use roam_script::Line;
+use std::alloc::Global;
+
+/// Two points of the grid of side 4.
+const TWO_PEAKS: [Peak; 2] = [(1, 0, 10), (3, 4, 10)];
+
+/// Triangles, worst, splits and merges of what is seen.
+type Told = (u32, u64, u32, u32);
+
+/// What a flight from the lower left to the upper right corner tells, with a frame more there.
+fn flight(alloc: Global) -> Option<[Told; 3]> {
+    let corner = Camera::new(0, 0, 0)?;
+    let other = Camera::new(4, 4, 0)?;
+    let sights = fly(
+        alloc,
+        grid_with(alloc, 2, &TWO_PEAKS)?,
+        9,
+        &[corner, other, other],
+    )
+    .ok()?;
+    let mut told = [(0, 0, 0, 0); 3];
+    for (place, sight) in told.iter_mut().zip(sights.iter()) {
+        *place = (sight.triangles, sight.worst, sight.splits, sight.merges);
+    }
+    Some(told)
+}
+
+#[test]
+fn a_flight_tells_of_each_frame(rt: HostRuntime) {
+    let told = [(9, 436906, 7, 0), (9, 436906, 5, 5), (9, 436906, 0, 0)];
+    assert_eq!(rt; flight(rt.alloc()), Some(told));
+}
+
+/// What is seen where the first peak is cut off after a frame.
+fn cut_off(alloc: Global) -> Option<Told> {
+    let mut engine = Engine::make(alloc, grid_with(alloc, 2, &TWO_PEAKS)?, 9, 1).ok()?;
+    frame(&mut engine)?;
+    look(&mut engine)
+}
+
+fn look(engine: &mut Engine) -> Option<Told> {
+    if engine.grid().side() < 2 || engine.frames() >= 1000000 {
+        return None;
+    }
+    let sight = set_and_look(engine, 1, 0, 0);
+    Some((sight.triangles, sight.worst, sight.splits, sight.merges))
+}
+
+#[test]
+fn a_peak_that_is_cut_off_leaves_the_other(rt: HostRuntime) {
+    assert_eq!(rt; cut_off(rt.alloc()), Some((9, 0, 5, 5)));
+}
+
+/// The triangles of all frames, the greatest worst, and in how many frames a triangle blocks.
+type Sums = (u64, u64, u64);
+
+/// The sums after one more line of a generated script.
+fn sums_after(engine: &mut Engine, line: Line, sums: Sums) -> Option<Sums> {
+    if line != Line::Frame {
+        return if change(engine, line) {
+            Some(sums)
+        } else {
+            None
+        };
+    }
+    let note = frame(engine)?;
+    let triangles = sums.0.saturating_add(u64::from(note.triangles));
+    let blocked = sums.2.saturating_add(u64::from(note.blocked.is_some()));
+    Some((triangles, sums.1.max(note.worst), blocked))
+}
+
+/// The sums of the generated run of level 9 and seed 1, at spacing 30.
+fn generated_run(alloc: Global) -> Option<Sums> {
+    let mut engine = Engine::make(alloc, gen_grid(alloc, 9, 1).ok()?, 20000, 30).ok()?;
+    let mut sums = (0, 0, 0);
+    for i in 1..106 {
+        sums = sums_after(&mut engine, gen_line(9, 1, i), sums)?;
+    }
+    Some(sums)
+}
+
+#[test]
+fn a_generated_run_has_the_sums_of_a_plain_program(rt: HostRuntime) {
+    assert_eq!(rt; generated_run(rt.alloc()), Some((999963, 4223, 50)));
+}

@@ -1,0 +1,3 @@
+mod ClosedLists
+mod RankingExamples
+mod CornerExample
