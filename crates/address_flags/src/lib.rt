@@ -7,7 +7,5 @@
 #![tactic(auto)]
 
 mod flags;
-#[cfg(test)]
-mod tests;
 
 pub use flags::{end, flag, flag_parent, is_set};

@@ -52,34 +52,3 @@ impl PartialOrd for Rank {
         Some(self.cmp(other))
     }
 }
-
-#[cfg(test)]
-mod tests {
-    use super::*;
-    use std::test::Fail;
-
-    #[test]
-    fn greater_priority_and_then_lesser_address_come_first(rt: HostRuntime) -> Result<(), Fail> {
-        let cases = [
-            (5, 9, 4, 2, Ordering::Less),
-            (4, 2, 5, 9, Ordering::Greater),
-            (7, 4, 7, 5, Ordering::Less),
-            (7, 5, 7, 4, Ordering::Greater),
-            (7, 4, 7, 4, Ordering::Equal),
-        ];
-        for (p, number, q, other, order) in cases {
-            let first = Rank {
-                p,
-                tri: Tri::new(number).ok_or("an address")?,
-            };
-            let second = Rank {
-                p: q,
-                tri: Tri::new(other).ok_or("an address")?,
-            };
-            assert_eq!(rt; first.cmp(&second), order);
-            assert_eq!(rt; first.ranks_before(&second), order == Ordering::Less);
-            assert_eq!(rt; first == second, order == Ordering::Equal);
-        }
-        Ok(())
-    }
-}

@@ -183,6 +183,3 @@ impl Default for Tri {
         Tri::LOWER
     }
 }
-
-#[cfg(test)]
-mod tests;

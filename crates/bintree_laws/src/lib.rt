@@ -9,6 +9,3 @@
 mod laws;
 
 pub use laws::{corner_laws, level_laws, mate_laws};
-
-#[cfg(test)]
-mod tests;

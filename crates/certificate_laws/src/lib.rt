@@ -11,6 +11,3 @@ mod reason;
 
 pub use laws::{certificate_laws, cut_laws, reason_laws, verdict_laws};
 pub use reason::{Kind, Reason, Reject, Verdict};
-
-#[cfg(test)]
-mod tests;

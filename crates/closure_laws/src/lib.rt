@@ -14,6 +14,3 @@ pub use diamonds::{existence_laws, forced_laws, merge_laws, split_laws};
 pub use laws::{
     base_mesh, closed_set_laws, frame_laws, greedy_laws, member_laws, rank_laws, set_leaf_laws,
 };
-
-#[cfg(test)]
-mod tests;

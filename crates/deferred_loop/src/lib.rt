@@ -25,6 +25,3 @@ pub use limit::Limit;
 pub use next::{Ending, Next};
 pub use queued::{Head, Last, QueuedMesh};
 pub use step::{merge_at, split_at};
-
-#[cfg(test)]
-mod tests;

@@ -13,6 +13,3 @@ mod members;
 mod split;
 
 pub use split::Split;
-
-#[cfg(test)]
-mod tests;

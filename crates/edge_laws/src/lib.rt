@@ -9,6 +9,3 @@
 mod laws;
 
 pub use laws::{chain_laws, edge_laws, leaf_laws, slot_laws};
-
-#[cfg(test)]
-mod tests;

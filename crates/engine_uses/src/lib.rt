@@ -8,8 +8,6 @@
 mod edit;
 mod flight;
 mod step;
-#[cfg(test)]
-mod tests;
 
 pub use edit::set_and_look;
 pub use flight::fly;

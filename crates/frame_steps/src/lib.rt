@@ -12,6 +12,3 @@ mod worked_numbers;
 pub use laws::{
     MOST_MEMBERS, frame_laws, loop_laws, queue_laws, stamp_laws, step_laws, straddling_laws,
 };
-
-#[cfg(test)]
-mod tests;

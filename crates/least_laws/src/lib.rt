@@ -9,6 +9,3 @@
 mod laws;
 
 pub use laws::{least_laws, sweep_laws};
-
-#[cfg(test)]
-mod tests;

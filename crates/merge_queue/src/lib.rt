@@ -8,8 +8,6 @@
 
 mod diamond;
 mod queue;
-#[cfg(test)]
-mod tests;
 
 pub use bintree_addr::{Rank, Slot};
 pub use diamond::chief;

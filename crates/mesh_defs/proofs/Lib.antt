@@ -6,6 +6,3 @@ pub mod PointLemmas
 pub mod DistanceLemmas
 pub mod TextLemmas
 pub mod RootLemmas
-mod ClosedLists
-mod RankingExamples
-mod CornerExample

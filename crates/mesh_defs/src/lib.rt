@@ -11,8 +11,6 @@ mod laws;
 mod level;
 mod mark;
 mod point;
-#[cfg(test)]
-mod worked_numbers;
 
 pub use laws::roots;
 pub use level::GREATEST_LEVEL;

@@ -10,8 +10,6 @@ mod frame;
 mod laws;
 mod ranking;
 mod refining;
-#[cfg(test)]
-mod tests;
 
 pub use frame::{PlainFrame, plain_frame};
 pub use laws::falling_laws;

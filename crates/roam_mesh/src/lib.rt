@@ -20,6 +20,3 @@ mod splitting;
 
 pub use deferred_loop::{Gauge, Reading, Steps};
 pub use mesh::Mesh;
-
-#[cfg(test)]
-mod tests;

@@ -11,8 +11,6 @@ mod change;
 mod entry;
 mod heap;
 mod sift;
-#[cfg(test)]
-mod tests;
 
 pub use bintree_addr::Slot;
 pub use heap::SlotHeap;

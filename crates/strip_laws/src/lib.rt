@@ -8,8 +8,6 @@
 
 mod edge;
 mod laws;
-#[cfg(test)]
-mod tests;
 
 pub use edge::Edge;
 pub use laws::{strip_laws, turn_laws};

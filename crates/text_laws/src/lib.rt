@@ -6,7 +6,5 @@
 #![tactic(auto)]
 
 mod laws;
-#[cfg(test)]
-mod tests;
 
 pub use laws::{digit_laws, field_laws, word_laws};

@@ -9,6 +9,3 @@
 mod laws;
 
 pub use laws::{conformity_laws, leaf_laws, orientation_laws, sample_laws};
-
-#[cfg(test)]
-mod tests;
