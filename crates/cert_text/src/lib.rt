@@ -15,8 +15,6 @@ mod line;
 mod page;
 mod reader;
 mod reading;
-#[cfg(test)]
-mod tests;
 mod writing;
 
 pub use cert::Cert;

@@ -8,12 +8,8 @@
 #![tactic(auto)]
 
 mod laws;
-#[cfg(test)]
-mod plain;
 mod plane;
 mod planes;
-#[cfg(test)]
-mod tests;
 
 pub use bintree_addr::Cuboid;
 pub use laws::mark_laws;

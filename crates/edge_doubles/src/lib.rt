@@ -9,8 +9,6 @@ mod count_meshes;
 mod mem_shelf;
 mod shelf_call;
 mod stored_file;
-#[cfg(test)]
-mod tests;
 
 pub use count_meshes::CountMeshes;
 pub use mem_shelf::MemShelf;

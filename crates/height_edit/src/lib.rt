@@ -15,6 +15,3 @@ pub use area::{meets, raise_area};
 pub use holders::HOLDERS;
 pub use laws::holder_laws;
 pub use point::set_point;
-
-#[cfg(test)]
-mod tests;

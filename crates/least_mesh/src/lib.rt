@@ -10,8 +10,6 @@
 mod flags;
 mod least;
 mod list;
-#[cfg(test)]
-mod tests;
 mod worse;
 
 pub use least::{Least, LeastNote};

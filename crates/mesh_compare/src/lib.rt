@@ -9,8 +9,6 @@
 mod comparing;
 mod laws;
 mod piece;
-#[cfg(test)]
-mod tests;
 mod window;
 
 pub use comparing::{CompareFault, compare};

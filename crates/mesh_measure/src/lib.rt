@@ -11,8 +11,6 @@ mod facet;
 mod mesh;
 mod points;
 mod shape;
-#[cfg(test)]
-mod tests;
 
 pub use facet::plane_height;
 pub use mesh::{deviation, thickest};

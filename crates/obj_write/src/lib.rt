@@ -12,8 +12,6 @@ mod lines;
 mod mesh;
 mod page;
 mod table;
-#[cfg(test)]
-mod tests;
 mod vertices;
 mod walk;
 

@@ -17,6 +17,3 @@ pub use fault::PgmFault;
 pub use grid::{Grid, MOST_POINTS, MOST_SIDE, side_for};
 pub use laws::grids_and_texts;
 pub use reader::PgmReader;
-
-#[cfg(test)]
-mod tests;

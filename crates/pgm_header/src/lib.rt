@@ -19,6 +19,3 @@ pub use fault::HeaderFault;
 pub use laws::header_laws;
 pub use machine::HeaderValues;
 pub use reader::{HeaderReader, LAST_PLACE, MOST_HEADER_BYTES};
-
-#[cfg(test)]
-mod tests;

@@ -15,8 +15,6 @@ mod part;
 mod plain;
 mod raw;
 mod reader;
-#[cfg(test)]
-mod tests;
 
 pub use fault::RasterFault;
 pub use form::RasterForm;

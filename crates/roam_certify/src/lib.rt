@@ -11,8 +11,6 @@ mod checking;
 mod conforming;
 mod making;
 mod sight;
-#[cfg(test)]
-mod tests;
 mod verdict;
 
 pub use cert::make_cert;

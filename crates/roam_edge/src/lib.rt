@@ -12,8 +12,6 @@ mod calm_shelf;
 mod failures;
 mod file_meshes;
 mod file_shelf;
-#[cfg(test)]
-mod flaky_files;
 mod mem_meshes;
 mod mem_sink;
 mod mesh_call;
@@ -23,8 +21,6 @@ mod mesh_sink;
 mod shelf;
 mod sink;
 mod std_sink;
-#[cfg(test)]
-mod tests;
 
 pub use calm_shelf::CalmShelf;
 pub use failures::{Failed, NoMemory};

@@ -10,8 +10,6 @@ mod heights;
 mod laws;
 mod octave;
 mod script;
-#[cfg(test)]
-mod tests;
 mod writing;
 
 pub use heights::{gen_grid, gen_height};

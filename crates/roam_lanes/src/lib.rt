@@ -11,8 +11,6 @@ mod above;
 mod extremes;
 mod lanes;
 mod raising;
-#[cfg(test)]
-mod tests;
 mod words;
 
 pub use above::{first_above, first_above_plain};

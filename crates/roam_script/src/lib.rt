@@ -14,8 +14,6 @@ mod limits;
 mod line;
 mod reading;
 mod script_fault;
-#[cfg(test)]
-mod tests;
 
 pub use fields::{first_field, without_cr};
 pub use laws::line_laws;

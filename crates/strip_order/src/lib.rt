@@ -8,8 +8,6 @@
 
 mod order;
 mod sides;
-#[cfg(test)]
-mod tests;
 mod turning;
 
 pub use order::strip;

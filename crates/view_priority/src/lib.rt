@@ -16,8 +16,6 @@ mod ranks;
 mod ratio;
 mod root;
 mod sight;
-#[cfg(test)]
-mod tests;
 
 pub use camera::Camera;
 pub use evaluation::{bounds, bounds_by_part, rank};

@@ -215,6 +215,3 @@ impl Wedges {
         }
     }
 }
-
-#[cfg(test)]
-mod tests;

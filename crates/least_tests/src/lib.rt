@@ -1,0 +1,16 @@
+//! Tests of the crates over one mesh that no engine follows: least meshes, certificates and strips.
+//!
+//! For whoever changes one of them. They stand here, above those crates, so that each of those is proved without tests, and once. A test
+//! calls what is public, and shows what no clause says: that the definitions mean what numbers worked by hand say, and that a call
+//! succeeds where there is memory. Nothing here runs outside tests.
+
+#![tactic(auto)]
+
+#[cfg(test)]
+mod certificates;
+#[cfg(test)]
+mod hill;
+#[cfg(test)]
+mod least_frames;
+#[cfg(test)]
+mod strips;
