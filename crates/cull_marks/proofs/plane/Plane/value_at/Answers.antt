@@ -1,3 +1,4 @@
+use Rattle.std.proofs.lemmas.Grind.{common_steps}
 use Rattle.std.proofs.Common.{◌*ℤ◌, ◌+ℤ◌, arith, FitsSigned, w64}
 use Rattle.std.proofs.lemmas.Int.{ints, to_z-of_z}
 use Rattle.cull_marks.proofs.SlopeLemmas.{product_small, small_fits}
@@ -59,3 +60,15 @@ returns c =
     let all_fit : FitsSigned w64 ((p.a *ℤ c.args.x) +ℤ ((p.b *ℤ c.args.y) +ℤ ((p.c *ℤ c.args.z) +ℤ p.d))) =
     omega (arith, ints) in
     simp to_z-of_z (rw (← c.self.view_is))
+
+pub overflow_mul-result : goal.overflow_mul-result
+overflow_mul-result c = grind (arith, common_steps)
+
+pub overflow_mul-result-2 : goal.overflow_mul-result-2
+overflow_mul-result-2 c = grind (arith, common_steps)
+
+pub overflow_mul-result-3 : goal.overflow_mul-result-3
+overflow_mul-result-3 c = grind (arith, common_steps)
+
+pub overflow_add-result : goal.overflow_add-result
+overflow_add-result c = grind (arith, common_steps)
