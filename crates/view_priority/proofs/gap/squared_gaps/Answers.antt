@@ -1,4 +1,5 @@
-use Rattle.std.proofs.Common.{rules, FitsSigned, w64}
+use Rattle.std.proofs.lemmas.Grind.{common_steps}
+use Rattle.std.proofs.Common.{rules, FitsSigned, w64, arith}
 use Rattle.std.proofs.lemmas.Int.{to_z-of_z}
 use Rattle.cull_marks.specs.Cuboid.{as_box}
 use Rattle.view_priority.proofs.RootLemmas.{squared_distance-by_gaps}
@@ -19,3 +20,12 @@ returns-clause-value c =
     squared_distance-by_gaps (as_box box) c.args.camera.now _ _ _ _ _ _ c.x.ensures.value c.y.ensures.value
     c.z.ensures.value (simp to_z-of_z at c.gap_to-x.ensures.value) (simp to_z-of_z at c.gap_to-y.ensures.value)
     (simp to_z-of_z at c.gap_to-z.ensures.value)
+
+pub overflow_add-result : goal.overflow_add-result
+overflow_add-result c = grind (arith, common_steps)
+
+pub overflow_add-result-2 : goal.overflow_add-result-2
+overflow_add-result-2 c = grind (arith, common_steps)
+
+pub returns-clause-bounded : goal.returns-clause-bounded
+returns-clause-bounded c = grind (arith, common_steps)
