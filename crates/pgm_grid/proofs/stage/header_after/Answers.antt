@@ -1,3 +1,4 @@
+use Rattle.std.proofs.lemmas.Grind.{common_steps}
 use Rattle.std.proofs.Common.{◌≡◌, ◌+◌, ◌<◌, length, drop, get_or, arith, ◌∙◌, ap, subst}
 use Rattle.std.proofs.Math.Seq.{take-length}
 use Rattle.std.proofs.lemmas.List.{length-take-le}
@@ -40,3 +41,6 @@ returns-clause-takes c =
     let all : c.loop-i.i ≡ length c.args.piece.now = omega arith in
     header-takes c.args.reader c.loop-i.reader c.args.piece.now c.requires
     (subst (λ k. HasTaken c.args.reader c.loop-i.reader c.args.piece.now k) all c.loop-i.invariant) (take-length c.args.piece.now)
+
+pub loop-i-preserved : goal.loop-i-preserved
+loop-i-preserved c = grind (arith, common_steps)
