@@ -36,15 +36,22 @@ impl Command {
     pub(crate) fn named(word: &[u8]) -> Option<Command>
         ensures { result ≡ command_of word.now }
     {
-        match word {
-            b"frame" => Some(Command::Frame),
-            b"camera" => Some(Command::Camera),
-            b"set" => Some(Command::Set),
-            b"plane" => Some(Command::Plane),
-            b"noplanes" => Some(Command::NoPlanes),
-            b"budget" => Some(Command::Budget),
-            b"raise" => Some(Command::Raise),
-            _ => None,
+        if word == b"frame".as_slice() {
+            Some(Command::Frame)
+        } else if word == b"camera".as_slice() {
+            Some(Command::Camera)
+        } else if word == b"set".as_slice() {
+            Some(Command::Set)
+        } else if word == b"plane".as_slice() {
+            Some(Command::Plane)
+        } else if word == b"noplanes".as_slice() {
+            Some(Command::NoPlanes)
+        } else if word == b"budget".as_slice() {
+            Some(Command::Budget)
+        } else if word == b"raise".as_slice() {
+            Some(Command::Raise)
+        } else {
+            None
         }
     }
 
