@@ -2,6 +2,7 @@ use Rattle.std.proofs.Common.{◌≡◌, ◌∙◌, sym, refl, ℕ, ◌+◌, ◌
 use Rattle.edge_laws.specs.Slots.{address_at}
 use Rattle.triangle_pool.specs.Links.{IsForest}
 use Rattle.triangle_pool.proofs.HalveLemmas.{mate_within, renewed_by, forest_halved}
+use Rattle.edge_laws.proofs.SlotLemmas.{live_within}
 use Rattle.triangle_pool.proofs.links.halve.Goals as goal
 
 pub far_child-requires-clause-small : goal.far_child-requires-clause-small
@@ -25,3 +26,16 @@ returns-clause-forest c =
     let P : ℕ → Type 0 = λ x. IsForest (set c.args.pairs.now c.args.k x) (set c.args.parents.now c.args.k c.args.s) c.place.new.nodes in
     subst P (sym is) (forest_halved c.args.pairs.now c.args.parents.now c.args.nodes.now c.place.new.nodes c.args.s c.args.k a c.args.mate
     c.requires.forest c.requires.ready (h.tree.live c.args.s two) renewed)
+
+pub address-number-requires-clause-within : goal.address-number-requires-clause-within
+address-number-requires-clause-within c = live_within c.args.pairs.now c.args.s c.requires.ready.low
+
+pub slice_copy_out-node : goal.slice_copy_out-node
+slice_copy_out-node c =
+    let within = live_within c.args.pairs.now c.args.s c.requires.ready.low in
+    let count = c.requires.forest.node_count in omega arith
+
+pub place-requires-clause-own : goal.place-requires-clause-own
+place-requires-clause-own c =
+    let within = live_within c.args.pairs.now c.args.s c.requires.ready.low in
+    let count = c.requires.forest.node_count in omega arith

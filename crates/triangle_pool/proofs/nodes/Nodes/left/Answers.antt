@@ -1,8 +1,9 @@
-use Rattle.std.proofs.Common.{◌≡◌, ◌∙◌, ℕ, List, ap, ◌*◌, subst, refl}
+use Rattle.std.proofs.Common.{◌≡◌, ◌∙◌, ℕ, List, ap, ◌*◌, subst, refl, arith}
 use Rattle.edge_laws.specs.Slots.{address_at, has_children}
 use Rattle.triangle_pool.specs.Links.{IsAcross}
 use Rattle.triangle_pool.proofs.SplitLemmas.{left_across}
 use Rattle.triangle_pool.proofs.PoolLemmas.{node_at-read}
+use Rattle.std.proofs.lemmas.Grind.{common_steps}
 use Rattle.triangle_pool.proofs.nodes.Nodes.left.Goals as goal
 
 pub returns : goal.returns
@@ -13,3 +14,6 @@ returns c =
     let link = left_across c.self.inside.n pairs c.self.inside.parents.items c.self.inside.nodes.items c.args.s (address_at pairs c.args.s) c.self.invariant.forest c.self.invariant.closed refl read.0
     (ap (λ t. has_children t (address_at t c.args.s)) e ∙ c.requires.leaf) in
     subst (λ t. IsAcross t (2 * address_at t c.args.s) c.index.result.now.left) e (subst (λ t. IsAcross pairs (2 * address_at pairs c.args.s) t.left) read.1 link)
+
+pub index-requires : goal.index-requires
+index-requires c = grind (arith, common_steps)

@@ -1,9 +1,10 @@
-use Rattle.std.proofs.Common.{◌≡◌, ◌≢◌, ◌∙◌, ap, sym, subst, ◌/◌, ◌<◌, get_or}
+use Rattle.std.proofs.Common.{◌≡◌, ◌≢◌, ◌∙◌, ap, sym, subst, ◌/◌, ◌<◌, get_or, arith}
 use Rattle.std.proofs.lemmas.List.{get_or_default}
 use Rattle.edge_laws.specs.Net.{nowhere}
 use Rattle.edge_laws.specs.Slots.{address_at, IsLive}
 use Rattle.triangle_pool.proofs.MergeLemmas.{parent_link}
 use Rattle.edge_laws.proofs.SlotLemmas.{live_within}
+use Rattle.std.proofs.lemmas.Grind.{common_steps}
 use Rattle.triangle_pool.proofs.nodes.Nodes.parent.Goals as goal
 
 pub returns-else-index-eq1 : goal.returns-else-index-eq1
@@ -19,3 +20,9 @@ returns-else-index-eq1 c =
       none = subst (λ t. (c.index-else-index-eq1.result.now ≡ nowhere → address_at t c.args.s < 4) × (address_at t c.args.s < 4 → c.index-else-index-eq1.result.now ≡ nowhere)) e read.0;
       some = subst (λ t. c.index-else-index-eq1.result.now ≢ nowhere → address_at t c.index-else-index-eq1.result.now ≡ address_at t c.args.s / 2) e read.1;
     }
+
+pub index-requires : goal.index-requires
+index-requires c = grind (arith, common_steps)
+
+pub index-requires-else-index-eq1 : goal.index-requires-else-index-eq1
+index-requires-else-index-eq1 c = grind (arith, common_steps)

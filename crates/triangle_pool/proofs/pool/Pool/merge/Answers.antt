@@ -113,3 +113,9 @@ returns-else-partner-clause-room c =
     subst (λ t. room_of c.merge_both.new.self.pairs ≡ room_of t + diamond_size (address_at t c.args.s.0)) e
     (back_two c.self.inside.nodes.n c.self.inside.nodes.pairs c.merge_both.new.self.pairs c.args.s.0 c.partner-partner.result c.children-k.result c.children-j.result (address_at c.self.inside.nodes.pairs c.args.s.0)
     c.n-n.ensures.valid all.2 all.1 (all.3 c.children-j.ensures) c.merge_both.ensures.pairs)
+
+pub push_pair-requires-clause-small : goal.push_pair-requires-clause-small
+push_pair-requires-clause-small c =
+    let one = may_merge_one c.self.inside.nodes.pairs c.args.self.now.pairs c.args.s.0 c.children-k.result (ap (λ p. p.pairs) c.self.view_is) c.requires.live c.requires.ready c.children-k.ensures in
+    let within = pair_in c.self.inside.nodes.pairs c.children-k.result (address_at c.self.inside.nodes.pairs c.args.s.0) one.low one.pair in
+    let short = c.n-n.ensures.short in omega arith
