@@ -1,3 +1,4 @@
+use Rattle.std.proofs.lemmas.Grind.{common_steps}
 use Rattle.std.proofs.Common.{◌≡◌, ◌+◌, ◌*◌, ◌≤◌, max, arith}
 use Rattle.mesh_defs.specs.Thickness.{thickness_of, deviation}
 use Rattle.mesh_defs.specs.Triangle.{corners_of}
@@ -22,3 +23,6 @@ overflow_add-result c =
     let small : thickness_of c.args.grid.now.n c.args.grid.now.heights c.args.tri ≤ 2883540 =
     c.wedge_laws.ensures.bounded c.args.grid.now c.args.tri c.maxval-bounded.ensures.valid in
     omega (arith, c.requires.of_left.thickness, c.requires.of_right.thickness)
+
+pub returns : goal.returns
+returns c = grind (arith, common_steps)

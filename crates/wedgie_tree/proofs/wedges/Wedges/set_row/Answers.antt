@@ -1,3 +1,4 @@
+use Rattle.std.proofs.lemmas.Grind.{common_steps}
 use Rattle.std.proofs.Common.{ℕ, List, ap, arith}
 use Rattle.mesh_defs.specs.HeightField.{HeightField}
 use Rattle.wedgie_tree.proofs.AreaLemmas.{address_laws}
@@ -15,3 +16,6 @@ pub returns-then-count-eq0-clause-value : goal.returns-then-count-eq0-clause-val
 returns-then-count-eq0-clause-value c =
     ap (λ (all : List ℕ). let g : HeightField = record c.args.self.now { heights = all } in g)
     (with_row-none c.args.self.now c.args.x c.args.y c.args.heights.now c.grid-valid.ensures.valid (omega arith) c.requires.in_columns)
+
+pub invariant_of-self : goal.invariant_of-self
+invariant_of-self c = grind (arith, common_steps)
