@@ -1,6 +1,6 @@
 //! A mesh half way through a frame, by the slots of its pool.
 
-ghost use Rattle.std.specs.Prelude.{◌≡◌, ℕ, ◌+◌, ◌*◌, ◌<◌, ◌≤◌, ◌^◌, IfOk, [], None, Some, cond, nat_lt, false, replicate, slice_index, slice_index_or, slice_set};
+ghost use Rattle.std.specs.Prelude.{◌≡◌, ℕ, ◌+◌, ◌*◌, ◌<◌, ◌≤◌, ◌^◌, IfOk, [], None, Some, cond, nat_lt, false, length, replicate, slice_index, slice_index_or, slice_set};
 ghost use Rattle.mesh_defs.specs.declared.level.TheConstants.{GREATEST_LEVEL};
 ghost use Rattle.edge_laws.specs.Slots.{IsLive, IsPool};
 ghost use Rattle.triangle_pool.specs.declared.pool.TheConstants.{MOST_LEAVES};
@@ -90,15 +90,17 @@ impl Parts {
         let slots = 2 * leaves - 2;
         let pool = Pool::new(alloc, n, leaves)?;
         let _leaves = pool.leaf_count();
+        let queues = Queues::none(alloc, slots)?;
+        let tables = Tables::blank(alloc, slots)?;
         Ok(Parts {
             pool,
-            entries: vec![in alloc; Entry::blank(); slots as usize]?,
-            split_queue: SplitQueue::new(alloc, slots)?,
-            merge_queue: MergeQueue::new(alloc, slots)?,
-            deadlines: Lazy::new(alloc, slots)?,
-            asked: vec![in alloc; Slot(0); slots as usize]?,
+            entries: tables.entries,
+            split_queue: queues.split,
+            merge_queue: queues.merge,
+            deadlines: queues.due,
+            asked: tables.asked,
             asked_count: 0,
-            fresh: vec![in alloc; Slot(0); slots as usize]?,
+            fresh: tables.fresh,
             fresh_count: 0,
         })
     }
@@ -113,5 +115,52 @@ impl Parts {
         self.split_queue.put(s, rank);
         self.deadlines.stamp(s, 0, 0);
         self.deadlines.expire(s);
+    }
+}
+
+/// The heaps of new parts. They are made apart from the tables, since each value that a function owns at a `?` is dropped
+/// there, on one more way that its proof has to go.
+#[derive(Drop)]
+struct Queues {
+    split: SplitQueue,
+    merge: MergeQueue,
+    due: Lazy,
+}
+
+impl Queues {
+    /// Heaps of so many slots with none in them.
+    fn none(alloc: Global, slots: u32) -> Result<Queues, NoMemory>
+        ensures split { IfOk result (λ q. q.split ≡ replicate slots None) }
+        ensures merge { IfOk result (λ q. q.merge ≡ replicate slots None) }
+        ensures due { IfOk result (λ q. q.due ≡ replicate slots None) }
+    {
+        Ok(Queues {
+            split: SplitQueue::new(alloc, slots)?,
+            merge: MergeQueue::new(alloc, slots)?,
+            due: Lazy::new(alloc, slots)?,
+        })
+    }
+}
+
+/// The tables of new parts.
+#[derive(Drop)]
+struct Tables {
+    entries: Vec<Entry>,
+    asked: Vec<Slot>,
+    fresh: Vec<Slot>,
+}
+
+impl Tables {
+    /// Tables of so many slots.
+    fn blank(alloc: Global, slots: u32) -> Result<Tables, NoMemory>
+        ensures entries { IfOk result (λ t. t.entries.items ≡ replicate slots blank) }
+        ensures asked { IfOk result (λ t. length t.asked.items ≡ slots) }
+        ensures fresh { IfOk result (λ t. length t.fresh.items ≡ slots) }
+    {
+        Ok(Tables {
+            entries: vec![in alloc; Entry::blank(); slots as usize]?,
+            asked: vec![in alloc; Slot(0); slots as usize]?,
+            fresh: vec![in alloc; Slot(0); slots as usize]?,
+        })
     }
 }

@@ -1,3 +1,4 @@
+use Rattle.std.proofs.lemmas.Grind.{common_steps}
 use Rattle.std.proofs.Common.{◌≡◌, ℕ, ◌+◌, ◌*◌, ◌<◌, ◌≤◌, true, false, length, map, take, slice_index_or, slice_set, arith, refl, sym, ◌∙◌, ap, subst, length-set}
 use Rattle.std.proofs.lemmas.List.{get_or_read}
 use Rattle.std.specs.Vec.{with_item}
@@ -105,3 +106,9 @@ returns-clause-told c =
           again_state c.self.inside c.if-not-index.self-inside c.args.s c.args.p c.index_mut-2.result.now c.hear.new.self below old w.self-inside-is c.index_mut-2.ensures.value c.hear.ensures
     ] in
     c.rekey.ensures ∙ ap (λ (z : PartsState). rekeyed z c.args.s.0) state ∙ ap (λ (z : PartsState). told z c.args.s.0 c.args.p) c.self.view_is
+
+pub index-requires : goal.index-requires
+index-requires c = grind (arith, common_steps)
+
+pub index_mut-requires-2 : goal.index_mut-requires-2
+index_mut-requires-2 c = grind (arith, common_steps)

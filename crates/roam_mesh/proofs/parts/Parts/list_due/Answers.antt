@@ -1,4 +1,5 @@
-use Rattle.std.proofs.Common.{ℕ, List, Option, None, slice_set, set-set, ap, subst, ◌∙◌}
+use Rattle.std.proofs.lemmas.Grind.{common_steps}
+use Rattle.std.proofs.Common.{ℕ, List, Option, None, slice_set, set-set, ap, subst, ◌∙◌, arith}
 use Rattle.lazy_priority.specs.Due.{IsDue}
 use Rattle.roam_mesh.specs.Parts.{PartsState, parts_of}
 use Rattle.roam_mesh.specs.Change.{taken_out, pushed, begun}
@@ -16,3 +17,6 @@ returns-clause-some c _ =
       subst (λ (p : PartsState). IsDue p.due c.args.odometer s) c.self.view_is c.in-Some.ensures.due,
       c.push_fresh.ensures ∙ ap (λ (p : PartsState). pushed p s.0) out ∙ ap (λ (p : PartsState). begun p s.0) c.self.view_is,
     )
+
+pub push_fresh-requires : goal.push_fresh-requires
+push_fresh-requires c = grind (arith, common_steps)

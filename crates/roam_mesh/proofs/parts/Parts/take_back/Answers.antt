@@ -1,3 +1,4 @@
+use Rattle.std.proofs.lemmas.Grind.{common_steps}
 use Rattle.std.proofs.Common.{◌≡◌, ℕ, ◌-◌, ◌≤◌, true, false, List, Option, Some, arith, length, map, take, slice_set, refl, sym, ap, subst, ◌∙◌, ⊎_elim}
 use Rattle.std.proofs.lemmas.Bool.{both_ways}
 use Rattle.mesh_defs.specs.ClosedSet.{among}
@@ -83,3 +84,9 @@ pub returns-clause-seated : goal.returns-clause-seated
 returns-clause-seated c old_rest old_s old_last =
     let read = (goal.at.returns-clause-seated c).After-index-s in
     state c ∙ seated_same (the_view c.self.inside) c.args.self.now (rest_of c.self.inside) old_rest c.index-s.result.now.0 old_s c.args.was.now c.self.view_is (back read).1.last old_last
+
+pub overflow_sub-self : goal.overflow_sub-self
+overflow_sub-self c = grind (arith, common_steps)
+
+pub index-s-requires : goal.index-s-requires
+index-s-requires c = grind (arith, common_steps)

@@ -1,4 +1,5 @@
-use Rattle.std.proofs.Common.{◌≡◌, inl, inr, true, false, None, Some, refl, sym, ◌∙◌, ap, subst}
+use Rattle.std.proofs.lemmas.Grind.{common_steps}
+use Rattle.std.proofs.Common.{◌≡◌, inl, inr, true, false, None, Some, refl, sym, ◌∙◌, ap, subst, arith}
 use Rattle.edge_laws.specs.Slots.{IsPool}
 use Rattle.bintree_addr.specs.declared.rank.Rank.{Rank}
 use Rattle.bintree_addr.specs.RankOrder.{ComesFirst}
@@ -73,3 +74,6 @@ returns-else-ranks_before-2 c =
     ] in
     unasked_second parts pool c.args.s.0 c.better_first-other.result.0 c.in-Some.mate c.requires.ready better
     (subst (λ (z : Entry). is_sure z ≡ false) other (sym c.is_sure-else-not-is_sure.ensures ∙ unsure))
+
+pub index-requires : goal.index-requires
+index-requires c = grind (arith, common_steps)
