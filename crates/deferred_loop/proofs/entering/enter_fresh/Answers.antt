@@ -1,4 +1,5 @@
-use Rattle.std.proofs.Common.{◌∙◌, ap}
+use Rattle.std.proofs.lemmas.Grind.{common_steps}
+use Rattle.std.proofs.Common.{◌∙◌, ap, arith}
 use Rattle.frame_steps.specs.Stamps.{Readings}
 use Rattle.deferred_loop.proofs.HeadLemmas.{asked_level}
 use Rattle.deferred_loop.proofs.EnterLemmas.{entering_next, next_listed}
@@ -24,3 +25,6 @@ entering-preserved g c =
           c.requires.1.1.1.0 c.requires.1.1.1.1.1.0 c.entering.invariant.entering
           c.reading-reading.ensures.rises c.reading-reading.ensures.most c.reading-reading.ensures.counted;
     }
+
+pub returns-in_default-clause-entered : goal.returns-in_default-clause-entered
+returns-in_default-clause-entered g c = grind (arith, common_steps)
