@@ -1,6 +1,6 @@
 //! Least meshes of small grids by `least_mesh`, worked by hand, seen from the origin at spacing 1.
 
-ghost use Rattle.std.specs.Prelude.{◌≡◌};
+ghost use Rattle.std.specs.Prelude.{◌≡◌, ◌≤◌};
 
 use crate::hill::hill;
 use cull_marks::{Plane, Planes};

@@ -57,12 +57,13 @@ fn places_found(place: usize) -> [Option<usize>; 5]
 {
     let mut row = [500u16; 40];
     row[place] = 501;
+    let front = &row[..place.min(row.len())];
     [
         first_above(&row, 500),
         first_above_plain(&row, 500),
         first_above(&row, 501),
-        first_above(&row[..place], 500),
-        first_above_plain(&row[..place], 500),
+        first_above(front, 500),
+        first_above_plain(front, 500),
     ]
 }
 
