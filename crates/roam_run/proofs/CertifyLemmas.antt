@@ -23,9 +23,9 @@ use Rattle.run_laws.specs.Certify.{IsMade, makes_at}
 use Rattle.run_laws.specs.Act.{Told}
 use Rattle.run_laws.specs.Outcome.{text_outcome}
 use Rattle.run_laws.specs.Promise.{Seen}
-use Rattle.roam_run.specs.Taking.{DoesAs}
-use Rattle.roam_run.specs.Leaving.{CommandEnds}
-use Rattle.roam_run.proofs.GridLemmas.{ends-as}
+use Rattle.run_laws.specs.Maker.{DoesAs}
+use Rattle.run_laws.specs.Leaving.{CommandEnds}
+use Rattle.run_laws.proofs.GridLemmas.{ends-as}
 
 module _ (state : State) (before after : EngineState) (note : FrameNote) (leaves : List ℕ) (same : before.state ≡ state) (done : IsFrameDone before after note)
     (listed : leaves ≡ leaves_of after.state.grid.n (among (pool_members after.mesh.pool))) where

@@ -15,12 +15,13 @@ use Rattle.roam_mesh.specs.Mesh.{pool_members}
 use Rattle.frame_loop.specs.Engine.{EngineState, IsFrameDone}
 use Rattle.frame_loop.specs.declared.note.FrameNote.{FrameNote}
 use Rattle.roam_script.specs.declared.line.Line.{Line}
-use Rattle.roam_script.specs.declared.line.Line.TheVariants.{Blank, Camera, Set, Plane, NoPlanes, Budget, Raise, Frame}
-use Rattle.run_laws.specs.Walk.{Walk, start_walk, state_after, shown_by, way_of, after_line}
+use Rattle.roam_script.specs.declared.line.Line.TheVariants.{Frame}
+use Rattle.run_laws.specs.Walk.{Walk, start_walk, state_after, way_of, after_line}
 use Rattle.run_laws.specs.Words.{Show, AsMeshes, AsStrips, AsLeast, AsMeasures, AsSums, is_of_engine}
 use Rattle.run_laws.specs.Picture.{Picture, IsPicture, IsFrameFor, IsChangeFor, last_members}
 use Rattle.run_laws.specs.Outcome.{EngineEnd, engine_end}
 use Rattle.run_laws.proofs.PictureLemmas.{no-engine}
+use Rattle.run_laws.proofs.ShownLemmas.{shown_by-none}
 use Rattle.run_laws.proofs.StepLemmas.{last_members-append}
 use Rattle.roam_run.specs.EngineSeen.{engine_seen, IsCarriedOut, HasFollowed}
 use Rattle.roam_run.specs.NoteSeen.{picture_seen}
@@ -53,17 +54,6 @@ followed-begins grid spacing budget engine state most none odometer frames split
   all_splits = splits;
   all_merges = merges;
 }
-
--- a line that is no frame line shows nothing
-pub shown_by-none : (line : Line) (state : State) → line ≢ Frame → shown_by line state ≡ []
-shown_by-none Blank state other = refl
-shown_by-none (Camera x y z) state other = refl
-shown_by-none (Set x y h) state other = refl
-shown_by-none Frame state other = absurd (other refl)
-shown_by-none (Plane a b c d) state other = refl
-shown_by-none NoPlanes state other = refl
-shown_by-none (Budget n) state other = refl
-shown_by-none (Raise a b c d e) state other = refl
 
 module _ (walk : Walk) (pictures : List Picture) (old new : EngineState) (followed : HasFollowed walk pictures old) where
   -- a line was carried out that makes no frame

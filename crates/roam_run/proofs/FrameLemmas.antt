@@ -5,9 +5,9 @@ use Rattle.roam_edge.specs.MeshSink.{Mesh}
 use Rattle.roam_edge.specs.Told.{IsPrefix}
 use Rattle.obj_write.specs.Written.{mesh_with, Grows, IsPartOfMesh}
 use Rattle.run_laws.specs.Words.{AsMeshes}
-use Rattle.run_laws.specs.Picture.{Picture, triangles_of}
+use Rattle.run_laws.specs.Picture.{Picture, triangles_of, mark_count}
 use Rattle.run_laws.specs.Act.{ReportText, told, Stands, IsCutShort}
-use Rattle.run_laws.specs.ReportText.{frame_line}
+use Rattle.run_laws.specs.ReportText.{frame_line, blocked_text, marks_text}
 use Rattle.run_laws.specs.Outcome.{picture_acts}
 use Rattle.run_laws.proofs.ActLemmas.{cut-mesh, cut-line}
 use Rattle.mesh_defs.specs.HeightField.{HeightField}
@@ -20,8 +20,6 @@ use Rattle.obj_write.specs.MeshView.{view_text}
 use Rattle.roam_mesh.specs.Mesh.{MeshState, pool_members}
 use Rattle.frame_loop.specs.Engine.{EngineState, IsFrameDone}
 use Rattle.frame_loop.specs.declared.note.FrameNote.{FrameNote}
-use Rattle.run_laws.specs.Picture.{mark_count}
-use Rattle.run_laws.specs.ReportText.{blocked_text, marks_text}
 use Rattle.roam_run.specs.NoteSeen.{picture_seen, leaves_seen, IsNoted, note_marks, note_line}
 
 -- the counts of a note are those of a mesh under a state

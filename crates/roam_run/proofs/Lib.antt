@@ -1,17 +1,7 @@
-pub mod WordLemmas
-pub mod InfoLemmas
 pub mod EngineLemmas
 pub mod ShowingLemmas
 pub mod FrameLemmas
 pub mod ShowLemmas
-pub mod StageLemmas
-pub mod LeastLemmas
-pub mod FileLemmas
-pub mod ReadingLemmas
-pub mod EndLemmas
-pub mod GridLemmas
-pub mod CertStageLemmas
-pub mod JudgingLemmas
 pub mod CertifyLemmas
 pub mod TopLemmas
 pub mod SumLemmas

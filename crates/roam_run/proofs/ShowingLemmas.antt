@@ -1,23 +1,28 @@
 -- The ways in which the frames of an engine are shown: an engine makes them, and nothing but the frames is told.
-use Rattle.std.proofs.Common.{◌≡◌, ℕ, ◌+◌, ◌*◌, ◌^◌, ◌≤◌, true, IsTrue, List, [], length, Some, None, Result, OnOk, OnErr, refl, sym, ◌∙◌, ap, subst, arith}
+use Rattle.std.proofs.Common.{◌≡◌, ◌⊎◌, inl, inr, ℕ, ◌+◌, ◌*◌, ◌^◌, ◌≤◌, true, IsTrue, if◌then◌else◌, List, [], length, Some, None, Result, OnOk, OnErr, refl, sym, ◌∙◌, ap, subst, arith}
 use Rattle.mesh_defs.specs.State.{State}
 use Rattle.mesh_defs.specs.ClosedSet.{leaves_of, among}
 use Rattle.closure_laws.proofs.LeafLemmas.{leaves-most}
 use Rattle.roam_mesh.specs.Mesh.{pool_members}
 use Rattle.frame_loop.specs.Engine.{EngineState, IsFrameDone}
 use Rattle.frame_loop.specs.declared.note.FrameNote.{FrameNote}
+use Rattle.run_laws.specs.declared.status.Status.{Status}
+use Rattle.run_laws.specs.declared.status.Status.TheVariants as ends
 use Rattle.run_laws.specs.Walk.{Walk}
-use Rattle.run_laws.specs.Words.{Show, AsLeast, is_of_engine}
+use Rattle.run_laws.specs.Words.{Show, is_of_engine}
 use Rattle.run_laws.specs.Picture.{Picture, IsPicture, last_members}
 use Rattle.run_laws.specs.Act.{Told, Stands, IsCutShort}
 use Rattle.run_laws.specs.Outcome.{Outcome, picture_acts, sum_acts, engine_for, engine_end}
-use Rattle.roam_run.specs.declared.showing.Showing.{Showing}
-use Rattle.roam_run.specs.declared.showing.Showing.TheVariants.{Meshes, Strips, Measures}
+use Rattle.run_files.specs.declared.showing.Showing.{Showing}
+use Rattle.run_files.specs.declared.showing.Showing.TheVariants.{Meshes, Strips, Measures}
 use Rattle.roam_run.specs.EngineSeen.{engine_seen}
 use Rattle.roam_run.specs.EngineFrames.{EngineFollows, IsEngineReady}
 use Rattle.roam_run.specs.NoteSeen.{picture_seen, leaves_seen}
-use Rattle.roam_run.specs.ShowView.{show_seen, is_strip}
-use Rattle.roam_run.specs.Taking.{TakesFrame, Leaves}
+use Rattle.run_files.specs.ShowView.{show_seen}
+use Rattle.roam_run.specs.ShowView.{is_strip}
+use Rattle.run_laws.specs.Promise.{is_complete, ends_script}
+use Rattle.run_laws.specs.Maker.{TakesFrame, Leaves, IsScriptEnd}
+use Rattle.run_laws.proofs.GridLemmas.{not-complete}
 use Rattle.roam_run.proofs.EngineLemmas.{followed-frame, picture-shown, followed-end}
 
 -- an engine makes the frames
@@ -78,6 +83,10 @@ engine-takes before now showing old new note answer done ok err show walk pictur
       cut_short = subst Q' follows.same_show (subst (Q (show_seen showing)) number err);
     }
 
--- the meshes of a tolerance leave none
-pub none-left : (prefix : List ℕ) (tolerance : ℕ) (follows : Show → Walk → List Picture → Type 0) (end : Outcome) → Leaves (AsLeast prefix tolerance) follows end → None ≡ end.engine
-none-left prefix tolerance follows end leaves = leaves.left
+-- a script that was carried out to its end or its refusal leaves its engine
+pub left-some : (status : Status) (engine : EngineState) → (status ≡ ends.ReadFault) ⊎ IsScriptEnd status → IsTrue (is_complete status)
+    → (if ends_script status then Some engine else None) ≡ Some engine
+left-some status engine (inl fault) is = absurd (not-complete status ends.ReadFault refl is fault)
+left-some status engine (inr (inl done)) is = ap (λ (s : Status). if ends_script s then Some engine else None) done
+left-some status engine (inr (inr (inl refused))) is = ap (λ (s : Status). if ends_script s then Some engine else None) refused
+left-some status engine (inr (inr (inr failed))) is = absurd (not-complete status ends.WriteFault refl is failed)

@@ -14,8 +14,8 @@ use Rattle.run_laws.specs.Outcome.{Outcome, plain_outcome, IsWordsOutcome, IsOut
 use Rattle.run_laws.specs.Promise.{Seen, AreFiles, is_complete, leaves_engine, EndsRight, IsAccepted}
 use Rattle.run_laws.proofs.ActLemmas.{stands-nothing}
 use Rattle.roam_run.specs.EngineSeen.{engine_seen}
-use Rattle.roam_run.specs.Leaving.{CommandEnds}
-use Rattle.roam_run.proofs.GridLemmas.{not-complete}
+use Rattle.run_laws.specs.Leaving.{CommandEnds}
+use Rattle.run_laws.proofs.GridLemmas.{not-complete}
 
 -- the files are told where the command names one
 pub files-told : (told : Option (List NamedFile)) (words : List (List ℕ)) (files : List NamedFile) (command : Command) → command_of words ≡ Some command
@@ -55,7 +55,7 @@ words-left words command engine status is left =
 
 module _ (before now : Told) (old new : Seen) (words : List (List ℕ)) (command : Command) (is_command : command_of words ≡ Some command) where
   -- a command ends as its words
-  pub words-end : (files : List NamedFile) (status : Status) (engine : Option EngineState) → CommandEnds before now old new command files status engine
+  pub words-end : (files : List NamedFile) (status : Status) (engine : Option EngineState) → CommandEnds before now old new command files status (option_map engine_seen engine)
       → EndsRight before now old new words files status
   unfolding IsOutcome
   words-end files status engine is = record {
@@ -67,7 +67,7 @@ module _ (before now : Told) (old new : Seen) (words : List (List ℕ)) (command
 
   -- and leaves the engine that each of their outcomes tells of
   pub words-engine : EnginesAreUnique → (files : List NamedFile) (status : Status) (engine : Option EngineState)
-      → CommandEnds before now old new command files status engine → (end : Outcome) → IsOutcome words files end → IsTrue (is_complete status)
+      → CommandEnds before now old new command files status (option_map engine_seen engine) → (end : Outcome) → IsOutcome words files end → IsTrue (is_complete status)
       → option_map engine_seen engine ≡ end.engine
   unfolding IsOutcome
   words-engine unique files status engine is end outcome complete =

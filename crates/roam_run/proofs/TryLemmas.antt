@@ -16,8 +16,8 @@ use Rattle.run_laws.specs.Promise.{Seen, is_complete, ends_script}
 use Rattle.run_laws.proofs.WalkLemmas.{along-stop}
 use Rattle.roam_run.specs.declared.generated.Sums.{Sums}
 use Rattle.roam_run.specs.EngineSeen.{engine_seen}
-use Rattle.roam_run.specs.Taking.{DoesAs}
-use Rattle.roam_run.specs.Leaving.{CommandEnds}
+use Rattle.run_laws.specs.Maker.{DoesAs}
+use Rattle.run_laws.specs.Leaving.{CommandEnds}
 use Rattle.roam_run.specs.SumView.{made_start, IsSumOf, SumsUp}
 use Rattle.roam_run.proofs.EngineLemmas.{followed-end}
 
@@ -58,7 +58,7 @@ left-by n seed sums engine left status all (inr failed) is e =
 pub made-ends : (before now : Told) (shelf : Seen) (n seed : ℕ) (sums : Sums) (engine : EngineState) (left : Option EngineState) (files : List NamedFile)
     (text : List ℕ) (status : Status) → SumsUp n seed sums engine → text ≡ sums_line n seed sums.frames sums.triangles sums.worst sums.blocked
     → (status ≡ ends.Done) ⊎ (status ≡ ends.WriteFault) → left ≡ (if ends_script status then Some engine else None)
-    → DoesAs before now (text_outcome text ends.Done 0) status → CommandEnds before now shelf shelf (Generated n seed) files status left
+    → DoesAs before now (text_outcome text ends.Done 0) status → CommandEnds before now shelf shelf (Generated n seed) files status (option_map engine_seen left)
 made-ends before now shelf n seed sums engine left files text status all is either by does =
     let end : Outcome = frames_outcome (AsSums n seed) 0 (made_walk n seed) all.pictures in
     let same : ReportText text ∷ [] ≡ end.acts =

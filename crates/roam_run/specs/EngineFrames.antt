@@ -8,9 +8,10 @@ use Rattle.roam_script.specs.declared.limits.TheConstants.{MOST_FRAMES}
 use Rattle.run_laws.specs.Walk.{Walk}
 use Rattle.run_laws.specs.Words.{Show}
 use Rattle.run_laws.specs.Picture.{Picture}
-use Rattle.roam_run.specs.declared.showing.Showing.{Showing}
+use Rattle.run_files.specs.declared.showing.Showing.{Showing}
 use Rattle.roam_run.specs.EngineSeen.{IsUnder, HasFollowed}
-use Rattle.roam_run.specs.ShowView.{show_seen, IsShowing, is_strip}
+use Rattle.run_files.specs.ShowView.{show_seen, IsShowing}
+use Rattle.roam_run.specs.ShowView.{is_strip}
 
 -- frames are shown so, and the engine has followed a walk whose frames showed these pictures
 pub record EngineFollows (showing : Showing) (engine : EngineState) (show : Show) (walk : Walk) (pictures : List Picture) : Type 0 where

@@ -1,15 +1,5 @@
 pub mod ShowView
-pub mod CertifyView
-pub mod FileStop
-pub mod CertStage
-pub mod Judging
-pub mod WordView
 pub mod EngineSeen
 pub mod NoteSeen
 pub mod EngineFrames
-pub mod LeastSeen
-pub mod StageView
-pub mod Taking
-pub mod GridStop
-pub mod Leaving
 pub mod SumView

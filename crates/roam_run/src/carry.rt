@@ -1,6 +1,6 @@
 //! Lines of a script that make no frame, carried out by an engine.
 
-ghost use Rattle.std.specs.Prelude.{◌≡◌, ◌≢◌, ◌≤◌, ◌^◌};
+ghost use Rattle.std.specs.Prelude.{◌≢◌, ◌≤◌, ◌^◌};
 ghost use Rattle.view_priority.specs.Camera.{IsCamera};
 ghost use Rattle.roam_script.specs.Laws.{LiesInRange};
 ghost use Rattle.roam_script.specs.declared.limits.Limits.{Limits as LimitsSeen};

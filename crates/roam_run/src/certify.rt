@@ -1,29 +1,30 @@
 //! The command `certify make`: the certificate of a best mesh.
 
 ghost use Rattle.std.specs.Prelude.{◌≡◌, ◌≢◌, ◌+◌, ◌^◌, ◌≤◌, ◌⊎◌, ℕ, List, Option, None, IfOk};
+ghost use Rattle.mesh_defs.specs.Priority.{worst_of};
+ghost use Rattle.mesh_defs.specs.BestMesh.{IsBestMesh};
+ghost use Rattle.mesh_defs.specs.State.{priority_in};
 ghost use Rattle.roam_edge.specs.MeshSink.{Mesh};
 ghost use Rattle.roam_edge.specs.Shelf.{NamedFile};
 ghost use Rattle.cert_text.specs.CertText.{cert_text};
 ghost use Rattle.run_laws.specs.Act.{told};
 ghost use Rattle.run_laws.specs.Cause.{StatusHasCause, StatusWritesHaveCause};
 ghost use Rattle.run_laws.specs.Words.{OnGrid, Make};
-ghost use Rattle.run_laws.specs.Certify.{IsMade};
+ghost use Rattle.run_laws.specs.Certify.{IsMade, makes_at};
 ghost use Rattle.run_laws.specs.Outcome.{text_outcome};
 ghost use Rattle.run_laws.specs.Promise.{seen, HasEnded, CommandReadFault, CommandNoMemory};
-ghost use Rattle.roam_run.specs.CertifyView.{making_seen, AreInBounds};
-ghost use Rattle.roam_run.specs.Taking.{DoesAs};
-ghost use Rattle.roam_run.specs.Leaving.{CommandEnds};
+ghost use Rattle.run_files.specs.CertifyView.{making_seen, AreInBounds};
+ghost use Rattle.run_laws.specs.Maker.{DoesAs};
+ghost use Rattle.run_laws.specs.Leaving.{CommandEnds};
+ghost use Rattle.roam_run.specs.NoteSeen.{leaves_seen};
 
-use crate::certify_words::MakeWords;
-use crate::grid_file::{GridStop, read_grid};
-use crate::report::grid_report;
-use crate::run::end_with_text;
 use cert_text::{Cert, write_cert};
 use frame_loop::Engine;
 use pgm_grid::Grid;
 use plain_mesh::falling_laws;
 use roam_certify::make_cert;
 use roam_edge::{NoMemory, Shelf, Sink};
+use run_files::{GridStop, MakeWords, end_with_text, grid_report, read_grid};
 use run_laws::Status;
 use std::alloc::Global;
 
@@ -84,6 +85,23 @@ fn certificate_of(alloc: Global, grid: Grid, words: &MakeWords<'_>) -> Result<Ce
     let _way = engine.way_to(words.camera);
     engine.camera(words.camera);
     let note = engine.frame();
+    cert_of_frame(alloc, &engine, note.worst, words)
+}
+
+/// The certificate of the mesh of an engine, which is a best one at the camera of the words, and has this worst.
+fn cert_of_frame(
+    alloc: Global,
+    engine: &Engine,
+    worst: u64,
+    words: &MakeWords<'_>,
+) -> Result<Cert, NoMemory>
+    requires bounds { AreInBounds words.now.budget words.now.spacing }
+    requires best { let grid = engine.now.state.grid in
+        IsBestMesh grid.n words.now.budget (priority_in (makes_at (making_seen words.now) grid)) (leaves_seen engine.now) }
+    requires worst { let grid = engine.now.state.grid in
+        worst ≡ worst_of (priority_in (makes_at (making_seen words.now) grid)) (leaves_seen engine.now) }
+    ensures { IfOk result (λ cert. IsMade (making_seen words.now) engine.now.state.grid cert) }
+{
     let view = engine.view();
     let leaves = view.leaves.to_vec(alloc)?;
     make_cert(
@@ -93,7 +111,7 @@ fn certificate_of(alloc: Global, grid: Grid, words: &MakeWords<'_>) -> Result<Ce
         words.spacing,
         words.budget,
         leaves,
-        note.worst,
+        worst,
     )
 }
 

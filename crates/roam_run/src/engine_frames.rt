@@ -7,17 +7,18 @@ ghost use Rattle.wedgie_tree.specs.declared.wedges.TheConstants.{GREATEST_SPACIN
 ghost use Rattle.run_laws.specs.Walk.{start_walk};
 ghost use Rattle.run_laws.specs.Words.{least_budget, greatest_budget};
 ghost use Rattle.roam_run.specs.EngineFrames.{IsEngineReady, IsUnderEngine, EngineFollows};
-ghost use Rattle.roam_run.specs.ShowView.{show_seen, IsShowing, is_strip};
+ghost use Rattle.run_files.specs.ShowView.{show_seen, IsShowing};
+ghost use Rattle.roam_run.specs.ShowView.{is_strip};
 
 use crate::carry::carry_out;
 use crate::frame::show_frame;
-use crate::maker::FrameMaker;
-use crate::showing::Showing;
 use bintree_addr::Tri;
 use frame_loop::Engine;
 use pgm_grid::Grid;
 use roam_edge::{Failed, MeshSink, NoMemory, Sink};
 use roam_script::{Limits, Line};
+use run_files::Showing;
+use run_script::FrameMaker;
 use std::alloc::Global;
 
 /// An engine, and how its frames are shown.

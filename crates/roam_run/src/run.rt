@@ -1,41 +1,39 @@
 //! The top call: a run from words to meshes and a report.
 
-ghost use Rattle.std.specs.Prelude.{◌≡◌, ◌≢◌, ◌+◌, ◌-◌, ◌^◌, ◌<◌, ◌≤◌, ◌⊎◌, ◌↔◌, ◌&&◌, ℕ, List, Option, map, option_map, [], ◌∷◌, Some, None, All, IsTrue, IsSome, is_some, true, false, if◌then◌else◌, string_bytes};
+ghost use Rattle.std.specs.Prelude.{◌≡◌, ◌≢◌, ◌-◌, ◌^◌, ◌<◌, ◌≤◌, ◌⊎◌, ◌↔◌, ◌&&◌, ℕ, List, Option, map, option_map, [], ◌∷◌, Some, None, All, IsTrue, IsSome, is_some, false, if◌then◌else◌, string_bytes};
 ghost use Rattle.mesh_defs.specs.HeightField.{HeightField};
 ghost use Rattle.mesh_defs.specs.declared.level.TheConstants.{GREATEST_LEVEL};
 ghost use Rattle.roam_edge.specs.MeshSink.{Mesh};
 ghost use Rattle.roam_edge.specs.Shelf.{NamedFile, bytes_of};
 ghost use Rattle.run_laws.specs.Act.{ReportText, told};
-ghost use Rattle.run_laws.specs.Cause.{StatusHasCause, StatusWritesHaveCause};
-ghost use Rattle.run_laws.specs.Words.{Scripted, OnGrid, Generated, Frames, Facts, is_of_engine, command_of, file_count, Checking};
+ghost use Rattle.run_laws.specs.Cause.{StatusHasCause};
+ghost use Rattle.run_laws.specs.Words.{Scripted, OnGrid, Generated, Frames, is_of_engine, command_of, file_count, Checking};
 ghost use Rattle.obj_write.specs.Written.{Grows};
 ghost use Rattle.run_laws.specs.CutShort.{is_by_frame, StandsInText, LeavesAtWriteFault};
 ghost use Rattle.run_laws.specs.Picture.{IsCertified};
-ghost use Rattle.run_laws.specs.Outcome.{Outcome, IsOutcome, HasOneOutcome, text_outcome};
+ghost use Rattle.run_laws.specs.Outcome.{Outcome, IsOutcome, HasOneOutcome};
 ghost use Rattle.run_laws.specs.Promise.{Seen, seen, AreFiles, EndsRight, HasEnded, OpensForStatus, CommandReadFault, LeavesAtReadFault, CommandNoMemory, LeavesAtNoMemory, IsAccepted, is_complete, ends_script, may_end, leaves_engine};
 ghost use Rattle.run_laws.specs.Headline.{IsScriptRunOf, IsRunOf, KeepsGoodMeshes, IsCheckOf, IsCertifiedMesh};
 ghost use Rattle.roam_run.specs.EngineSeen.{engine_seen};
-ghost use Rattle.roam_run.specs.Taking.{DoesAs};
-ghost use Rattle.roam_run.specs.Leaving.{CommandEnds};
-ghost use Rattle.roam_run.specs.WordView.{show_for, scripted_seen, command_seen, IsFrameCommand};
-ghost use Rattle.roam_run.specs.WordView.{IsAccepted as IsAcceptedCommand};
+ghost use Rattle.run_laws.specs.Leaving.{CommandEnds};
+ghost use Rattle.run_files.specs.WordView.{show_for, scripted_seen, command_seen, IsFrameCommand};
+ghost use Rattle.run_files.specs.WordView.{IsAccepted as IsAcceptedCommand};
+ghost use Rattle.run_files.specs.ShowView.{show_seen, IsShowing};
 
 use crate::certify::run_make;
-use crate::checking::run_check;
 use crate::engine_frames::EngineFrames;
 use crate::generated::sums_of;
-use crate::grid_file::{GridStop, read_grid};
-use crate::info::info_report;
-use crate::least_frames::LeastFrames;
-use crate::report::{grid_report, try_report};
-use crate::script::run_script;
-use crate::showing::Making;
-use crate::words::{Command, FrameWords, command_in};
+use crate::report::try_report;
 use frame_loop::Engine;
 use roam_edge::{MeshSink, Shelf, Sink};
+use run_check::run_check;
+use run_files::{
+    Command, FrameWords, GridStop, Making, Showing, command_in, end_with_text, grid_report,
+    read_grid, run_info,
+};
 use run_laws::{Status, cut_short_laws, run_laws, state_laws};
+use run_script::{run_least, run_script};
 use std::alloc::Global;
-use wedgie_tree::Wedges;
 
 /// What a run answers.
 #[derive(Drop)]
@@ -209,7 +207,7 @@ fn run_command<F: Shelf, M: MeshSink, R: Sink>(
         (told (M.meshes meshes.new) (R.contents report.new))
         (seen (F.files shelf.old) (F.rest shelf.old) (F.opens shelf.old) (F.ended shelf.old))
         (seen (F.files shelf.new) (F.rest shelf.new) (F.opens shelf.new) (F.ended shelf.new))
-        (command_seen command.now) files result.status result.engine }
+        (command_seen command.now) files result.status (option_map engine_seen result.engine) }
     ensures read_fault { result.status ≡ Status.ReadFault →
         CommandReadFault (told (M.meshes meshes.old) (R.contents report.old))
         (told (M.meshes meshes.new) (R.contents report.new))
@@ -258,7 +256,8 @@ fn run_frames<F: Shelf, M: MeshSink, R: Sink>(
         (told (M.meshes meshes.new) (R.contents report.new))
         (seen (F.files shelf.old) (F.rest shelf.old) (F.opens shelf.old) (F.ended shelf.old))
         (seen (F.files shelf.new) (F.rest shelf.new) (F.opens shelf.new) (F.ended shelf.new))
-        (OnGrid command.now.grid.now (Frames (scripted_seen command.now))) files result.status result.engine }
+        (OnGrid command.now.grid.now (Frames (scripted_seen command.now))) files result.status
+        (option_map engine_seen result.engine) }
     ensures read_fault { result.status ≡ Status.ReadFault →
         CommandReadFault (told (M.meshes meshes.old) (R.contents report.old))
         (told (M.meshes meshes.new) (R.contents report.new))
@@ -283,39 +282,69 @@ fn run_frames<F: Shelf, M: MeshSink, R: Sink>(
     ensures files { F.files shelf.new ≡ F.files shelf.old }
     ensures idle { result.status ≢ Status.WriteFault → M.under_way meshes.new ≡ false }
 {
+    match command.making {
+        Making::ByEngine(showing) => run_engine(alloc, command, showing, shelf, meshes, report),
+        Making::ByTolerance { prefix, tolerance } => {
+            let status = run_least(alloc, command, prefix, tolerance, shelf, meshes, report);
+            Run::without_engine(status)
+        }
+    }
+}
+
+/// Carries out a command whose frames an engine makes, and which are shown so.
+fn run_engine<F: Shelf, M: MeshSink, R: Sink>(
+    alloc: Global,
+    command: &FrameWords<'_>,
+    showing: Showing<'_>,
+    shelf: &mut F,
+    meshes: &mut M,
+    report: &mut R,
+) -> Run
+    requires idle { M.under_way meshes.old ≡ false }
+    requires accepted { IsFrameCommand command.now }
+    requires showing { IsShowing showing }
+    requires shown { show_for command.now.making ≡ show_seen showing }
+    requires opens { F.opens shelf.old ≤ 2 ^ 63 }
+    ensures outcome { (files : List NamedFile) → F.files shelf.old ≡ Some files →
+        CommandEnds (told (M.meshes meshes.old) (R.contents report.old))
+        (told (M.meshes meshes.new) (R.contents report.new))
+        (seen (F.files shelf.old) (F.rest shelf.old) (F.opens shelf.old) (F.ended shelf.old))
+        (seen (F.files shelf.new) (F.rest shelf.new) (F.opens shelf.new) (F.ended shelf.new))
+        (OnGrid command.now.grid.now (Frames (scripted_seen command.now))) files result.status
+        (option_map engine_seen result.engine) }
+    ensures read_fault { result.status ≡ Status.ReadFault →
+        CommandReadFault (told (M.meshes meshes.old) (R.contents report.old))
+        (told (M.meshes meshes.new) (R.contents report.new))
+        (seen (F.files shelf.old) (F.rest shelf.old) (F.opens shelf.old) (F.ended shelf.old))
+        (seen (F.files shelf.new) (F.rest shelf.new) (F.opens shelf.new) (F.ended shelf.new))
+        (OnGrid command.now.grid.now (Frames (scripted_seen command.now))) }
+    ensures no_memory { result.status ≡ Status.NoMemory →
+        CommandNoMemory (told (M.meshes meshes.old) (R.contents report.old))
+        (told (M.meshes meshes.new) (R.contents report.new))
+        (seen (F.files shelf.old) (F.rest shelf.old) (F.opens shelf.old) (F.ended shelf.old))
+        (seen (F.files shelf.new) (F.rest shelf.new) (F.opens shelf.new) (F.ended shelf.new))
+        (OnGrid command.now.grid.now (Frames (scripted_seen command.now))) }
+    ensures engine { IsSome result.engine ↔ IsTrue (ends_script result.status) }
+    ensures not_usage { result.status ≢ Status.Usage }
+    ensures not_rejected { result.status ≢ Status.Rejected }
+    ensures faults { StatusHasCause (F.faults shelf.old) (F.faults shelf.new) (M.faults meshes.old)
+        (M.faults meshes.new) (R.faults report.old) (R.faults report.new) result.status }
+    ensures opens { OpensForStatus (F.opens shelf.old) (F.opens shelf.new) 2 result.status }
+    ensures done { result.status ≡ Status.Done →
+        HasEnded (seen (F.files shelf.new) (F.rest shelf.new) (F.opens shelf.new) (F.ended shelf.new)) }
+    ensures files { F.files shelf.new ≡ F.files shelf.old }
+    ensures idle { result.status ≢ Status.WriteFault → M.under_way meshes.new ≡ false }
+{
     state_laws();
     match read_grid(alloc, command.grid, shelf) {
-        Ok(grid) => match command.making {
-            Making::ByEngine(showing) => {
-                let made = EngineFrames::make(
-                    alloc,
-                    grid,
-                    showing,
-                    command.budget,
-                    command.spacing,
-                );
-                let Ok(mut frames) = made else {
-                    return Run::without_engine(Status::NoMemory);
-                };
-                let status = run_script(&mut frames, command.script, shelf, meshes, report);
-                Run::of_script(status, frames.engine)
-            }
-            Making::ByTolerance { prefix, tolerance } => {
-                let made = LeastFrames::make(
-                    alloc,
-                    grid,
-                    prefix,
-                    tolerance,
-                    command.budget,
-                    command.spacing,
-                );
-                let Ok(mut frames) = made else {
-                    return Run::without_engine(Status::NoMemory);
-                };
-                let status = run_script(&mut frames, command.script, shelf, meshes, report);
-                Run::without_engine(status)
-            }
-        },
+        Ok(grid) => {
+            let made = EngineFrames::make(alloc, grid, showing, command.budget, command.spacing);
+            let Ok(mut frames) = made else {
+                return Run::without_engine(Status::NoMemory);
+            };
+            let status = run_script(&mut frames, command.script, shelf, meshes, report);
+            Run::of_script(status, frames.engine)
+        }
         Err(GridStop::NoMemory) => Run::without_engine(Status::NoMemory),
         Err(GridStop::Failed) => Run::without_engine(Status::ReadFault),
         Err(GridStop::Refused(fault)) => {
@@ -326,54 +355,13 @@ fn run_frames<F: Shelf, M: MeshSink, R: Sink>(
     }
 }
 
-/// Carries out the command `info`.
-fn run_info<F: Shelf, R: Sink>(alloc: Global, name: &str, shelf: &mut F, report: &mut R) -> Status
-    requires { F.opens shelf.old ≤ 2 ^ 63 }
-    ensures outcome { (meshes : Option (List Mesh)) (files : List NamedFile) → F.files shelf.old ≡ Some files →
-        CommandEnds (told meshes (R.contents report.old)) (told meshes (R.contents report.new))
-        (seen (F.files shelf.old) (F.rest shelf.old) (F.opens shelf.old) (F.ended shelf.old))
-        (seen (F.files shelf.new) (F.rest shelf.new) (F.opens shelf.new) (F.ended shelf.new))
-        (OnGrid name.now Facts) files result None }
-    ensures read_fault { result ≡ Status.ReadFault → (meshes : Option (List Mesh)) →
-        CommandReadFault (told meshes (R.contents report.old)) (told meshes (R.contents report.new))
-        (seen (F.files shelf.old) (F.rest shelf.old) (F.opens shelf.old) (F.ended shelf.old))
-        (seen (F.files shelf.new) (F.rest shelf.new) (F.opens shelf.new) (F.ended shelf.new))
-        (OnGrid name.now Facts) }
-    ensures no_memory { result ≡ Status.NoMemory → (meshes : Option (List Mesh)) →
-        CommandNoMemory (told meshes (R.contents report.old)) (told meshes (R.contents report.new))
-        (seen (F.files shelf.old) (F.rest shelf.old) (F.opens shelf.old) (F.ended shelf.old))
-        (seen (F.files shelf.new) (F.rest shelf.new) (F.opens shelf.new) (F.ended shelf.new))
-        (OnGrid name.now Facts) }
-    ensures status { (result ≢ Status.Usage) × (result ≢ Status.ScriptRefused) × (result ≢ Status.Rejected) }
-    ensures faults { StatusHasCause (F.faults shelf.old) (F.faults shelf.new) 0 0
-        (R.faults report.old) (R.faults report.new) result }
-    ensures opens { F.opens shelf.new ≡ F.opens shelf.old + 1 }
-    ensures files { F.files shelf.new ≡ F.files shelf.old }
-    ensures done { result ≡ Status.Done →
-        HasEnded (seen (F.files shelf.new) (F.rest shelf.new) (F.opens shelf.new) (F.ended shelf.new)) }
-{
-    match read_grid(alloc, name, shelf) {
-        Ok(grid) => match Wedges::build(alloc, grid) {
-            Ok(wedges) => end_with_text(info_report(&wedges).as_slice(), Status::Done, report),
-            Err(_) => Status::NoMemory,
-        },
-        Err(GridStop::NoMemory) => Status::NoMemory,
-        Err(GridStop::Failed) => Status::ReadFault,
-        Err(GridStop::Refused(fault)) => end_with_text(
-            grid_report(fault).as_slice(),
-            Status::GridRefused,
-            report,
-        ),
-    }
-}
-
 /// Carries out the command `try`, which opens no file and writes no mesh.
 fn run_try<R: Sink>(alloc: Global, n: u32, seed: u32, report: &mut R) -> Run
     requires n_low { 1 ≤ n }
     requires n_high { n ≤ GREATEST_LEVEL }
     ensures outcome { (meshes : Option (List Mesh)) (shelf : Seen) (files : List NamedFile) →
         CommandEnds (told meshes (R.contents report.old)) (told meshes (R.contents report.new))
-        shelf shelf (Generated n seed) files result.status result.engine }
+        shelf shelf (Generated n seed) files result.status (option_map engine_seen result.engine) }
     ensures no_memory { result.status ≡ Status.NoMemory → (meshes : Option (List Mesh)) (shelf : Seen) →
         CommandNoMemory (told meshes (R.contents report.old)) (told meshes (R.contents report.new))
         shelf shelf (Generated n seed) }
@@ -390,19 +378,5 @@ fn run_try<R: Sink>(alloc: Global, n: u32, seed: u32, report: &mut R) -> Run
             Run::of_script(status, engine)
         }
         Err(_) => Run::without_engine(Status::NoMemory),
-    }
-}
-
-/// Writes the last text of a run, which ends with this status unless the write fails.
-pub(crate) fn end_with_text<R: Sink>(text: &[u8], status: Status, report: &mut R) -> Status
-    requires { is_complete status ≡ true }
-    ensures ends { (meshes : Option (List Mesh)) (files : ℕ) → DoesAs (told meshes (R.contents report.old))
-        (told meshes (R.contents report.new)) (text_outcome text.now status files) result }
-    ensures status { (result ≡ status) ⊎ (result ≡ Status.WriteFault) }
-    ensures faults { (count : ℕ) → StatusWritesHaveCause count count (R.faults report.old) (R.faults report.new) result }
-{
-    match report.write(text) {
-        Ok(()) => status,
-        Err(_) => Status::WriteFault,
     }
 }

@@ -1,8 +1,8 @@
 //! A frame as a strip, or as a line on how far its mesh is from the surface.
 
-ghost use Rattle.std.specs.Prelude.{◌≡◌, ◌+◌, ◌*◌, ◌^◌, ◌<◌, ◌≤◌, ℕ, Bool, Option, List, true, false, length, All, OnOk, OnErr};
+ghost use Rattle.std.specs.Prelude.{◌≡◌, ◌*◌, ◌^◌, ◌<◌, ◌≤◌, Option, List, false, length, All, OnOk, OnErr};
 ghost use Rattle.mesh_defs.specs.Triangle.{level_of};
-ghost use Rattle.mesh_defs.specs.ClosedSet.{IsClosed, leaves_of, among};
+ghost use Rattle.mesh_defs.specs.ClosedSet.{IsClosed, among};
 ghost use Rattle.roam_edge.specs.Fault.{HasCause};
 ghost use Rattle.roam_edge.specs.MeshSink.{Mesh};
 ghost use Rattle.roam_edge.specs.declared.mesh_sink.TheConstants.{LONGEST_PREFIX, GREATEST_NUMBER};
@@ -20,8 +20,6 @@ ghost use Rattle.run_laws.specs.Outcome.{picture_acts};
 ghost use Rattle.roam_run.specs.NoteSeen.{picture_seen, leaves_seen};
 ghost use Rattle.roam_run.specs.ShowView.{strip_numbers, measure_numbers};
 
-use crate::report::push_placed;
-use crate::text::Text;
 use arrayvec::ArrayVec;
 use bintree_addr::Tri;
 use frame_loop::Engine;
@@ -29,6 +27,7 @@ use mesh_measure::{deviation, thickest};
 use obj_write::{MeshView, write_mesh};
 use roam_edge::{Failed, MeshSink, Sink};
 use roam_num::push_bytes;
+use run_files::{Text, push_placed};
 use run_laws::turn_count_laws;
 use strip_order::{strip, turns};
 

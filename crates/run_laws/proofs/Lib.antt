@@ -13,3 +13,6 @@ pub mod HeadlineLemmas
 pub mod StepLemmas
 pub mod BestLemmas
 pub mod CutShortLemmas
+pub mod ShownLemmas
+pub mod FileLemmas
+pub mod GridLemmas

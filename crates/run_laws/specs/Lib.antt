@@ -16,3 +16,6 @@ pub mod Examples
 pub mod CertifyExamples
 pub mod CutShort
 pub mod Status
+pub mod Maker
+pub mod FileStop
+pub mod Leaving

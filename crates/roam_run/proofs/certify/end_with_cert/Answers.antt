@@ -1,6 +1,6 @@
 use Rattle.cert_text.specs.CertText.{cert_text}
 use Rattle.run_laws.specs.declared.status.Status.TheVariants.{Done}
-use Rattle.roam_run.proofs.GridLemmas.{text-cut}
+use Rattle.run_laws.proofs.GridLemmas.{text-cut}
 use Rattle.roam_run.proofs.certify.end_with_cert.Goals as goal
 
 pub returns-in-Err-clause-ends : goal.returns-in-Err-clause-ends

@@ -2,7 +2,7 @@ use Rattle.std.proofs.Common.{◌∙◌}
 use Rattle.std.proofs.lemmas.Result.{on_err_weaker}
 use Rattle.run_laws.specs.ReportText.{measure_line}
 use Rattle.roam_run.specs.NoteSeen.{picture_seen}
-use Rattle.roam_run.proofs.ShowLemmas.{cut-words}
+use Rattle.run_laws.proofs.ShownLemmas.{cut-words}
 use Rattle.roam_run.proofs.shows.write_measure.Goals as goal
 
 pub returns-clause-err : goal.returns-clause-err

@@ -5,7 +5,8 @@ use Rattle.obj_write.specs.MeshView.{view_text}
 use Rattle.run_laws.specs.Picture.{strip_triangles}
 use Rattle.run_laws.specs.ReportText.{strip_line}
 use Rattle.roam_run.specs.NoteSeen.{picture_seen}
-use Rattle.roam_run.proofs.ShowLemmas.{strip-text, strip-line, cut-acts-mesh, cut-acts-line, stands-acts}
+use Rattle.roam_run.proofs.ShowLemmas.{strip-text, strip-line}
+use Rattle.run_laws.proofs.ShownLemmas.{cut-acts-mesh, cut-acts-line, stands-acts}
 use Rattle.roam_run.proofs.shows.write_order.Goals as goal
 
 pub returns-in_err-write_mesh-clause-err : goal.returns-in_err-write_mesh-clause-err

@@ -1,0 +1,13 @@
+use Rattle.std.proofs.Common.{sym, ◌∙◌}
+use Rattle.run_laws.proofs.FileLemmas.{has-ended}
+use Rattle.run_check.proofs.JudgingLemmas.{leaf-levels}
+use Rattle.run_check.proofs.checking.difference.Goals as goal
+
+pub compare-requires-clause-levels : goal.compare-requires-clause-levels
+compare-requires-clause-levels g c = leaf-levels _ _ c.requires.leaves
+
+pub returns-in-Ok-compare-clause-ended : goal.returns-in-Ok-compare-clause-ended
+returns-in-Ok-compare-clause-ended g c none =
+    has-ended _ _ _ _ _ (c.in-Ok-compare.ensures.ended none) c.in-Ok-compare.ensures.told
+    (λ all is_told. (_, c.in-Ok.ensures.opened.chosen all (sym (c.in-Ok-compare.ensures.files ∙ c.in-Ok.ensures.others) ∙ is_told)))
+    (c.in-Ok-compare.ensures.all_read none)

@@ -1,0 +1,4 @@
+pub mod WordLemmas
+pub mod InfoLemmas
+pub mod ReadingLemmas
+pub mod CertStageLemmas

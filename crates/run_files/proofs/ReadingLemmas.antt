@@ -1,0 +1,191 @@
+-- A grid that is read from a shelf, piece by piece.
+use Rattle.std.proofs.Common.{arith, ◌+◌, length-append, Result, OnOk, IfOk, Bool, true, ◌≡◌, ◌≢◌, ℕ, List, [], ◌++◌, length, take, drop, Option, Some, Ok, Err, refl, sym, ◌∙◌, ap, append_assoc, append-nil, false, ◌∷◌}
+use Rattle.mesh_defs.specs.HeightField.{HeightField}
+use Rattle.roam_edge.specs.Shelf.{NamedFile, bytes_of}
+use Rattle.roam_edge.specs.Told.{StaysTold}
+use Rattle.pgm_grid.specs.declared.fault.PgmFault.{PgmFault}
+use Rattle.pgm_grid.specs.declared.fault.PgmFault.TheVariants.{BadMagic, BadHeader, HeaderTooLong, BadMaxval, NotSquare, BadSide, Truncated, BadSample, AboveMaxval, Trailing, NoMemory, TooLong}
+use Rattle.std.proofs.lemmas.Result.{IfOk-at_ok, IfErr-at_err}
+use Rattle.pgm_grid.specs.Laws.{OthersAreAbsent, GridsHaveHeaders}
+use Rattle.pgm_header.specs.Reading.{header_of}
+use Rattle.pgm_grid.specs.Progress.{Progress, grid_of, resume, taken, IsSettled, EndsHeader}
+use Rattle.run_laws.specs.Promise.{seen, HasEnded, HasReadHeader, IsUndecided}
+use Rattle.run_files.specs.declared.grid_file.GridStop.{GridStop}
+use Rattle.run_files.specs.declared.grid_file.GridStop.TheVariants as stop
+use Rattle.run_laws.specs.FileStop.{StopsReading}
+use Rattle.run_files.specs.GridStop.{stop_for}
+use Rattle.run_laws.proofs.FileLemmas.{IsOfFile, read-nothing, file-split, file-cut, read-more, same-unread, read-end, has-ended, stops-behind}
+
+-- The reader has taken some bytes, which were read of the named file.
+pub record IsReading (files : Option (List NamedFile)) (rest : Option (List ℕ)) (name : List ℕ) (reader : Progress) : Type 0 where
+  pub bytes : List ℕ
+  pub means : (more : List ℕ) → resume reader more ≡ grid_of (bytes ++ more)
+  pub counted : taken reader ≡ length bytes
+  pub in_file : IsOfFile files rest name bytes
+
+-- nothing was taken of a file that was just opened
+pub reading-begin : (files : Option (List NamedFile)) (rest : Option (List ℕ)) (name : List ℕ) (reader : Progress)
+    → ((more : List ℕ) → resume reader more ≡ grid_of more) → taken reader ≡ 0
+    → ((all : List NamedFile) → files ≡ Some all → rest ≡ Some (bytes_of all name))
+    → IsReading files rest name reader
+reading-begin files rest name reader means none chosen = record {
+  bytes = [];
+  means = means;
+  counted = none;
+  in_file = read-nothing files rest name chosen;
+}
+
+-- a piece was read and taken
+pub reading-more : (files : Option (List NamedFile)) (rest rest' : Option (List ℕ)) (name piece : List ℕ) (count : ℕ) (reader next : Progress)
+    → IsReading files rest name reader
+    → ((unread : List ℕ) → rest ≡ Some unread → rest' ≡ Some (drop count unread))
+    → ((unread : List ℕ) → rest ≡ Some unread → piece ≡ take count unread)
+    → ((more : List ℕ) → resume reader (piece ++ more) ≡ resume next more) → taken next ≡ taken reader + length piece
+    → IsReading files rest' name next
+reading-more files rest rest' name piece count reader next reading takes gives goes_on counted = record {
+  bytes = reading.bytes ++ piece;
+  counted = omega (arith, counted, reading.counted, length-append reading.bytes piece);
+  means = λ more. sym (goes_on more) ∙ reading.means (piece ++ more) ∙ ap grid_of (sym (append_assoc reading.bytes piece more));
+  in_file = read-more files rest rest' name reading.bytes piece count reading.in_file takes gives;
+}
+
+-- a piece was read, and the reader refuses it
+pub reading-refused : (files : Option (List NamedFile)) (rest : Option (List ℕ)) (name piece : List ℕ) (count : ℕ) (reader : Progress) (fault : PgmFault)
+    → IsReading files rest name reader
+    → ((unread : List ℕ) → rest ≡ Some unread → piece ≡ take count unread)
+    → ((more : List ℕ) → resume reader (piece ++ more) ≡ Err fault)
+    → (all : List NamedFile) → files ≡ Some all → grid_of (bytes_of all name) ≡ Err fault
+reading-refused files rest name piece count reader fault reading gives refusal all is =
+    let here = reading.in_file all is in
+    ap grid_of (file-split (bytes_of all name) reading.bytes piece here.0 count here.2 (gives here.0 here.1))
+    ∙ sym (reading.means (piece ++ drop count here.0))
+    ∙ refusal (drop count here.0)
+
+-- a refusal other than out of memory is that of the reader
+pub stop_for-refused : (found fault : PgmFault) → stop_for found ≡ stop.Refused fault → (found ≡ fault) × (found ≢ NoMemory)
+stop_for-refused BadMagic fault is = (cc, λ e. cc)
+stop_for-refused (BadHeader place) fault is = (cc, λ e. cc)
+stop_for-refused HeaderTooLong fault is = (cc, λ e. cc)
+stop_for-refused BadMaxval fault is = (cc, λ e. cc)
+stop_for-refused NotSquare fault is = (cc, λ e. cc)
+stop_for-refused BadSide fault is = (cc, λ e. cc)
+stop_for-refused Truncated fault is = (cc, λ e. cc)
+stop_for-refused (BadSample place) fault is = (cc, λ e. cc)
+stop_for-refused (AboveMaxval place) fault is = (cc, λ e. cc)
+stop_for-refused (Trailing place) fault is = (cc, λ e. cc)
+stop_for-refused NoMemory fault is = absurd cc
+stop_for-refused TooLong fault is = (cc, λ e. cc)
+
+-- a run stops as out of memory only where its reader is out of memory
+pub stop_for-memory : (found : PgmFault) → stop_for found ≡ stop.NoMemory → found ≡ NoMemory
+stop_for-memory BadMagic is = absurd cc
+stop_for-memory (BadHeader place) is = absurd cc
+stop_for-memory HeaderTooLong is = absurd cc
+stop_for-memory BadMaxval is = absurd cc
+stop_for-memory NotSquare is = absurd cc
+stop_for-memory BadSide is = absurd cc
+stop_for-memory Truncated is = absurd cc
+stop_for-memory (BadSample place) is = absurd cc
+stop_for-memory (AboveMaxval place) is = absurd cc
+stop_for-memory (Trailing place) is = absurd cc
+stop_for-memory NoMemory is = refl
+stop_for-memory TooLong is = absurd cc
+
+-- the bytes of a file settle no answer that a reader is out of memory
+pub reading-unsettled : (files : Option (List NamedFile)) (rest : Option (List ℕ)) (name : List ℕ) (reader : Progress)
+    → OthersAreAbsent → IsReading files rest name reader → IsSettled reader NoMemory → ⊥
+unfolding IsSettled
+reading-unsettled files rest name reader others reading settled =
+    let e = sym (reading.means []) ∙ settled [] in
+    IfErr-at_err (λ fault. fault ≢ NoMemory) e (others (reading.bytes ++ [])) refl
+
+-- the header of a grid ended with a piece
+pub reading-header : (files : Option (List NamedFile)) (rest rest' : Option (List ℕ)) (name piece : List ℕ) (count : ℕ) (reader : Progress)
+    → IsReading files rest name reader
+    → ((unread : List ℕ) → rest ≡ Some unread → rest' ≡ Some (drop count unread))
+    → ((unread : List ℕ) → rest ≡ Some unread → piece ≡ take count unread)
+    → EndsHeader reader piece
+    → (all : List NamedFile) → files ≡ Some all → HasReadHeader (bytes_of all name) rest'
+reading-header files rest rest' name piece count reader reading takes gives ends all is =
+    let here = reading.in_file all is in
+    let header = ends.ends reading.bytes reading.means in
+    let whole = file-cut (bytes_of all name) reading.bytes piece here.0 count here.2 (gives here.0 here.1) in (
+      header.header,
+      header.at,
+      header.rest ++ drop count here.0,
+      record {
+        text = header.has.text;
+        values = header.has.values;
+        is_text = header.has.is_text;
+        short = header.has.short;
+        accepts = header.has.accepts;
+        cut = whole ∙ ap (λ m. m ++ drop count here.0) header.has.cut ∙ append_assoc header.has.text header.rest (drop count here.0);
+        place = header.has.place;
+      },
+      λ unread told. (header.rest, ap (λ m. header.rest ++ m) (same-unread (drop count here.0) unread (sym (takes here.0 here.1) ∙ told))),
+    )
+
+-- a read failed: no refusal of what was read is settled
+pub reading-failed : (files : Option (List NamedFile)) (rest rest' : Option (List ℕ)) (ended' : Bool) (name : List ℕ) (reader : Progress)
+    → IsReading files rest name reader → ((fault : PgmFault) → IsSettled reader fault → ⊥) → rest' ≡ rest → ended' ≡ false
+    → (all : List NamedFile) → files ≡ Some all → StopsReading IsUndecided (bytes_of all name) rest' ended'
+unfolding IsSettled
+reading-failed files rest rest' ended' name reader reading unsettled kept not_ended =
+    stops-behind IsUndecided files rest rest' ended' name reading.bytes reading.in_file kept not_ended
+    (λ fault settled. unsettled fault (λ more. reading.means more ∙ settled more))
+
+-- nothing is no grid, and a first byte of 0 has another refusal
+nothing-read : grid_of [] ≡ Err Truncated
+unfolding grid_of header_of
+nothing-read = refl
+
+zero-read : grid_of (0 ∷ []) ≡ Err BadMagic
+unfolding grid_of header_of
+zero-read = refl
+
+-- no refusal is settled of a file of which nothing was read
+pub nothing-undecided : IsUndecided []
+nothing-undecided fault settled = differ (sym nothing-read ∙ settled []) (sym zero-read ∙ settled (0 ∷ []))
+  where
+    fault_of : PgmFault → Result HeightField PgmFault
+    fault_of why = Err why
+
+    differ : fault_of Truncated ≡ fault_of fault → fault_of BadMagic ≡ fault_of fault → ⊥
+    differ one two = cc
+
+-- what holds where there is a value holds of an answer that is a value
+on-ok : {A E : Type 0} (answer : Result A E) (P : Type 0) → ((value : A) → answer ≡ Ok value → P) → OnOk answer P
+on-ok (Ok value) P proof = proof value refl
+on-ok (Err fault) P proof = tt
+
+module _ (files : Option (List NamedFile)) (rest : Option (List ℕ)) (name : List ℕ) (reader : Progress) (reading : IsReading files rest name reader)
+    (nothing : (unread : List ℕ) → rest ≡ Some unread → unread ≡ []) where
+  -- a file that is read to its end begins with the header of its grid
+  pub grid-header : (answer : Result HeightField GridStop) → GridsHaveHeaders → IfOk answer (λ grid. resume reader [] ≡ Ok grid)
+      → (rest' : Option (List ℕ)) (count : ℕ) → count ≡ 0 → ((unread : List ℕ) → rest ≡ Some unread → rest' ≡ Some (drop count unread))
+      → OnOk answer ((all : List NamedFile) → files ≡ Some all → HasReadHeader (bytes_of all name) rest')
+  grid-header answer headers value rest' count none takes = on-ok answer _ (λ grid is all told.
+      let here = reading.in_file all told in
+      let whole = here.2 ∙ ap (λ m. reading.bytes ++ m) (nothing here.0 here.1) in
+      let read = ap grid_of whole ∙ sym (reading.means []) ∙ IfOk-at_ok _ is value in
+      let found = headers grid (bytes_of all name) read in
+      let left = takes here.0 here.1 ∙ ap (λ k. Some (drop k here.0)) none ∙ ap Some (nothing here.0 here.1) in (
+        found.0,
+        found.1,
+        found.2,
+        found.3,
+        λ unread is_left. (found.2, sym (append-nil found.2) ∙ ap (λ m. found.2 ++ m) (same-unread [] unread (sym left ∙ is_left))),
+      ))
+
+  -- a read that gave no byte leaves nothing
+  pub grid-ended : (ended : Bool) (rest' : Option (List ℕ)) (opens count : ℕ) (files' : Option (List NamedFile)) (answer : Result HeightField GridStop)
+      → files' ≡ files → count ≡ 0 → ended ≡ true → StaysTold rest rest' → ((unread : List ℕ) → rest ≡ Some unread → rest' ≡ Some (drop count unread))
+      → OnOk answer (HasEnded (seen files' rest' opens ended))
+  grid-ended ended rest' opens count files' answer same none at_end stays takes = on-ok answer _ (λ grid is.
+      has-ended files' rest rest' opens ended at_end stays (λ all told. (let here = reading.in_file all (sym same ∙ told) in (here.0, here.1)))
+      (read-end rest rest' count none takes nothing))
+
+-- a new reader has settled nothing
+pub start-unsettled : (reader : Progress) → ((more : List ℕ) → resume reader more ≡ grid_of more) → (fault : PgmFault) → IsSettled reader fault → ⊥
+unfolding IsSettled
+start-unsettled reader means fault settled = nothing-undecided fault (λ more. sym (means more) ∙ settled more)

@@ -1,0 +1,33 @@
+-- How far a certificate was read, and what the calls do that read it.
+-- Words: place_seen, IsCounted, TakesCert, EndsCert.
+use Rattle.std.specs.Prelude.{◌≡◌, ℕ, ◌≤◌, List, ◌++◌, length, None, Result, Ok, Err, OnOk, IfOk}
+use Rattle.roam_script.specs.declared.limits.TheConstants.{MOST_LINE_BYTES}
+use Rattle.cert_text.specs.Certificate.{Certificate}
+use Rattle.cert_text.specs.Laws.{line_count}
+use Rattle.cert_text.specs.declared.limits.TheConstants.{MOST_LEAVES, MOST_REASONS}
+use Rattle.run_laws.specs.CertFile.{CertPlace, HasCertCome, cert_in}
+use Rattle.run_files.specs.declared.cert_file.CertStage.{CertStage}
+use Rattle.run_files.specs.declared.cert_file.CertStop.{CertStop}
+use Rattle.run_files.specs.declared.cert_file.CertStop.TheVariants.{BadLine}
+
+-- the place that a stage shows
+abbrev pub place_seen : CertStage → CertPlace
+place_seen stage = record { said = stage.reader.read; lines = stage.lines; begun = stage.part.items }
+
+-- no line was refused, the lines are counted, and neither leaves and reasons are more than may be nor the bytes of a line
+pub record IsCounted (stage : CertStage) : Type 0 where
+  pub goes : stage.reader.refusal ≡ None
+  pub counted : stage.lines ≡ line_count stage.reader.read
+  pub few_leaves : length stage.reader.read.leaves ≤ MOST_LEAVES
+  pub few_reasons : length stage.reader.read.reasons ≤ MOST_REASONS
+  pub short : length stage.part.items ≤ MOST_LINE_BYTES
+
+-- what taking bytes does, by its answer: a place was reached, or a line is refused, whatever follows
+pub record TakesCert {T : Type 0} (n : ℕ) (read : List ℕ) (stage : CertStage) (answer : Result T CertStop) : Type 0 where
+  pub ok : OnOk answer (HasCertCome n read (place_seen stage))
+  pub bad : (line : ℕ) → answer ≡ Err (BadLine line) → (more : List ℕ) → cert_in n (read ++ more) ≡ Err line
+
+-- what the end of a file comes to, by the answer
+pub record EndsCert (n : ℕ) (file : List ℕ) (answer : Result Certificate CertStop) : Type 0 where
+  pub ok : IfOk answer (λ cert. cert_in n file ≡ Ok cert)
+  pub bad : (line : ℕ) → answer ≡ Err (BadLine line) → cert_in n file ≡ Err line

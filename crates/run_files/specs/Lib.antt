@@ -1,0 +1,5 @@
+pub mod ShowView
+pub mod CertifyView
+pub mod CertStage
+pub mod WordView
+pub mod GridStop

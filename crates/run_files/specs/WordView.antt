@@ -1,0 +1,55 @@
+-- The commands of the code in the words of a run, and what the code knows of them.
+-- Words: show_for, IsMaking, scripted_seen, command_seen, IsFrameCommand, IsAccepted.
+use Rattle.std.specs.Prelude.{◌≤◌}
+use Rattle.mesh_defs.specs.declared.level.TheConstants.{GREATEST_LEVEL}
+use Rattle.wedgie_tree.specs.declared.wedges.TheConstants.{GREATEST_SPACING}
+use Rattle.run_files.specs.declared.words.FrameWords.{FrameWords}
+use Rattle.run_files.specs.declared.words.Command.{Command}
+use Rattle.run_files.specs.declared.words.Command.TheVariants.{Frames, Info, Try, Make, Check}
+use Rattle.run_files.specs.declared.showing.Making.{Making}
+use Rattle.run_files.specs.declared.showing.Making.TheVariants.{ByEngine, ByTolerance}
+use Rattle.run_files.specs.ShowView.{IsPrefixLength, show_seen, IsShowing}
+use Rattle.run_files.specs.CertifyView.{making_seen, checking_seen, AreInBounds}
+use Rattle.run_laws.specs.Words as words
+
+-- how frames are shown
+abbrev pub show_for : Making → words.Show
+show_for (ByEngine showing) = show_seen showing
+show_for (ByTolerance prefix tolerance) = words.AsLeast prefix.now tolerance
+
+-- the prefix, where there is one, has an accepted length
+abbrev pub IsMaking : Making → Type 0
+IsMaking (ByEngine showing) = IsShowing showing
+IsMaking (ByTolerance prefix tolerance) = IsPrefixLength prefix.now
+
+-- the frames of a script
+abbrev pub scripted_seen : FrameWords → words.Scripted
+scripted_seen c = record {
+  script = c.script.now;
+  budget = c.budget;
+  spacing = c.spacing;
+  show = show_for c.making;
+}
+
+abbrev pub command_seen : Command → words.Command
+command_seen (Frames command) = words.OnGrid command.grid.now (words.Frames (scripted_seen command))
+command_seen (Info grid) = words.OnGrid grid.now words.Facts
+command_seen (Try n seed) = words.Generated n seed
+command_seen (Make w) = words.OnGrid w.grid.now (words.Make (making_seen w))
+command_seen (Check w) = words.OnGrid w.grid.now (words.Check (checking_seen w))
+
+-- budget and spacing lie within their bounds, and the prefix, where there is one, has an accepted length
+pub record IsFrameCommand (command : FrameWords) : Type 0 where
+  pub shown : IsMaking command.making
+  pub budget_low : words.least_budget ≤ command.budget
+  pub budget_high : command.budget ≤ words.greatest_budget
+  pub spacing_low : 1 ≤ command.spacing
+  pub spacing_high : command.spacing ≤ GREATEST_SPACING
+
+-- a command lies within its bounds: of frames its words, of `try` its level, of `certify` budget and spacing
+abbrev pub IsAccepted : Command → Type 0
+IsAccepted (Frames command) = IsFrameCommand command
+IsAccepted (Info grid) = Unit {0}
+IsAccepted (Try n seed) = (1 ≤ n) × (n ≤ GREATEST_LEVEL)
+IsAccepted (Make w) = AreInBounds w.budget w.spacing
+IsAccepted (Check w) = AreInBounds w.budget w.spacing

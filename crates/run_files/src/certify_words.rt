@@ -1,0 +1,175 @@
+//! The words of `certify make` and `certify check`.
+
+ghost use Rattle.std.specs.Prelude.{◌≡◌, ◌≤◌, ◌^◌, ◌&&◌, IfSome, length, map, string_bytes, codes, bytes_eq, unsigned_abs};
+ghost use Rattle.std.specs.Option.{option_map};
+ghost use Rattle.run_laws.specs.Words.{budget_word, spacing_word, coordinate_word, camera_word, make_command, check_command, command_of};
+ghost use Rattle.run_files.specs.WordView.{command_seen, IsAccepted};
+
+use crate::words::{Command, GREATEST_BUDGET, LEAST_BUDGET, small_number};
+use roam_num::read_signed;
+use view_priority::Camera;
+use wedgie_tree::GREATEST_SPACING;
+
+/// The words of `certify make GRID X Y Z BUDGET SPACING`.
+#[derive(Clone, Copy)]
+pub struct MakeWords<'a> {
+    /// The name of the grid's file.
+    pub grid: &'a str,
+    /// Where the mesh is seen from.
+    pub camera: Camera,
+    /// The greatest number of triangles of the mesh.
+    pub budget: u32,
+    /// The world units of a grid step.
+    pub spacing: u32,
+}
+
+/// The words of `certify check GRID OBJ CERT BUDGET SPACING`.
+#[derive(Clone, Copy)]
+pub struct CheckWords<'a> {
+    /// The name of the grid's file.
+    pub grid: &'a str,
+    /// The name of the mesh's file.
+    pub mesh: &'a str,
+    /// The name of the certificate's file.
+    pub certificate: &'a str,
+    /// The greatest number of triangles of the mesh.
+    pub budget: u32,
+    /// The world units of a grid step.
+    pub spacing: u32,
+}
+
+/// The greatest size of a coordinate of a camera.
+const REACH: u64 = 1 << 30;
+
+/// The command that 7 words or more are: to make a certificate, or to check a mesh by one.
+pub(crate) fn certify_in(words: &[String]) -> Option<Command<'_>>
+    requires many { 7 ≤ length words.now }
+    ensures value { option_map command_seen result ≡ command_of (map string_bytes words.now) }
+    ensures accepted { IfSome result IsAccepted }
+{
+    if words.len() == 7 {
+        check_words(words)
+    } else {
+        make_words(words)
+    }
+}
+
+/// The command that 7 words are.
+fn check_words(words: &[String]) -> Option<Command<'_>>
+    requires seven { length words.now ≡ 7 }
+    ensures value { option_map command_seen result ≡ command_of (map string_bytes words.now) }
+    ensures accepted { IfSome result IsAccepted }
+{
+    match words {
+        [first, task, grid, mesh, certificate, budget, spacing] => {
+            if !is_task(first.as_str(), task.as_str(), "check") {
+                return None;
+            }
+            check_in(
+                grid.as_str(),
+                mesh.as_str(),
+                certificate.as_str(),
+                budget.as_str(),
+                spacing.as_str(),
+            )
+        }
+        _ => None,
+    }
+}
+
+/// The command that 8 words or more are.
+fn make_words(words: &[String]) -> Option<Command<'_>>
+    requires many { 8 ≤ length words.now }
+    ensures value { option_map command_seen result ≡ command_of (map string_bytes words.now) }
+    ensures accepted { IfSome result IsAccepted }
+{
+    match words {
+        [first, task, grid, x, y, z, budget, spacing] => {
+            if !is_task(first.as_str(), task.as_str(), "make") {
+                return None;
+            }
+            make_in(
+                grid.as_str(),
+                x.as_str(),
+                y.as_str(),
+                z.as_str(),
+                budget.as_str(),
+                spacing.as_str(),
+            )
+        }
+        _ => None,
+    }
+}
+
+/// Whether the first two words are `certify` and this one.
+fn is_task(first: &str, task: &str, name: &str) -> bool
+    ensures { result ≡ (bytes_eq first.now (codes "certify") && bytes_eq task.now name.now) }
+{
+    first == "certify" && task == name
+}
+
+/// A certificate is made, if coordinates, budget and spacing are numbers within their bounds.
+fn make_in<'a>(
+    grid: &'a str,
+    x: &str,
+    y: &str,
+    z: &str,
+    budget: &str,
+    spacing: &str,
+) -> Option<Command<'a>>
+    ensures value { option_map command_seen result ≡ make_command grid.now
+        (camera_word (coordinate_word x.now) (coordinate_word y.now) (coordinate_word z.now))
+        (budget_word budget.now) (spacing_word spacing.now) }
+    ensures accepted { IfSome result IsAccepted }
+{
+    Some(Command::Make(MakeWords {
+        grid,
+        camera: camera_in(x, y, z)?,
+        budget: small_number(budget, LEAST_BUDGET, GREATEST_BUDGET)?,
+        spacing: small_number(spacing, 1, GREATEST_SPACING)?,
+    }))
+}
+
+/// A mesh is checked by a certificate, if budget and spacing are numbers within their bounds.
+fn check_in<'a>(
+    grid: &'a str,
+    mesh: &'a str,
+    certificate: &'a str,
+    budget: &str,
+    spacing: &str,
+) -> Option<Command<'a>>
+    ensures value { option_map command_seen result ≡
+        check_command grid.now mesh.now certificate.now (budget_word budget.now) (spacing_word spacing.now) }
+    ensures accepted { IfSome result IsAccepted }
+{
+    Some(Command::Check(CheckWords {
+        grid,
+        mesh,
+        certificate,
+        budget: small_number(budget, LEAST_BUDGET, GREATEST_BUDGET)?,
+        spacing: small_number(spacing, 1, GREATEST_SPACING)?,
+    }))
+}
+
+/// The camera of three words, if each is a number within a camera's reach.
+fn camera_in(x: &str, y: &str, z: &str) -> Option<Camera>
+    ensures { result ≡ camera_word (coordinate_word x.now) (coordinate_word y.now) (coordinate_word z.now) }
+{
+    let x = coordinate_in(x)?;
+    let y = coordinate_in(y)?;
+    let z = coordinate_in(z)?;
+    Camera::new(x, y, z)
+}
+
+/// The number of a word, if it is within a camera's reach.
+fn coordinate_in(word: &str) -> Option<i64>
+    ensures value { result ≡ coordinate_word word.now }
+    ensures within { IfSome result (λ v. unsigned_abs v ≤ 2 ^ 30) }
+{
+    let value = read_signed(word.as_bytes())?;
+    if value.unsigned_abs() <= REACH {
+        Some(value)
+    } else {
+        None
+    }
+}

@@ -1,0 +1,21 @@
+//! What makes the frames of a script, and how they are shown.
+
+/// How the frames of an engine are shown.
+#[derive(Clone, Copy)]
+pub enum Showing<'a> {
+    /// As meshes, whose names begin with this prefix.
+    Meshes(&'a str),
+    /// As the strips of these meshes, whose names begin with this prefix.
+    Strips(&'a str),
+    /// By how far the meshes are from the surface, without a mesh.
+    Measures,
+}
+
+/// What makes the frames of a script.
+#[derive(Clone, Copy)]
+pub enum Making<'a> {
+    /// An engine, whose frames are shown so.
+    ByEngine(Showing<'a>),
+    /// The least meshes of a tolerance, whose names begin with the prefix.
+    ByTolerance { prefix: &'a str, tolerance: u64 },
+}

@@ -1,0 +1,203 @@
+//! The words of a command line.
+
+ghost use Rattle.std.specs.Prelude.{◌≡◌, ◌≤◌, if◌then◌else◌, true, map, string_bytes, IfSome, ◌<◌, ◌&&◌, ◌==◌, length};
+ghost use Rattle.std.specs.Option.{option_map};
+ghost use Rattle.run_laws.specs.Words.{command_of, frames_command, least_budget, greatest_budget, least_command, meshes_command, number_word, spacing_word, tolerance_word};
+ghost use Rattle.run_laws.specs.Words.{is_prefix as is_prefix_seen};
+ghost use Rattle.run_files.specs.ShowView.{IsPrefixLength};
+ghost use Rattle.run_files.specs.WordView.{command_seen, show_for, IsMaking, IsAccepted};
+
+use crate::certify_words::{CheckWords, MakeWords, certify_in};
+use crate::showing::{Making, Showing};
+use mesh_defs::GREATEST_LEVEL;
+use roam_edge::LONGEST_PREFIX;
+use roam_num::read_dec;
+use wedgie_tree::GREATEST_SPACING;
+
+/// A command.
+#[derive(Clone, Copy)]
+pub enum Command<'a> {
+    /// The frames of a script: `mesh GRID SCRIPT PREFIX BUDGET SPACING`, `strip GRID SCRIPT PREFIX BUDGET SPACING` and
+    /// `least GRID SCRIPT PREFIX TOLERANCE SPACING`, a mesh for each; `measure GRID SCRIPT BUDGET SPACING`, a line for each.
+    Frames(FrameWords<'a>),
+    /// `info GRID`: a line on the grid.
+    Info(&'a str),
+    /// `try N SEED`: the sums of a generated run.
+    Try { n: u32, seed: u32 },
+    /// `certify make GRID X Y Z BUDGET SPACING`: a certificate of the best mesh.
+    Make(MakeWords<'a>),
+    /// `certify check GRID OBJ CERT BUDGET SPACING`: whether a certificate is sound, and a mesh the one that it is of.
+    Check(CheckWords<'a>),
+}
+
+/// The words of a command that makes the frames of a script.
+#[derive(Clone, Copy)]
+pub struct FrameWords<'a> {
+    /// The name of the grid's file.
+    pub grid: &'a str,
+    /// The name of the script's file.
+    pub script: &'a str,
+    /// What makes the frames, and how they are shown.
+    pub making: Making<'a>,
+    /// The greatest budget that the script may put in force.
+    pub budget: u32,
+    /// The world units of a grid step.
+    pub spacing: u32,
+}
+
+/// The least budget: the two base triangles.
+pub(crate) const LEAST_BUDGET: u32 = 2;
+
+/// The greatest budget.
+pub(crate) const GREATEST_BUDGET: u32 = 1 << 20;
+
+/// The greatest tolerance.
+const GREATEST_TOLERANCE: u64 = 999_999_999_999;
+
+/// The greatest seed.
+const GREATEST_SEED: u32 = u32::MAX;
+
+/// The command that the words are, or None of other words.
+pub fn command_in(words: &[String]) -> Option<Command<'_>>
+    ensures value { option_map command_seen result ≡ command_of (map string_bytes words.now) }
+    ensures accepted { IfSome result IsAccepted }
+{
+    if words.len() < 7 {
+        short_command_in(words)
+    } else {
+        certify_in(words)
+    }
+}
+
+/// The command that fewer than 7 words are.
+fn short_command_in(words: &[String]) -> Option<Command<'_>>
+    requires few { length words.now < 7 }
+    ensures value { option_map command_seen result ≡ command_of (map string_bytes words.now) }
+    ensures accepted { IfSome result IsAccepted }
+{
+    match words {
+        [word, grid] if word.as_str() == "info" => Some(Command::Info(grid.as_str())),
+        [word, n, seed] if word.as_str() == "try" => Some(Command::Try {
+            n: small_number(n.as_str(), 1, GREATEST_LEVEL)?,
+            seed: small_number(seed.as_str(), 0, GREATEST_SEED)?,
+        }),
+        [word, grid, script, budget, spacing] if word.as_str() == "measure" => frames_in(
+            grid.as_str(),
+            script.as_str(),
+            Making::ByEngine(Showing::Measures),
+            small_number(budget.as_str(), LEAST_BUDGET, GREATEST_BUDGET),
+            spacing.as_str(),
+        ),
+        [word, grid, script, prefix, number, spacing] => meshes_in(
+            word.as_str(),
+            grid.as_str(),
+            script.as_str(),
+            prefix.as_str(),
+            number.as_str(),
+            spacing.as_str(),
+        ),
+        _ => None,
+    }
+}
+
+/// Whether the names of meshes may begin so: it has at least 1 byte, and no more than a mesh sink takes.
+fn is_prefix(prefix: &str) -> bool
+    ensures value { result ≡ is_prefix_seen prefix.now }
+    ensures accepted { result ≡ true → IsPrefixLength prefix.now }
+{
+    1 <= prefix.len() && prefix.len() <= LONGEST_PREFIX
+}
+
+/// The command with this word that writes a mesh for each frame, or None of another word, or of a prefix that is empty or too
+/// long.
+fn meshes_in<'a>(
+    word: &str,
+    grid: &'a str,
+    script: &'a str,
+    prefix: &'a str,
+    number: &str,
+    spacing: &str,
+) -> Option<Command<'a>>
+    ensures value { option_map command_seen result ≡ (if is_prefix_seen prefix.now
+        then meshes_command word.now grid.now script.now prefix.now number.now spacing.now else None) }
+    ensures accepted { IfSome result IsAccepted }
+{
+    if !is_prefix(prefix) {
+        return None;
+    }
+    let making = if word == "mesh" {
+        Making::ByEngine(Showing::Meshes(prefix))
+    } else if word == "strip" {
+        Making::ByEngine(Showing::Strips(prefix))
+    } else if word == "least" {
+        return least_in(grid, script, prefix, number, spacing);
+    } else {
+        return None;
+    };
+    let budget = small_number(number, LEAST_BUDGET, GREATEST_BUDGET);
+    frames_in(grid, script, making, budget, spacing)
+}
+
+/// The least meshes of a tolerance, if it and the spacing are numbers within their bounds. A script may put each budget in force
+/// that there is.
+fn least_in<'a>(
+    grid: &'a str,
+    script: &'a str,
+    prefix: &'a str,
+    tolerance: &str,
+    spacing: &str,
+) -> Option<Command<'a>>
+    requires { IsPrefixLength prefix.now }
+    ensures value { option_map command_seen result ≡
+        least_command grid.now script.now prefix.now (tolerance_word tolerance.now) (spacing_word spacing.now) }
+    ensures accepted { IfSome result IsAccepted }
+{
+    let tolerance = number_in_word(tolerance, 0, GREATEST_TOLERANCE)?;
+    let making = Making::ByTolerance { prefix, tolerance };
+    frames_in(grid, script, making, Some(GREATEST_BUDGET), spacing)
+}
+
+/// The frames of a script, if there is a budget and the spacing is a number within its bounds.
+fn frames_in<'a>(
+    grid: &'a str,
+    script: &'a str,
+    making: Making<'a>,
+    budget: Option<u32>,
+    spacing: &str,
+) -> Option<Command<'a>>
+    requires making { IsMaking making }
+    requires budget { IfSome budget (λ number. (least_budget ≤ number) × (number ≤ greatest_budget)) }
+    ensures value { option_map command_seen result ≡
+        frames_command grid.now script.now (show_for making.entry) budget (spacing_word spacing.now) }
+    ensures accepted { IfSome result IsAccepted }
+{
+    Some(Command::Frames(FrameWords {
+        grid,
+        script,
+        making,
+        budget: budget?,
+        spacing: small_number(spacing, 1, GREATEST_SPACING)?,
+    }))
+}
+
+/// The number of a word of 1 to 19 digits, if it lies within these bounds of 32 bits.
+pub(crate) fn small_number(word: &str, low: u32, high: u32) -> Option<u32>
+    ensures value { result ≡ number_word low high word.now }
+    ensures within { IfSome result (λ number. (low ≤ number) × (number ≤ high)) }
+{
+    let number = number_in_word(word, u64::from(low), u64::from(high))?;
+    Some(number as u32)
+}
+
+/// The number of a word of 1 to 19 digits, if it lies within these bounds.
+fn number_in_word(word: &str, low: u64, high: u64) -> Option<u64>
+    ensures value { result ≡ number_word low high word.now }
+    ensures within { IfSome result (λ number. (low ≤ number) × (number ≤ high)) }
+{
+    let number = read_dec(word.as_bytes())?;
+    if low <= number && number <= high {
+        Some(number)
+    } else {
+        None
+    }
+}

@@ -1,0 +1,64 @@
+-- What a frame shows: its mesh and its line, written or cut short; and a line that makes no frame shows nothing.
+use Rattle.std.proofs.Common.{◌≡◌, ◌≢◌, ℕ, true, List, [], ◌∷◌, ◌++◌, Option, Some, refl, subst}
+use Rattle.mesh_defs.specs.State.{State}
+use Rattle.roam_edge.specs.MeshSink.{Mesh}
+use Rattle.roam_edge.specs.Told.{IsPrefix}
+use Rattle.obj_write.specs.Written.{mesh_with, Grows, IsPartOfMesh}
+use Rattle.roam_script.specs.declared.line.Line.{Line}
+use Rattle.roam_script.specs.declared.line.Line.TheVariants.{Blank, Camera, Set, Plane, NoPlanes, Budget, Raise, Frame}
+use Rattle.run_laws.specs.Walk.{shown_by}
+use Rattle.run_laws.specs.Act.{Act, ReportText, WholeMesh, told, Stands, IsCutShort}
+use Rattle.run_laws.proofs.ActLemmas.{cut-mesh, cut-line, cut-only-line, stands-text}
+
+-- a line that is no frame line shows nothing
+pub shown_by-none : (line : Line) (state : State) → line ≢ Frame → shown_by line state ≡ []
+shown_by-none Blank state other = refl
+shown_by-none (Camera x y z) state other = refl
+shown_by-none (Set x y h) state other = refl
+shown_by-none Frame state other = absurd (other refl)
+shown_by-none (Plane a b c d) state other = refl
+shown_by-none NoPlanes state other = refl
+shown_by-none (Budget n) state other = refl
+shown_by-none (Raise a b c d e) state other = refl
+
+module _ (meshes meshes' : Option (List Mesh)) (report report' : Option (List ℕ)) (prefix : List ℕ) (number count : ℕ) (bytes line text words : List ℕ)
+    (same : count ≡ number) (is : text ≡ bytes) (says : words ≡ line) where
+  abbrev acts : List Act
+  acts = WholeMesh prefix number bytes ∷ (ReportText line ∷ [])
+
+  -- the mesh was cut short
+  pub cut-acts-mesh : ((all : List Mesh) → meshes ≡ Some all → (part : List Mesh) × IsPartOfMesh prefix count text part × (meshes' ≡ Some (all ++ part)))
+      → IsCutShort (told meshes report) (told meshes' report) acts
+  cut-acts-mesh part =
+      let P : List ℕ → Type 0 = λ t. (all : List Mesh) → meshes ≡ Some all → (cut : List Mesh) × IsPartOfMesh prefix number t cut × (meshes' ≡ Some (all ++ cut)) in
+      let Q : ℕ → Type 0 = λ k. (all : List Mesh) → meshes ≡ Some all → (cut : List Mesh) × IsPartOfMesh prefix k text cut × (meshes' ≡ Some (all ++ cut)) in
+      cut-mesh meshes meshes' report prefix number bytes (ReportText line ∷ []) (subst P is (subst Q same part))
+
+  module _ (whole : Grows meshes meshes' (mesh_with prefix count text true ∷ [])) where
+    grown : Grows meshes meshes' (mesh_with prefix number bytes true ∷ [])
+    grown =
+        let P : List ℕ → Type 0 = λ t. Grows meshes meshes' (mesh_with prefix number t true ∷ []) in
+        let Q : ℕ → Type 0 = λ k. Grows meshes meshes' (mesh_with prefix k text true ∷ []) in
+        subst P is (subst Q same whole)
+
+    -- the line was cut short
+    pub cut-acts-line : ((all : List ℕ) → report ≡ Some all → (front : List ℕ) × IsPrefix front words × (report' ≡ Some (all ++ front)))
+        → IsCutShort (told meshes report) (told meshes' report') acts
+    cut-acts-line part =
+        let P : List ℕ → Type 0 = λ t. (all : List ℕ) → report ≡ Some all → (front : List ℕ) × IsPrefix front t × (report' ≡ Some (all ++ front)) in
+        cut-line meshes meshes' report report' prefix number bytes line grown (subst P says part)
+
+    -- both were written
+    pub stands-acts : ((all : List ℕ) → report ≡ Some all → report' ≡ Some (all ++ words)) → Stands (told meshes report) (told meshes' report') acts
+    stands-acts came =
+        let P : List ℕ → Type 0 = λ t. (all : List ℕ) → report ≡ Some all → report' ≡ Some (all ++ t) in
+        let text_came = stands-text meshes' report report' line (subst P says came) in
+        record { meshes_grow = grown; report_grows = text_came.report_grows }
+
+-- one line, cut short
+module _ (meshes : Option (List Mesh)) (report report' : Option (List ℕ)) (line words : List ℕ) (says : words ≡ line) where
+  pub cut-words : ((all : List ℕ) → report ≡ Some all → (front : List ℕ) × IsPrefix front words × (report' ≡ Some (all ++ front)))
+      → IsCutShort (told meshes report) (told meshes report') (ReportText line ∷ [])
+  cut-words part =
+      let P : List ℕ → Type 0 = λ t. (all : List ℕ) → report ≡ Some all → (front : List ℕ) × IsPrefix front t × (report' ≡ Some (all ++ front)) in
+      cut-only-line meshes report report' line [] (subst P says part)

@@ -1,0 +1,8 @@
+use Rattle.run_script.proofs.LeastLemmas.{least-takes}
+use Rattle.run_script.proofs.least_frames.LeastFramesFrameMaker.take_frame.Goals as goal
+
+pub returns-clause-outcome : goal.returns-clause-outcome
+returns-clause-outcome g c show walk pictures follows =
+    let made = c.make_mesh-note.ensures in
+    least-takes c.args.self.now c.make_mesh-note.new.self made.prefix made.tolerance made.state made.most made.frames _ _ c.make_mesh-note.result c.show.result
+    made.list made.worst made.noted c.show.ensures.ok c.show.ensures.err show walk pictures follows

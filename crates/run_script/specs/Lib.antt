@@ -1,0 +1,3 @@
+pub mod LeastSeen
+pub mod StageView
+pub mod Taking
