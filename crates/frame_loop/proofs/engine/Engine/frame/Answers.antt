@@ -1,4 +1,5 @@
-use Rattle.std.proofs.Common.{◌≡◌, ℕ, ◌*◌, ◌≤◌, All, length, take, drop, refl, sym, ◌∙◌, ap, subst}
+use Rattle.std.proofs.lemmas.Grind.{common_steps}
+use Rattle.std.proofs.Common.{◌≡◌, ℕ, ◌*◌, ◌≤◌, All, length, take, drop, refl, sym, ◌∙◌, ap, subst, arith}
 use Rattle.mesh_defs.specs.Triangle.{level_of}
 use Rattle.mesh_defs.specs.declared.mark.Mark.TheVariants.{Inside, Cut, Outside}
 use Rattle.mesh_defs.specs.ClosedSet.{leaves_of, among}
@@ -81,3 +82,12 @@ returns-clause-kept c = c.advance_mesh-steps.ensures.kept
 
 pub returns-clause-only : goal.returns-clause-only
 returns-clause-only c = c.advance_mesh-steps.ensures.only
+
+pub slice_bounds-count_marks-end : goal.slice_bounds-count_marks-end
+slice_bounds-count_marks-end c = grind (arith, common_steps)
+
+pub count_marks-marks-requires-clause-short : goal.count_marks-marks-requires-clause-short
+count_marks-marks-requires-clause-short c = grind (arith, common_steps)
+
+pub invariant_of-self : goal.invariant_of-self
+invariant_of-self c = grind (arith, common_steps)
