@@ -1,62 +1,107 @@
 //! Deadlines: orders of calls worked by hand.
 
+ghost use Rattle.std.specs.Prelude.{◌≡◌, length};
+
 use bintree_addr::Slot;
 use lazy_priority::Lazy;
 use std::alloc::Global;
 
-/// What is due where the slot 0 is stamped for 2 units from 10 on.
-fn one_deadline(alloc: Global) -> Option<[Option<Slot>; 3]> {
-    let mut lazy = Lazy::new(alloc, 1).ok()?;
-    lazy.stamp(Slot(0), 10, 2);
-    Some([lazy.due(12), lazy.due(13), lazy.due(13)])
+/// A call of the deadlines of three slots.
+#[derive(Clone, Copy)]
+enum Call {
+    /// Of this slot, at this odometer, for so many units.
+    Stamp(u32, u64, u64),
+    /// Of this slot.
+    Expire(u32),
+    /// Of this slot.
+    Forget(u32),
+    /// At this odometer: this slot is due, or none.
+    Due(u64, Option<u32>),
 }
 
-/// What is due where of three slots 0 and 1 are stamped, 1 twice; 0 and 2 are expired after the first answer, and 1 and 2 are
-/// forgotten before the last one.
-fn expired_and_forgotten(alloc: Global) -> Option<[Option<Slot>; 4]> {
+/// Whether the call can be made, and answers as it says.
+fn goes(lazy: &mut Lazy, call: Call) -> bool
+    requires { length lazy.old ≡ 3 }
+    ensures { length lazy.new ≡ 3 }
+{
+    match call {
+        Call::Stamp(slot, odometer, slack) => {
+            if slot >= 3 || odometer > 1 << 62 || slack > 1 << 32 {
+                return false;
+            }
+            lazy.stamp(Slot(slot), odometer, slack);
+            true
+        }
+        Call::Expire(slot) => {
+            lazy.expire(Slot(slot));
+            true
+        }
+        Call::Forget(slot) => {
+            lazy.forget(Slot(slot));
+            true
+        }
+        Call::Due(odometer, slot) => lazy.due(odometer) == slot.map(Slot),
+    }
+}
+
+/// How many of the calls go as they say, before the first that does not.
+fn calls_that_go(alloc: Global, calls: &[Call]) -> Option<usize> {
     let mut lazy = Lazy::new(alloc, 3).ok()?;
-    lazy.stamp(Slot(0), 0, 0);
-    lazy.stamp(Slot(1), 4, 3);
-    lazy.stamp(Slot(1), 5, 3);
-    let at_0 = lazy.due(0);
-    lazy.expire(Slot(0));
-    lazy.expire(Slot(2));
-    let expired = lazy.due(0);
-    let at_8 = lazy.due(8);
-    lazy.forget(Slot(1));
-    lazy.forget(Slot(2));
-    Some([at_0, expired, at_8, lazy.due(9)])
-}
-
-/// What is due where a slot that was forgotten is stamped again.
-fn stamped_again(alloc: Global) -> Option<[Option<Slot>; 5]> {
-    let mut lazy = Lazy::new(alloc, 2).ok()?;
-    lazy.stamp(Slot(0), 0, 2);
-    lazy.stamp(Slot(1), 1, 2);
-    lazy.forget(Slot(0));
-    lazy.expire(Slot(0));
-    let at_4 = lazy.due(4);
-    let once = lazy.due(4);
-    lazy.stamp(Slot(0), 4, 1);
-    lazy.stamp(Slot(1), 3, 1);
-    lazy.forget(Slot(1));
-    lazy.stamp(Slot(1), 9, 1);
-    Some([at_4, once, lazy.due(5), lazy.due(6), lazy.due(10)])
+    let mut count = 0usize;
+    for call in calls {
+        if !goes(&mut lazy, *call) {
+            break;
+        }
+        count = count.saturating_add(1);
+    }
+    Some(count)
 }
 
 #[test]
 fn a_slot_is_due_once_and_only_past_its_deadline(rt: HostRuntime) {
-    assert_eq!(rt; one_deadline(rt.alloc()), Some([None, Some(Slot(0)), None]));
+    let calls = [
+        Call::Stamp(0, 10, 2),
+        Call::Due(12, None),
+        Call::Due(13, Some(0)),
+        Call::Due(13, None),
+    ];
+    assert_eq!(rt; calls_that_go(rt.alloc(), &calls), Some(4));
 }
 
 #[test]
 fn an_expired_slot_is_due_at_once_and_a_forgotten_one_never(rt: HostRuntime) {
-    let due = [None, Some(Slot(0)), None, None];
-    assert_eq!(rt; expired_and_forgotten(rt.alloc()), Some(due));
+    let calls = [
+        Call::Stamp(0, 0, 0),
+        Call::Stamp(1, 4, 3),
+        Call::Stamp(1, 5, 3),
+        Call::Due(0, None),
+        Call::Expire(0),
+        Call::Expire(2),
+        Call::Due(0, Some(0)),
+        Call::Due(8, None),
+        Call::Forget(1),
+        Call::Forget(2),
+        Call::Due(9, None),
+    ];
+    assert_eq!(rt; calls_that_go(rt.alloc(), &calls), Some(11));
 }
 
 #[test]
 fn a_forgotten_slot_can_have_another_deadline(rt: HostRuntime) {
-    let due = [Some(Slot(1)), None, None, Some(Slot(0)), None];
-    assert_eq!(rt; stamped_again(rt.alloc()), Some(due));
+    let calls = [
+        Call::Stamp(0, 0, 2),
+        Call::Stamp(1, 1, 2),
+        Call::Forget(0),
+        Call::Expire(0),
+        Call::Due(4, Some(1)),
+        Call::Due(4, None),
+        Call::Stamp(0, 4, 1),
+        Call::Stamp(1, 3, 1),
+        Call::Forget(1),
+        Call::Stamp(1, 9, 1),
+        Call::Due(5, None),
+        Call::Due(6, Some(0)),
+        Call::Due(10, None),
+    ];
+    assert_eq!(rt; calls_that_go(rt.alloc(), &calls), Some(13));
 }

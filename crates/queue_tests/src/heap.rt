@@ -3,36 +3,26 @@
 ghost use Rattle.std.specs.Prelude.{◌≡◌, ◌<◌, length};
 
 use bintree_addr::{Rank, Slot, Tri};
-use slot_heap::SlotHeap;
+use slot_heap::{NoMemory, SlotHeap};
 use std::alloc::Global;
 use std::cmp::Reverse;
 
-/// What the head of a heap of two slots is, and what a slot without a key and one with another key then tell.
-type Told = (
-    Option<(Slot, u64)>,
-    u64,
-    Option<(Slot, u64)>,
-    Option<u64>,
-    Option<u64>,
-);
-
-/// Puts 5 and 3, takes the least, and gives the other one the key 9.
-fn heap_of_two_slots(alloc: Global) -> Option<Told> {
+/// Puts 5 and 3, takes the least, and gives the other one the key 9: whether each answer is right.
+fn heap_of_two_slots(alloc: Global) -> Option<[bool; 5]> {
     let mut heap: SlotHeap<u64> = SlotHeap::new(alloc, 2).ok()?;
     heap.put(Slot(0), 5);
     heap.put(Slot(1), 3);
-    let first = heap.head();
-    let taken = heap.take(Slot(1));
-    let second = heap.head();
-    let none = heap.key(Slot(1));
+    let first = heap.head() == Some((Slot(1), 3));
+    let taken = heap.take(Slot(1)) == 3;
+    let second = heap.head() == Some((Slot(0), 5));
+    let none = heap.key(Slot(1)).is_none();
     heap.rekey(Slot(0), 9);
-    Some((first, taken, second, none, heap.key(Slot(0))))
+    Some([first, taken, second, none, heap.key(Slot(0)) == Some(9)])
 }
 
 #[test]
 fn heap_of_two_slots_gives_the_least_key(rt: HostRuntime) {
-    let told = (Some((Slot(1), 3)), 3, Some((Slot(0), 5)), None, Some(9));
-    assert_eq!(rt; heap_of_two_slots(rt.alloc()), Some(told));
+    assert_eq!(rt; heap_of_two_slots(rt.alloc()), Some([true; 5]));
 }
 
 /// How many slots the heaps of the random calls have.
@@ -44,19 +34,19 @@ fn next(random: u32) -> u32 {
 }
 
 /// How many random calls a heap takes before it differs from a list; a call for each key.
-fn calls_that_agree<K: Copy + Ord>(alloc: Global, keys: &[K]) -> Option<usize> {
-    let mut heap: SlotHeap<K> = SlotHeap::new(alloc, SLOTS).ok()?;
-    let mut list: Vec<Option<K>> = vec![in alloc; None; SLOTS as usize].ok()?;
+fn calls_that_agree<K: Copy + Ord>(alloc: Global, keys: &[K]) -> Result<usize, NoMemory> {
+    let mut heap: SlotHeap<K> = SlotHeap::new(alloc, SLOTS)?;
+    let mut list: Vec<Option<K>> = vec![in alloc; None; SLOTS as usize]?;
     let mut random = 1u32;
     for (place, key) in keys.iter().enumerate() {
         random = next(random);
         let slot = Slot((random >> 8) % SLOTS);
         call(&mut heap, &mut list, slot, *key, random >> 31 == 0);
         if !agrees(&heap, &list) {
-            return Some(place);
+            return Ok(place);
         }
     }
-    Some(keys.len())
+    Ok(keys.len())
 }
 
 /// Puts where the slot has no key, and else rekeys or takes, in the heap and in the list.
@@ -141,9 +131,9 @@ fn agreements(alloc: Global) -> Option<[usize; 3]> {
         turned.push(Reverse(*rank)).ok()?;
     }
     Some([
-        calls_that_agree(alloc, priorities.as_slice())?,
-        calls_that_agree(alloc, ranks.as_slice())?,
-        calls_that_agree(alloc, turned.as_slice())?,
+        calls_that_agree(alloc, priorities.as_slice()).ok()?,
+        calls_that_agree(alloc, ranks.as_slice()).ok()?,
+        calls_that_agree(alloc, turned.as_slice()).ok()?,
     ])
 }
 

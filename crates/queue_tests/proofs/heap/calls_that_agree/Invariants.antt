@@ -3,4 +3,4 @@ use Rattle.queue_tests.proofs.heap.calls_that_agree.Given as goal
 
 -- the heap keeps its slots
 abbrev pub invariant-loop-place : goal.invariant-loop-place
-invariant-loop-place l = length l.heap ≡ 40
+invariant-loop-place g l = length l.heap ≡ 40
