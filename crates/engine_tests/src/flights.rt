@@ -40,12 +40,14 @@ fn a_flight_tells_of_each_frame(rt: HostRuntime) {
 
 /// What is seen where the first peak is cut off after a frame.
 fn cut_off(alloc: Global) -> Option<Told> {
-    let mut engine = Engine::make(alloc, grid_with(alloc, 2, &TWO_PEAKS)?, 9, 1).ok()?;
-    frame(&mut engine)?;
-    look(&mut engine)
+    let grid = grid_with(alloc, 2, &TWO_PEAKS)?;
+    let mut engine = Engine::make(alloc, grid, 9, 1).ok()?;
+    frame_and_look(&mut engine)
 }
 
-fn look(engine: &mut Engine) -> Option<Told> {
+/// What is seen where the height at (1, 0) is 0 after a frame.
+fn frame_and_look(engine: &mut Engine) -> Option<Told> {
+    frame(engine)?;
     if engine.grid().side() < 2 || engine.frames() >= 1000000 {
         return None;
     }
@@ -76,14 +78,20 @@ fn sums_after(engine: &mut Engine, line: Line, sums: Sums) -> Option<Sums> {
     Some((triangles, sums.1.max(note.worst), blocked))
 }
 
-/// The sums of the generated run of level 9 and seed 1, at spacing 30.
-fn generated_run(alloc: Global) -> Option<Sums> {
-    let mut engine = Engine::make(alloc, gen_grid(alloc, 9, 1).ok()?, 20000, 30).ok()?;
+/// The sums of the generated script of level 9 and seed 1.
+fn sums_of_all(engine: &mut Engine) -> Option<Sums> {
     let mut sums = (0, 0, 0);
     for i in 1..106 {
-        sums = sums_after(&mut engine, gen_line(9, 1, i), sums)?;
+        sums = sums_after(engine, gen_line(9, 1, i), sums)?;
     }
     Some(sums)
+}
+
+/// The sums of the generated run of level 9 and seed 1, at spacing 30.
+fn generated_run(alloc: Global) -> Option<Sums> {
+    let grid = gen_grid(alloc, 9, 1).ok()?;
+    let mut engine = Engine::make(alloc, grid, 20000, 30).ok()?;
+    sums_of_all(&mut engine)
 }
 
 #[test]

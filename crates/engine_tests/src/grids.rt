@@ -22,9 +22,10 @@ pub fn grid_with(alloc: Global, n: u32, peaks: &[Peak]) -> Option<Grid> {
 
 /// Puts a height, if the grid has that point.
 fn put(grid: &mut Grid, x: u32, y: u32, h: u16) -> bool {
-    let there = (x as usize) < grid.side() && (y as usize) < grid.side() && h <= grid.maxval();
-    if there {
-        grid.put(x, y, h);
+    let side = grid.side();
+    if x as usize >= side || y as usize >= side || h > grid.maxval() {
+        return false;
     }
-    there
+    grid.put(x, y, h);
+    true
 }

@@ -8,6 +8,7 @@ ghost use Rattle.frame_steps.specs.Stamps.{Stamp};
 ghost use Rattle.roam_mesh.specs.Mesh.{stamp_of};
 
 use bintree_addr::{Rank, Slot, Tri};
+use frame_loop::NoMemory;
 use roam_mesh::{Gauge, Mesh, Reading, Steps};
 use std::alloc::Global;
 use std::process::Abort;
@@ -130,12 +131,18 @@ struct Run {
 }
 
 impl Run {
-    fn new(alloc: Global, n: u32, most: u32, lower: Vec<u64>, upper: Vec<u64>) -> Option<Run> {
-        if n < 1 || n > 11 || most < 2 || most > 1 << 20 {
-            return None;
-        }
-        Some(Run {
-            mesh: Mesh::make(alloc, n, most).ok()?,
+    fn new(
+        alloc: Global,
+        n: u32,
+        most: u32,
+        lower: Vec<u64>,
+        upper: Vec<u64>,
+    ) -> Result<Run, NoMemory>
+        requires n { (1 ≤ n) × (n ≤ 11) }
+        requires most { (2 ≤ most) × (most ≤ 2 ^ 20) }
+    {
+        Ok(Run {
+            mesh: Mesh::make(alloc, n, most)?,
             lower,
             upper,
             since: 0,
@@ -253,9 +260,12 @@ fn spread(alloc: Global, runs: &[Equal]) -> Option<Vec<u64>> {
 
 /// A run whose priorities are between these lists.
 fn run_between(alloc: Global, n: u32, most: u32, lower: &[Equal], upper: &[Equal]) -> Option<Run> {
+    if n < 1 || n > 11 || most < 2 || most > 1 << 20 {
+        return None;
+    }
     let lower = spread(alloc, lower)?;
     let upper = spread(alloc, upper)?;
-    Run::new(alloc, n, most, lower, upper)
+    Run::new(alloc, n, most, lower, upper).ok()
 }
 
 /// Goes on past all stamps with priorities that are known.
