@@ -1,57 +1,29 @@
 -- The sums of areas: how great they are, what they weigh, and the plane height by its parts.
-use Rattle.std.proofs.Common.{◌≡◌, ℕ, ◌-◌, ◌*◌, ◌/◌, ◌^◌, ◌<◌, ◌≤◌, List, refl, sym, ◌∙◌, ap, ap₂, subst, arith, mul-le-mul_left, pow_mono}
+use Rattle.std.proofs.Common.{◌≡◌, ℕ, ◌-◌, ◌*◌, ◌/◌, ◌^◌, ◌<◌, ◌≤◌, List, refl, ◌∙◌, ap, ap₂, arith, mul-le-mul_left, pow_mono}
 use Rattle.std.proofs.Math.Nat.{div-le_self}
 use Rattle.mesh_defs.specs.declared.point.Point.{Point}
 use Rattle.mesh_defs.specs.declared.point.Corners.{Corners}
 use Rattle.mesh_defs.specs.Triangle.{level_of, corners_of}
 use Rattle.mesh_defs.specs.Thickness.{height_of}
 use Rattle.mesh_defs.specs.BoundingBox.{point}
-use Rattle.bintree_laws.specs.Corners.{IsWithin, IsInSquare}
+use Rattle.bintree_laws.specs.Corners.{IsInSquare}
 use Rattle.tiling_laws.proofs.DescentLemmas.{IsAddress-level}
 use Rattle.deviation_laws.specs.PlaneHeight.{doubled_area, area_of, weighted, plane_height}
 use Rattle.deviation_laws.proofs.PlaneLemmas.{area_of-some}
 use Rattle.mesh_measure.specs.declared.areas.Across.{Across}
 use Rattle.mesh_measure.specs.declared.areas.Areas.{Areas}
 use Rattle.mesh_measure.specs.declared.shape.Facet.{Facet}
-use Rattle.mesh_measure.specs.Areas.{high_across, low_across, IsAcross, AreAcross, AreSmall, sum_of_weighted}
+use Rattle.mesh_measure.specs.Areas.{IsAcross, AreAcross, sum_of_weighted}
 use Rattle.mesh_measure.specs.Facet.{IsFacet}
 
 -- ---- bounds
 
-product : (i j k l : ℕ) → i ≤ k → j ≤ l → i * j ≤ k * l
+-- products keep the order
+pub product : (i j k l : ℕ) → i ≤ k → j ≤ l → i * j ≤ k * l
 product i j k l le more =
     let first : i * j ≤ i * l = mul-le-mul_left i more in
     let second : l * i ≤ l * k = mul-le-mul_left l le in
     omega arith
-
-high-small : (r p q : Point) → r.x ≤ 2049 → r.y ≤ 2048 → IsInSquare (2 ^ 11) p → IsInSquare (2 ^ 11) q → high_across r p q ≤ 16777216
-high-small r p q x y in_p in_q =
-    let first : p.x * q.y ≤ 2048 * 2048 = product p.x q.y 2048 2048 in_p.x in_q.y in
-    let second : q.x * r.y ≤ 2048 * 2048 = product q.x r.y 2048 2048 in_q.x y in
-    let third : r.x * p.y ≤ 2049 * 2048 = product r.x p.y 2049 2048 x in_p.y in
-    omega arith
-
-low-small : (r p q : Point) → r.x ≤ 2049 → r.y ≤ 2048 → IsInSquare (2 ^ 11) p → IsInSquare (2 ^ 11) q → low_across r p q ≤ 16777216
-low-small r p q x y in_p in_q =
-    let first : p.y * q.x ≤ 2048 * 2048 = product p.y q.x 2048 2048 in_p.y in_q.x in
-    let second : q.y * r.x ≤ 2048 * 2049 = product q.y r.x 2048 2049 in_q.y x in
-    let third : r.y * p.x ≤ 2048 * 2048 = product r.y p.x 2048 2048 y in_p.x in
-    omega arith
-
--- the sums of a point of a row, or of one column beyond it
-pub AreSmall-across : (c : Corners) (r : Point) (s : Areas) → IsWithin (2 ^ 11) c → r.x ≤ 2049 → r.y ≤ 2048 → AreAcross c r s → AreSmall s
-AreSmall-across c r s w x y a =
-    let apex : IsInSquare (2 ^ 11) c.apex = record { x = w.apex_x; y = w.apex_y } in
-    let v0 : IsInSquare (2 ^ 11) c.v0 = record { x = w.v0_x; y = w.v0_y } in
-    let v1 : IsInSquare (2 ^ 11) c.v1 = record { x = w.v1_x; y = w.v1_y } in
-    record {
-      apex_high = subst (λ k. k ≤ 16777216) (sym a.apex.high) (high-small r c.v0 c.v1 x y v0 v1);
-      apex_low = subst (λ k. k ≤ 16777216) (sym a.apex.low) (low-small r c.v0 c.v1 x y v0 v1);
-      v0_high = subst (λ k. k ≤ 16777216) (sym a.v0.high) (high-small r c.v1 c.apex x y v1 apex);
-      v0_low = subst (λ k. k ≤ 16777216) (sym a.v0.low) (low-small r c.v1 c.apex x y v1 apex);
-      v1_high = subst (λ k. k ≤ 16777216) (sym a.v1.high) (high-small r c.apex c.v0 x y apex v0);
-      v1_low = subst (λ k. k ≤ 16777216) (sym a.v1.low) (low-small r c.apex c.v0 x y apex v0);
-    }
 
 -- a point of the grid lies in the largest square
 pub IsInSquare-largest : (n x y : ℕ) → n ≤ 11 → x ≤ 2 ^ n → y ≤ 2 ^ n → IsInSquare (2 ^ 11) (point x y)

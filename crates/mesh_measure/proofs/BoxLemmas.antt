@@ -1,16 +1,18 @@
--- A held point lies in the box around the corners, so a loop over the box meets all held points.
-use Rattle.std.proofs.Common.{◌≡◌, ℕ, ◌+◌, ◌^◌, ◌≤◌, true, List, sym, subst, arith, ⊎_elim}
+-- A held point lies in the rectangle around the corners, so a loop over its rows meets all held points.
+use Rattle.std.proofs.Common.{◌≡◌, ℕ, ◌^◌, ◌≤◌, true, List, sym, subst, arith, ⊎_elim}
 use Rattle.mesh_defs.specs.declared.point.Point.{Point}
 use Rattle.mesh_defs.specs.declared.point.Corners.{Corners}
 use Rattle.mesh_defs.specs.Triangle.{IsAddress, corners_of}
-use Rattle.mesh_defs.specs.BoundingBox.{points_of, is_in_closed, holds_point, greatest, least_of_3, greatest_of_3}
+use Rattle.mesh_defs.specs.BoundingBox.{points_of, is_in_closed, holds_point, greatest}
 use Rattle.bintree_laws.specs.Areas.{IsInRectangle}
 use Rattle.bintree_laws.specs.Corners.{IsWithin}
 use Rattle.bintree_laws.proofs.CornerLemmas.{IsWithin-corners_of}
 use Rattle.bintree_laws.proofs.WeightLemmas.{IsInRectangle-mean}
 use Rattle.mesh_defs.proofs.PointLemmas.{IsPointIn-points_of, greatest-le, le-greatest}
 use Rattle.deviation_laws.specs.PlaneHeight.{area_of, off_plane, offs_in}
-use Rattle.mesh_measure.specs.Most.{IsMost, IsInRows}
+use Rattle.mesh_measure.specs.declared.shape.Bounds.{Bounds}
+use Rattle.mesh_measure.specs.Facet.{AreBounds}
+use Rattle.mesh_measure.specs.Most.{IsMost, IsInBounds}
 use Rattle.deviation_laws.proofs.PlaneLemmas.{area_of-some, IsMean-held}
 
 -- a held point lies in the bounding rectangle
@@ -18,31 +20,45 @@ IsInRectangle-held : (n a : ℕ) (r : Point) → IsAddress n a → holds_point n
 IsInRectangle-held n a r address held =
     IsInRectangle-mean (area_of (corners_of n a)) (corners_of n a) r _ _ _ (area_of-some n a address) (IsMean-held n a r address held)
 
--- so the greatest value in all rows of the box is that over all held points
-pub greatest-most : (n : ℕ) (heights : List ℕ) (a left right low high most : ℕ) (c : Corners) → IsAddress n a → c ≡ corners_of n a →
-    left ≡ least_of_3 c.apex.x c.v0.x c.v1.x → right ≡ greatest_of_3 c.apex.x c.v0.x c.v1.x →
-    low ≡ least_of_3 c.apex.y c.v0.y c.v1.y → high ≡ greatest_of_3 c.apex.y c.v0.y c.v1.y →
-    IsMost (IsInRows c left (right + 1) low (high + 1)) (off_plane n heights a) most → most ≡ greatest (offs_in n heights a)
-greatest-most n heights a left right low high most c address is l r b t h =
+-- a held point lies within the bounds of the corners
+pub IsInBounds-held : (n a : ℕ) (c : Corners) (bounds : Bounds) (r : Point) → IsAddress n a → c ≡ corners_of n a → AreBounds c bounds →
+    is_in_closed c r ≡ true → IsInBounds c bounds r
+IsInBounds-held n a c bounds r address is b held =
+    let box = subst (λ d. IsInRectangle d r) (sym is)
+    (IsInRectangle-held n a r address (subst (λ d. is_in_closed d r ≡ true) is held)) in
+    record {
+      held = held;
+      left = let k = box.left in let e = b.left in omega arith;
+      right = let k = box.right in let e = b.right in omega arith;
+      low = let k = box.bottom in let e = b.low in omega arith;
+      high = let k = box.top in let e = b.high in omega arith;
+    }
+
+-- and in the grid
+in_grid-held : (n a : ℕ) (r : Point) → IsAddress n a → holds_point n a r ≡ true → (r.x ≤ 2 ^ n) × (r.y ≤ 2 ^ n)
+in_grid-held n a r address held =
+    let w : IsWithin (2 ^ n) (corners_of n a) = IsWithin-corners_of n a in
+    let box = IsInRectangle-held n a r address held in
+    (let k = box.right in omega arith, let k = box.top in omega arith)
+
+-- the value at a held point is among those of the triangle
+pub held-le : (n : ℕ) (heights : List ℕ) (a : ℕ) (r : Point) → IsAddress n a → holds_point n a r ≡ true →
+    off_plane n heights a r ≤ greatest (offs_in n heights a)
+held-le n heights a r address held =
+    let inside = in_grid-held n a r address held in
+    le-greatest (off_plane n heights a) (holds_point n a) r held (points_of n) (IsPointIn-points_of n r inside.0 inside.1)
+
+-- so the greatest value within the bounds is that over all held points
+pub greatest-most : (n : ℕ) (heights : List ℕ) (a : ℕ) (c : Corners) (bounds : Bounds) (most : ℕ) → IsAddress n a → c ≡ corners_of n a →
+    AreBounds c bounds → IsMost (IsInBounds c bounds) (off_plane n heights a) most → most ≡ greatest (offs_in n heights a)
+greatest-most n heights a c bounds most address is b h =
     let f = off_plane n heights a in
     let above : greatest (offs_in n heights a) ≤ most = greatest-le most f (holds_point n a)
-    (λ p held. let box = subst (λ d. IsInRectangle d p) (sym is) (IsInRectangle-held n a p address held) in
-    h.bound p (record {
-      held = subst (λ d. is_in_closed d p ≡ true) (sym is) held;
-      from = let k = box.left in omega arith;
-      before = let k = box.right in omega arith;
-      row_from = let k = box.bottom in omega arith;
-      row_before = let k = box.top in omega arith;
-    })) (points_of n) in
+    (λ p held. h.bound p (IsInBounds-held n a c bounds p address is b (subst (λ d. is_in_closed d p ≡ true) (sym is) held))) (points_of n) in
     let below : most ≤ greatest (offs_in n heights a) = ⊎_elim
     (λ e. omega arith)
-    (λ (s : (r : Point) × IsInRows c left (right + 1) low (high + 1) r × (f r ≡ most)).
-    let w : IsWithin (2 ^ n) (corners_of n a) = IsWithin-corners_of n a in
-    let held : holds_point n a s.0 ≡ true = subst (λ d. is_in_closed d s.0 ≡ true) is s.1.held in
-    let box = IsInRectangle-held n a s.0 address held in
-    let x : s.0.x ≤ 2 ^ n = let k = box.right in omega arith in
-    let y : s.0.y ≤ 2 ^ n = let k = box.top in omega arith in
-    let le = le-greatest f (holds_point n a) s.0 held (points_of n) (IsPointIn-points_of n s.0 x y) in
-    subst (λ k. k ≤ greatest (offs_in n heights a)) s.2 le)
+    (λ (s : (r : Point) × IsInBounds c bounds r × (f r ≡ most)).
+    subst (λ k. k ≤ greatest (offs_in n heights a)) s.2
+    (held-le n heights a s.0 address (subst (λ d. is_in_closed d s.0 ≡ true) is s.1.held)))
     h.reached in
     omega arith

@@ -14,7 +14,7 @@ exact : (area z total : ℕ) → 0 < area → area * z ≡ total → total / are
 exact area z total some e = let whole : total ≡ z * area + 0 = omega arith in rw whole (div-mul-add z area 0 some)
 
 -- the way off the plane, by the gap
-off_plane-gap : (n : ℕ) (heights : List ℕ) (a : ℕ) (r : Point) → IsAddress n a →
+pub off_plane-gap : (n : ℕ) (heights : List ℕ) (a : ℕ) (r : Point) → IsAddress n a →
     area_of (corners_of n a) * off_plane n heights a r ≡ 2 ^ n * gap_of (corners_of n a) (height_of n heights) r
 off_plane-gap n heights a r address =
     let area : ℕ = area_of (corners_of n a) in

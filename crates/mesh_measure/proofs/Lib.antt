@@ -1,4 +1,7 @@
 pub mod AreaLemmas
-pub mod GapLemmas
-pub mod MostLemmas
 pub mod BoxLemmas
+pub mod ColumnLemmas
+pub mod ErrorLemmas
+pub mod GapLemmas
+pub mod LineLemmas
+pub mod MostLemmas

@@ -24,14 +24,14 @@ pub record AreAcross (c : Corners) (r : Point) (s : Areas) : Type 0 where
   pub v0 : IsAcross r c.v1 c.apex s.v0
   pub v1 : IsAcross r c.apex c.v0 s.v1
 
--- no sum is greater than in the largest grid, one column beyond it
+-- no sum is greater than at a point of the largest grid
 pub record AreSmall (s : Areas) : Type 0 where
-  pub apex_high : s.apex.high ≤ 16777216
-  pub apex_low : s.apex.low ≤ 16777216
-  pub v0_high : s.v0.high ≤ 16777216
-  pub v0_low : s.v0.low ≤ 16777216
-  pub v1_high : s.v1.high ≤ 16777216
-  pub v1_low : s.v1.low ≤ 16777216
+  pub apex_high : s.apex.high ≤ 12582912
+  pub apex_low : s.apex.low ≤ 12582912
+  pub v0_high : s.v0.high ≤ 12582912
+  pub v0_low : s.v0.low ≤ 12582912
+  pub v1_high : s.v1.high ≤ 12582912
+  pub v1_low : s.v1.low ≤ 12582912
 
 -- three numbers, each as often as the area across from its corner
 abbrev pub sum_of_weighted : Areas → ℕ → ℕ → ℕ → ℕ

@@ -1,10 +1,14 @@
--- A triangle as it lies in space, over a list of heights.
+-- A triangle as it lies in space, over a list of heights, and the rectangle around its corners.
+-- Words: IsFacet, AreBounds.
 use Rattle.std.specs.Prelude.{◌≡◌, ℕ, ◌^◌, ◌≤◌, List}
+use Rattle.mesh_defs.specs.declared.point.Corners.{Corners}
 use Rattle.mesh_defs.specs.Thickness.{height_of}
+use Rattle.mesh_defs.specs.BoundingBox.{least_of_3, greatest_of_3}
 use Rattle.mesh_defs.specs.declared.level.TheConstants.{GREATEST_LEVEL}
 use Rattle.bintree_laws.specs.Corners.{IsWithin}
 use Rattle.deviation_laws.specs.PlaneHeight.{area_of}
 use Rattle.mesh_measure.specs.declared.shape.Facet.{Facet}
+use Rattle.mesh_measure.specs.declared.shape.Bounds.{Bounds}
 
 -- its corners lie in a grid of at most the largest side, its heights are those at its corners, and its area is theirs
 pub record IsFacet (n : ℕ) (heights : List ℕ) (facet : Facet) : Type 0 where
@@ -15,3 +19,10 @@ pub record IsFacet (n : ℕ) (heights : List ℕ) (facet : Facet) : Type 0 where
   pub v1 : facet.v1 ≡ height_of n heights facet.corners.v1
   pub area : facet.area ≡ area_of facet.corners
   pub small : facet.area ≤ 12582912
+
+-- the least and greatest coordinates of the corners
+pub record AreBounds (c : Corners) (bounds : Bounds) : Type 0 where
+  pub left : bounds.left ≡ least_of_3 c.apex.x c.v0.x c.v1.x
+  pub right : bounds.right ≡ greatest_of_3 c.apex.x c.v0.x c.v1.x
+  pub low : bounds.low ≡ least_of_3 c.apex.y c.v0.y c.v1.y
+  pub high : bounds.high ≡ greatest_of_3 c.apex.y c.v0.y c.v1.y

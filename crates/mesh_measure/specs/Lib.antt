@@ -1,3 +1,5 @@
 pub mod Areas
+pub mod Columns
 pub mod Facet
+pub mod Line
 pub mod Most

@@ -1,10 +1,11 @@
 -- The greatest value over points, as a loop finds it.
--- Words: gap_of, IsMost, IsInRow, IsInRows.
+-- Words: gap_of, IsMost, IsReachedIn, IsMostUntil, IsInRow, IsInBounds, IsInRows.
 use Rattle.std.specs.Prelude.{◌≡◌, ℕ, ◌*◌, ◌<◌, ◌≤◌, ◌⊎◌, true}
 use Rattle.mesh_defs.specs.declared.point.Point.{Point}
 use Rattle.mesh_defs.specs.declared.point.Corners.{Corners}
 use Rattle.mesh_defs.specs.Thickness.{apart}
 use Rattle.mesh_defs.specs.BoundingBox.{is_in_closed}
+use Rattle.mesh_measure.specs.declared.shape.Bounds.{Bounds}
 use Rattle.deviation_laws.specs.PlaneHeight.{area_of, weighted}
 
 -- how far f at r is from the plane through its values at the corners, times twice the area
@@ -16,6 +17,15 @@ pub record IsMost (P : Point → Type 0) (f : Point → ℕ) (most : ℕ) : Type
   pub bound : (r : Point) → P r → f r ≤ most
   pub reached : (most ≡ 0) ⊎ ((r : Point) × P r × (f r ≡ most))
 
+-- most is a value of f at a point that the triangle holds, or 0
+abbrev pub IsReachedIn : Corners → (Point → ℕ) → ℕ → Type 0
+IsReachedIn c f most = (most ≡ 0) ⊎ ((r : Point) × (is_in_closed c r ≡ true) × (f r ≡ most))
+
+-- most is a value of f at a point with P, or 0; and the greatest one, unless it is above the limit
+pub record IsMostUntil (P : Point → Type 0) (f : Point → ℕ) (limit most : ℕ) : Type 0 where
+  pub bound : most ≤ limit → (r : Point) → P r → f r ≤ most
+  pub reached : (most ≡ 0) ⊎ ((r : Point) × P r × (f r ≡ most))
+
 -- the triangle holds r, which lies in row y, from column left on and before column end
 pub record IsInRow (c : Corners) (y left end : ℕ) (r : Point) : Type 0 where
   pub held : is_in_closed c r ≡ true
@@ -23,10 +33,18 @@ pub record IsInRow (c : Corners) (y left end : ℕ) (r : Point) : Type 0 where
   pub from : left ≤ r.x
   pub before : r.x < end
 
--- the same from row low on and before row end
-pub record IsInRows (c : Corners) (left right low end : ℕ) (r : Point) : Type 0 where
+-- the triangle holds r, which lies within the bounds
+pub record IsInBounds (c : Corners) (bounds : Bounds) (r : Point) : Type 0 where
   pub held : is_in_closed c r ≡ true
-  pub from : left ≤ r.x
-  pub before : r.x < right
-  pub row_from : low ≤ r.y
-  pub row_before : r.y < end
+  pub left : bounds.left ≤ r.x
+  pub right : r.x ≤ bounds.right
+  pub low : bounds.low ≤ r.y
+  pub high : r.y ≤ bounds.high
+
+-- the same, before row end
+pub record IsInRows (c : Corners) (bounds : Bounds) (end : ℕ) (r : Point) : Type 0 where
+  pub held : is_in_closed c r ≡ true
+  pub left : bounds.left ≤ r.x
+  pub right : r.x ≤ bounds.right
+  pub low : bounds.low ≤ r.y
+  pub before : r.y < end

@@ -1,12 +1,13 @@
-//! The areas between a point and the three edges of a triangle, as they run along a row.
+//! The areas between a point and the three edges of a triangle, and the columns of a row that lie on their inner sides.
 
+use crate::columns::Columns;
 use bintree_addr::{Corners, Point};
 
 /// Twice the area of the triangle of a point and an edge: a sum from which another is taken, so that neither is negative.
 #[derive(Clone, Copy)]
 pub(crate) struct Across {
-    pub(crate) high: u64,
-    pub(crate) low: u64,
+    pub(crate) high: u32,
+    pub(crate) low: u32,
 }
 
 /// Those of the three edges, each named by the corner across from it.
@@ -18,11 +19,11 @@ pub(crate) struct Areas {
 }
 
 impl Across {
-    ghost use Rattle.std.specs.Prelude.{◌≡◌, ◌+◌, ◌-◌, ◌^◌, ◌≤◌, ℕ};
-    ghost use Rattle.mesh_defs.specs.BoundingBox.{point};
+    ghost use Rattle.std.specs.Prelude.{◌≡◌, ◌+◌, ◌-◌, ◌*◌, ◌^◌, ◌≤◌, ◌↔◌, ℕ};
     ghost use Rattle.mesh_defs.specs.declared.level.TheConstants.{GREATEST_LEVEL};
     ghost use Rattle.bintree_laws.specs.Corners.{IsInSquare};
     ghost use Rattle.mesh_measure.specs.Areas.{IsAcross};
+    ghost use Rattle.mesh_measure.specs.Columns.{IsColumn};
 
     /// Of the edge from p to q.
     pub(crate) fn of(r: Point, p: Point, q: Point) -> Self
@@ -30,70 +31,85 @@ impl Across {
         requires p_in_grid { IsInSquare (2 ^ GREATEST_LEVEL) p }
         requires q_in_grid { IsInSquare (2 ^ GREATEST_LEVEL) q }
         ensures value { IsAcross r p q result }
-        ensures small { result.high ≤ 12582912 }
+        ensures high { result.high ≤ 12582912 }
+        ensures low { result.low ≤ 12582912 }
     {
         Across {
-            high: u64::from(p.x) * u64::from(q.y)
-                + u64::from(q.x) * u64::from(r.y)
-                + u64::from(r.x) * u64::from(p.y),
-            low: u64::from(p.y) * u64::from(q.x)
-                + u64::from(q.y) * u64::from(r.x)
-                + u64::from(r.y) * u64::from(p.x),
-        }
-    }
-
-    /// The same one column farther right.
-    fn next(self, p: Point, q: Point) -> Self
-        requires high { self.high ≤ 16777216 }
-        requires low { self.low ≤ 16777216 }
-        ensures { (x y : ℕ) → IsAcross (point x y) p q self → IsAcross (point (x + 1) y) p q result }
-    {
-        Across {
-            high: self.high + u64::from(p.y),
-            low: self.low + u64::from(q.y),
+            high: p.x * q.y + q.x * r.y + r.x * p.y,
+            low: p.y * q.x + q.y * r.x + r.y * p.x,
         }
     }
 
     /// Twice the area, or 0 where the point lies right of the edge.
-    pub(crate) fn area(self) -> u64
+    pub(crate) fn area(self) -> u32
         ensures value { result ≡ self.high - self.low }
         ensures small { result ≤ self.high }
     {
         self.high.saturating_sub(self.low)
     }
+
+    /// Of these columns, those whose points lie left of the edge from p to q or on it, in the row of whose first point this is.
+    ///
+    /// A column farther right adds p.y to the first sum and q.y to the second.
+    fn narrowed(self, p: Point, q: Point, columns: Columns) -> Columns
+        requires high { self.high ≤ 12582912 }
+        requires low { self.low ≤ 12582912 }
+        requires p_in_grid { IsInSquare (2 ^ GREATEST_LEVEL) p }
+        ensures { (x : ℕ) → IsColumn result x ↔ (IsColumn columns x × (self.low + x * q.y ≤ self.high + x * p.y)) }
+    {
+        if q.y < p.y {
+            let slope = p.y - q.y;
+            let first = (self.area_right() + slope - 1) / slope;
+            Columns {
+                from: columns.from.max(first),
+                end: columns.end,
+            }
+        } else if self.high < self.low {
+            Columns {
+                from: columns.end,
+                end: columns.end,
+            }
+        } else if p.y < q.y {
+            let last = self.area() / (q.y - p.y);
+            Columns {
+                from: columns.from,
+                end: columns.end.min(last + 1),
+            }
+        } else {
+            columns
+        }
+    }
+
+    /// Twice the area of a point right of the edge, or 0 where it lies left of it.
+    fn area_right(self) -> u32
+        ensures value { result ≡ self.low - self.high }
+        ensures small { result ≤ self.low }
+    {
+        self.low.saturating_sub(self.high)
+    }
 }
 
 impl Areas {
-    ghost use Rattle.std.specs.Prelude.{◌≡◌, ◌+◌, ◌^◌, ◌≤◌, ℕ};
+    ghost use Rattle.std.specs.Prelude.{◌≡◌, ◌^◌, ◌≤◌, ◌↔◌, ℕ, true};
     ghost use Rattle.mesh_defs.specs.declared.point.Point.{Point};
     ghost use Rattle.mesh_defs.specs.declared.point.Corners.{Corners};
     ghost use Rattle.mesh_defs.specs.BoundingBox.{point, is_in_closed};
     ghost use Rattle.mesh_defs.specs.declared.level.TheConstants.{GREATEST_LEVEL};
     ghost use Rattle.bintree_laws.specs.Corners.{IsWithin, IsInSquare};
     ghost use Rattle.mesh_measure.specs.Areas.{AreAcross, AreSmall};
+    ghost use Rattle.mesh_measure.specs.Columns.{IsColumn};
 
     /// At a point.
     pub(crate) fn of(corners: Corners, r: Point) -> Self
         requires in_grid { IsWithin (2 ^ GREATEST_LEVEL) corners }
         requires point_in_grid { IsInSquare (2 ^ GREATEST_LEVEL) r }
-        ensures { AreAcross corners r result }
+        ensures value { AreAcross corners r result }
+        ensures small { AreSmall result }
     {
         Areas {
             apex: Across::of(r, corners.v0, corners.v1),
             v0: Across::of(r, corners.v1, corners.apex),
             v1: Across::of(r, corners.apex, corners.v0),
-        }
-    }
-
-    /// The same one column farther right.
-    pub(crate) fn next(self, corners: Corners) -> Self
-        requires small { AreSmall self }
-        ensures { (x y : ℕ) → AreAcross corners (point x y) self → AreAcross corners (point (x + 1) y) result }
-    {
-        Areas {
-            apex: self.apex.next(corners.v0, corners.v1),
-            v0: self.v0.next(corners.v1, corners.apex),
-            v1: self.v1.next(corners.apex, corners.v0),
         }
     }
 
@@ -103,5 +119,17 @@ impl Areas {
     {
         self.v1.low <= self.v1.high
             && (self.apex.low <= self.apex.high && self.v0.low <= self.v0.high)
+    }
+
+    /// Of these columns, those whose points the triangle holds, in the row of whose first point these are.
+    pub(crate) fn held(self, corners: Corners, columns: Columns) -> Columns
+        requires in_grid { IsWithin (2 ^ GREATEST_LEVEL) corners }
+        requires small { AreSmall self }
+        ensures { (y : ℕ) → AreAcross corners (point 0 y) self →
+            (x : ℕ) → IsColumn result x ↔ (IsColumn columns x × (is_in_closed corners (point x y) ≡ true)) }
+    {
+        let left = self.v1.narrowed(corners.apex, corners.v0, columns);
+        let base = self.apex.narrowed(corners.v0, corners.v1, left);
+        self.v0.narrowed(corners.v1, corners.apex, base)
     }
 }

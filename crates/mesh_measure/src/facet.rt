@@ -2,31 +2,31 @@
 
 ghost use Rattle.std.specs.Prelude.{◌≡◌, ◌+◌, ◌-◌, ◌*◌, ◌^◌, ◌<◌, ◌≤◌, ℕ, true, pos};
 ghost use Rattle.mesh_defs.specs.Triangle.{level_of, corners_of};
-ghost use Rattle.mesh_defs.specs.BoundingBox.{point, holds_point};
+ghost use Rattle.mesh_defs.specs.BoundingBox.{point, holds_point, least_of_3, greatest_of_3};
 ghost use Rattle.mesh_defs.specs.declared.level.TheConstants.{GREATEST_LEVEL};
 ghost use Rattle.deviation_laws.specs.PlaneHeight.{plane_height};
 ghost use Rattle.mesh_measure.specs.Areas.{AreSmall, sum_of_weighted};
-ghost use Rattle.mesh_measure.specs.Facet.{IsFacet};
+ghost use Rattle.mesh_measure.specs.Facet.{IsFacet, AreBounds};
 
 use crate::areas::{Across, Areas};
-use crate::shape::Facet;
-use bintree_addr::{Point, Tri};
+use crate::shape::{Bounds, Facet};
+use bintree_addr::{Corners, Point, Tri};
+use pgm_grid::Grid;
 use wedgie_tree::Wedges;
 
 /// The triangle with its heights.
-pub(crate) fn facet_of(w: &Wedges, t: Tri) -> Facet
-    requires level { level_of t ≤ 2 * w.now.n }
-    ensures valid { IsFacet w.now.n w.now.heights result }
-    ensures corners { result.corners ≡ corners_of w.now.n t }
+pub(crate) fn facet_of(grid: &Grid, t: Tri) -> Facet
+    requires level { level_of t ≤ 2 * grid.now.n }
+    ensures valid { IsFacet grid.now.n grid.now.heights result }
+    ensures corners { result.corners ≡ corners_of grid.now.n t }
 {
-    let grid = w.grid();
     let corners = t.corners(grid.n());
     Facet {
         corners,
         apex: grid.height(corners.apex.x, corners.apex.y),
         v0: grid.height(corners.v0.x, corners.v0.y),
         v1: grid.height(corners.v1.x, corners.v1.y),
-        area: Across::of(corners.apex, corners.v0, corners.v1).area(),
+        area: u64::from(Across::of(corners.apex, corners.v0, corners.v1).area()),
     }
 }
 
@@ -36,9 +36,35 @@ pub(crate) fn weighted(facet: Facet, areas: Areas) -> u64
     ensures value { result ≡ sum_of_weighted areas facet.apex facet.v0 facet.v1 }
     ensures small { result ≤ 3298534883328 }
 {
-    areas.apex.area() * u64::from(facet.apex)
-        + areas.v0.area() * u64::from(facet.v0)
-        + areas.v1.area() * u64::from(facet.v1)
+    u64::from(areas.apex.area()) * u64::from(facet.apex)
+        + u64::from(areas.v0.area()) * u64::from(facet.v0)
+        + u64::from(areas.v1.area()) * u64::from(facet.v1)
+}
+
+/// The rectangle around the corners.
+pub(crate) fn bounds_of(corners: Corners) -> Bounds
+    ensures { AreBounds corners result }
+{
+    Bounds {
+        left: least_of(corners.apex.x, corners.v0.x, corners.v1.x),
+        right: greatest_of(corners.apex.x, corners.v0.x, corners.v1.x),
+        low: least_of(corners.apex.y, corners.v0.y, corners.v1.y),
+        high: greatest_of(corners.apex.y, corners.v0.y, corners.v1.y),
+    }
+}
+
+/// The least of three numbers.
+fn least_of(i: u32, j: u32, k: u32) -> u32
+    ensures { result ≡ least_of_3 i j k }
+{
+    i.min(j.min(k))
+}
+
+/// The greatest of three numbers.
+fn greatest_of(i: u32, j: u32, k: u32) -> u32
+    ensures { result ≡ greatest_of_3 i j k }
+{
+    i.max(j.max(k))
 }
 
 /// 2^n.
@@ -65,7 +91,7 @@ pub fn plane_height(w: &Wedges, t: Tri, x: u32, y: u32) -> i64
 {
     // An address is at least 2, so the triangle has an area.
     let _address = t.number();
-    let facet = facet_of(w, t);
+    let facet = facet_of(w.grid(), t);
     let areas = Areas::of(facet.corners, Point { x, y });
     let height = side(w.grid().n()) * weighted(facet, areas) / facet.area;
     height as i64

@@ -1,16 +1,19 @@
-//! How far a mesh is from the surface that it stands for, in whole numbers.
+//! How far a mesh is from the surface that it stands for, in whole numbers: triangle by triangle, and as a whole.
 //!
-//! Each grid point is held against the plane of the triangle that holds it, row by row. The areas between a point and the edges
-//! of its triangle run along the row by sums alone; they say whether the point is held, and weigh the heights of the corners.
+//! Each grid point is held against the plane of the triangle that holds it, row by row. The areas between the first point of a
+//! row and the edges tell which columns the triangle holds, by a division an edge; along them the plane runs by sums alone.
 //! What a deviation is, and that thickness bounds it, stands in `deviation_laws`.
 
 #![tactic(auto)]
 
 mod areas;
+mod columns;
 mod facet;
+mod line;
 mod mesh;
 mod points;
 mod shape;
 
 pub use facet::plane_height;
 pub use mesh::{deviation, thickest};
+pub use points::{exceeds, off_triangle};

@@ -4,14 +4,15 @@ ghost use Rattle.std.specs.Prelude.{◌≡◌, ◌*◌, ◌^◌, ◌≤◌, ℕ,
 ghost use Rattle.mesh_defs.specs.ClosedSet.{IsClosed, leaves_of};
 ghost use Rattle.deviation_laws.specs.PlaneHeight.{deviation_of, thickest_of};
 
-use crate::points::{greater, off_triangle};
+use crate::line::greater;
+use crate::points::off_triangle;
 use bintree_addr::Tri;
 use wedgie_tree::Wedges;
 
 /// The deviation of the leaves of a closed set, times 2^n: how far the surface is from the planes of the triangles at most,
 /// over all grid points, in units of height.
 ///
-/// Cost (not proved): a few steps for each grid point of the boxes of the triangles, which are twice as large.
+/// Cost (not proved): that of `off_triangle` for each leaf.
 pub fn deviation(w: &Wedges, leaves: &[Tri]) -> u64
     requires leaves { (has : ℕ → Bool) × IsClosed w.now.n has × (leaves.now ≡ leaves_of w.now.n has) }
     ensures value { result ≡ deviation_of w.now.n w.now.heights leaves.now }
@@ -19,7 +20,7 @@ pub fn deviation(w: &Wedges, leaves: &[Tri]) -> u64
 {
     let mut most = 0;
     for t in leaves {
-        most = greater(most, off_triangle(w, *t));
+        most = greater(most, u64::from(off_triangle(w.grid(), *t)));
     }
     most
 }

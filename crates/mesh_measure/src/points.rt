@@ -1,90 +1,136 @@
 //! How far the surface is from a triangle's plane, over all grid points of the triangle.
 
-ghost use Rattle.std.specs.Prelude.{◌≡◌, ◌+◌, ◌*◌, ◌^◌, ◌≤◌, max};
+ghost use Rattle.std.specs.Prelude.{◌≡◌, ◌+◌, ◌-◌, ◌*◌, ◌^◌, ◌<◌, ◌≤◌, ◌⊎◌, ◌↔◌, ℕ, IsTrue, length, slice_index};
 ghost use Rattle.mesh_defs.specs.Triangle.{level_of};
+ghost use Rattle.mesh_defs.specs.HeightField.{height_at};
 ghost use Rattle.mesh_defs.specs.Thickness.{height_of};
-ghost use Rattle.mesh_defs.specs.BoundingBox.{point, greatest, least_of_3, greatest_of_3};
+ghost use Rattle.mesh_defs.specs.BoundingBox.{point, greatest};
 ghost use Rattle.deviation_laws.specs.PlaneHeight.{offs_in};
+ghost use Rattle.bintree_laws.specs.Corners.{IsWithin};
 ghost use Rattle.mesh_measure.specs.Areas.{AreAcross, AreSmall};
 ghost use Rattle.mesh_measure.specs.Facet.{IsFacet};
-ghost use Rattle.mesh_measure.specs.Most.{gap_of, IsMost, IsInRow};
+ghost use Rattle.mesh_measure.specs.Most.{gap_of, IsMost, IsMostUntil, IsInRow, IsInBounds, IsReachedIn};
 
 use crate::areas::Areas;
-use crate::facet::{facet_of, side, weighted};
-use crate::shape::Facet;
+use crate::columns::Columns;
+use crate::facet::{bounds_of, facet_of, side, weighted};
+use crate::line::{greater, greatest_gap, line_from, line_of};
+use crate::shape::{Bounds, Facet};
 use bintree_addr::{Point, Tri};
-use wedgie_tree::Wedges;
+use pgm_grid::Grid;
 
 /// How far the surface is from the plane at a point, times twice the triangle's area.
-fn gap(w: &Wedges, facet: Facet, areas: Areas, x: u32, y: u32) -> u64
-    requires x_in_grid { x ≤ 2 ^ w.now.n }
-    requires y_in_grid { y ≤ 2 ^ w.now.n }
-    requires facet { IsFacet w.now.n w.now.heights facet }
+fn gap(grid: &Grid, facet: Facet, areas: Areas, x: u32, y: u32) -> u64
+    requires x_in_grid { x ≤ 2 ^ grid.now.n }
+    requires y_in_grid { y ≤ 2 ^ grid.now.n }
+    requires facet { IsFacet grid.now.n grid.now.heights facet }
     requires areas { AreAcross facet.corners (point x y) areas }
     requires small { AreSmall areas }
-    ensures value { result ≡ gap_of facet.corners (height_of w.now.n w.now.heights) (point x y) }
-    ensures small { result ≤ 3298534883328 }
+    ensures { result ≡ gap_of facet.corners (height_of grid.now.n grid.now.heights) (point x y) }
 {
-    let surface = facet.area * u64::from(w.grid().height(x, y));
+    let surface = facet.area * u64::from(grid.height(x, y));
     surface.abs_diff(weighted(facet, areas))
 }
 
-/// The greatest of these in a row, from column `left` to column `right`.
-fn row_gap(w: &Wedges, facet: Facet, y: u32, left: u32, right: u32) -> u64
-    requires y_in_grid { y ≤ 2 ^ w.now.n }
-    requires ordered { left ≤ right }
-    requires right_in_grid { right ≤ 2 ^ w.now.n }
-    requires facet { IsFacet w.now.n w.now.heights facet }
-    ensures most { IsMost (IsInRow facet.corners y left (right + 1)) (gap_of facet.corners (height_of w.now.n w.now.heights)) result }
-    ensures small { result ≤ 3298534883328 }
+/// The same at the midpoint of the base, where the triangle holds it, or else 0: most triangles are farthest off about there.
+fn middle_gap(grid: &Grid, facet: Facet) -> u64
+    requires facet { IsFacet grid.now.n grid.now.heights facet }
+    requires corners_in_grid { IsWithin (2 ^ grid.now.n) facet.corners }
+    ensures { IsReachedIn facet.corners (gap_of facet.corners (height_of grid.now.n grid.now.heights)) result }
 {
-    let mut areas = Areas::of(facet.corners, Point { x: left, y });
+    let corners = facet.corners;
+    let x = (corners.v0.x + corners.v1.x) / 2;
+    let y = (corners.v0.y + corners.v1.y) / 2;
+    let areas = Areas::of(corners, Point { x, y });
+    if areas.is_held() {
+        gap(grid, facet, areas, x, y)
+    } else {
+        0
+    }
+}
+
+/// The heights of these columns of a row.
+fn row_of(grid: &Grid, y: u32, columns: Columns) -> &[u16]
+    requires y_in_grid { y ≤ 2 ^ grid.now.n }
+    requires ordered { columns.from ≤ columns.end }
+    requires end_in_grid { columns.end ≤ 2 ^ grid.now.n + 1 }
+    ensures count { length result.now ≡ columns.end - columns.from }
+    ensures heights { (k : ℕ) → k < length result.now →
+        slice_index result.now k ≡ height_at grid.now.n grid.now.heights (columns.from + k) y }
+{
+    let side = grid.side();
+    let start = (side - 1 - y as usize) * side;
+    &grid.heights()[start + columns.from as usize..start + columns.end as usize]
+}
+
+/// The greatest gap in a row, from column `left` to column `right`.
+fn row_gap(grid: &Grid, facet: Facet, y: u32, left: u32, right: u32) -> u64
+    requires y_in_grid { y ≤ 2 ^ grid.now.n }
+    requires right_in_grid { right ≤ 2 ^ grid.now.n }
+    requires facet { IsFacet grid.now.n grid.now.heights facet }
+    ensures most { IsMost (IsInRow facet.corners y left (right + 1))
+        (gap_of facet.corners (height_of grid.now.n grid.now.heights)) result }
+    ensures small { result ≤ 8796093022208 }
+{
+    let areas = Areas::of(facet.corners, Point { x: 0, y });
+    let all = Columns {
+        from: left,
+        end: right + 1,
+    };
+    let columns = areas.held(facet.corners, all);
+    if columns.end <= columns.from {
+        return 0;
+    }
+    let line = line_from(line_of(facet, areas), columns.from);
+    greatest_gap(row_of(grid, y, columns), facet.area, line)
+}
+
+/// The greatest gap of the triangle, or the first one found that is above the limit.
+fn most_until(grid: &Grid, facet: Facet, bounds: Bounds, limit: u64) -> u64
+    requires facet { IsFacet grid.now.n grid.now.heights facet }
+    requires right_in_grid { bounds.right ≤ 2 ^ grid.now.n }
+    requires high_in_grid { bounds.high ≤ 2 ^ grid.now.n }
+    requires ordered { bounds.low ≤ bounds.high }
+    ensures most { IsMostUntil (IsInBounds facet.corners bounds)
+        (gap_of facet.corners (height_of grid.now.n grid.now.heights)) limit result }
+    ensures small { result ≤ 8796093022208 }
+{
     let mut most = 0;
-    for x in left..right + 1 {
-        if areas.is_held() {
-            most = greater(most, gap(w, facet, areas, x, y));
+    for y in bounds.low..bounds.high + 1 {
+        most = greater(most, row_gap(grid, facet, y, bounds.left, bounds.right));
+        if most > limit {
+            return most;
         }
-        areas = areas.next(facet.corners);
     }
     most
 }
 
-/// How far the surface is from the plane of the triangle at most, over all grid points that the triangle holds, times 2^n.
-pub(crate) fn off_triangle(w: &Wedges, t: Tri) -> u64
-    requires level { level_of t ≤ 2 * w.now.n }
-    ensures { result ≡ greatest (offs_in w.now.n w.now.heights t) }
+/// The error of a triangle: how far the surface is from its plane at most, up or down, over all grid points that the triangle
+/// holds, in units of height, times 2^n.
+///
+/// Cost (not proved): a step for each grid point of the triangle and some twenty for each of its rows, and those of
+/// `Tri::corners`.
+pub fn off_triangle(grid: &Grid, t: Tri) -> u32
+    requires level { level_of t ≤ 2 * grid.now.n }
+    ensures { result ≡ greatest (offs_in grid.now.n grid.now.heights t) }
 {
     let _address = t.number();
-    let facet = facet_of(w, t);
-    let corners = facet.corners;
-    let left = least_of(corners.apex.x, corners.v0.x, corners.v1.x);
-    let right = greatest_of(corners.apex.x, corners.v0.x, corners.v1.x);
-    let low = least_of(corners.apex.y, corners.v0.y, corners.v1.y);
-    let high = greatest_of(corners.apex.y, corners.v0.y, corners.v1.y);
-    let mut most = 0;
-    for y in low..high + 1 {
-        most = greater(most, row_gap(w, facet, y, left, right));
-    }
-    side(w.grid().n()) * most / facet.area
+    let facet = facet_of(grid, t);
+    let most = most_until(grid, facet, bounds_of(facet.corners), u64::MAX);
+    (side(grid.n()) * most / facet.area) as u32
 }
 
-/// The greater of two numbers.
-pub(crate) fn greater(i: u64, j: u64) -> u64
-    ensures { result ≡ max i j }
+/// Whether a triangle's error is above the tolerance, in units of height, times 2^n.
+///
+/// Ends at the first row that shows it, and looks at the midpoint of the base first.
+/// Cost (not proved): at most that of `off_triangle`.
+pub fn exceeds(grid: &Grid, t: Tri, tolerance: u32) -> bool
+    requires level { level_of t ≤ 2 * grid.now.n }
+    ensures { IsTrue result ↔ (tolerance < greatest (offs_in grid.now.n grid.now.heights t)) }
 {
-    i.max(j)
-}
-
-/// The least of three numbers.
-fn least_of(i: u32, j: u32, k: u32) -> u32
-    ensures { result ≡ least_of_3 i j k }
-{
-    i.min(j.min(k))
-}
-
-/// The greatest of three numbers.
-fn greatest_of(i: u32, j: u32, k: u32) -> u32
-    ensures { result ≡ greatest_of_3 i j k }
-{
-    i.max(j.max(k))
+    let _address = t.number();
+    let facet = facet_of(grid, t);
+    let limit = facet.area * u64::from(tolerance) / side(grid.n());
+    middle_gap(grid, facet) > limit
+        || most_until(grid, facet, bounds_of(facet.corners), limit) > limit
 }

@@ -1,4 +1,4 @@
-//! A triangle as it lies in space.
+//! A triangle as it lies in space, and the rectangle around it.
 
 use bintree_addr::Corners;
 
@@ -10,4 +10,13 @@ pub(crate) struct Facet {
     pub(crate) v0: u16,
     pub(crate) v1: u16,
     pub(crate) area: u64,
+}
+
+/// The least and greatest column and row of a triangle's corners.
+#[derive(Clone, Copy)]
+pub(crate) struct Bounds {
+    pub(crate) left: u32,
+    pub(crate) right: u32,
+    pub(crate) low: u32,
+    pub(crate) high: u32,
 }

@@ -1,7 +1,6 @@
 -- The corners lie in the largest square, and the heights and the area are those of the definitions.
-use Rattle.std.proofs.Common.{◌≡◌, ◌∙◌, ap, arith}
+use Rattle.std.proofs.Common.{◌∙◌, arith}
 use Rattle.mesh_defs.specs.declared.point.Corners.{Corners}
-use Rattle.mesh_defs.specs.HeightField.{HeightField, height_at}
 use Rattle.mesh_measure.proofs.AreaLemmas.{area-across}
 use Rattle.bintree_laws.proofs.CornerLemmas.{IsWithin-largest}
 use Rattle.mesh_measure.proofs.facet.facet_of.Goals as goal
@@ -23,15 +22,13 @@ of-requires-clause-q_in_grid c =
 
 pub returns-clause-valid : goal.returns-clause-valid
 returns-clause-valid c =
-    let field : c.grid-grid.result.now ≡ c.args.w.now = c.grid-grid.ensures.value in
-    let same : c.n.result ≡ c.args.w.now.n = c.n.ensures.value ∙ ap (λ (g : HeightField). g.n) field in
     let d : Corners = c.corners-corners.result in
     record {
-      in_grid = let high = c.n.ensures.high in omega arith;
+      in_grid = let high = c.n.ensures.high in let same = c.n.ensures.value in omega arith;
       within = IsWithin-largest c.n.result d c.n.ensures.high c.corners-corners.ensures.within;
-      apex = c.height.ensures.value ∙ ap (λ (g : HeightField). height_at g.n g.heights d.apex.x d.apex.y) field;
-      v0 = c.height-2.ensures.value ∙ ap (λ (g : HeightField). height_at g.n g.heights d.v0.x d.v0.y) field;
-      v1 = c.height-3.ensures.value ∙ ap (λ (g : HeightField). height_at g.n g.heights d.v1.x d.v1.y) field;
-      area = c.area.ensures.value ∙ area-across d.apex d.v0 d.v1 c.of.result c.of.ensures.value;
-      small = let less = c.area.ensures.small in let high = c.of.ensures.small in omega arith;
+      apex = c.height.ensures.value;
+      v0 = c.height-2.ensures.value;
+      v1 = c.height-3.ensures.value;
+      area = c.from.ensures ∙ c.area.ensures.value ∙ area-across d.apex d.v0 d.v1 c.of.result c.of.ensures.value;
+      small = let less = c.area.ensures.small in let high = c.of.ensures.high in omega arith;
     }

@@ -1,61 +1,74 @@
--- A column more: its point counts where the triangle holds it.
-use Rattle.std.proofs.Common.{◌≡◌, ◌∙◌, ℕ, ◌+◌, ◌≤◌, max, sym, ap, subst, arith}
-use Rattle.mesh_defs.specs.declared.point.Corners.{Corners}
-use Rattle.mesh_defs.specs.declared.point.Point.{Point}
+-- The columns that the triangle holds lie in the row, and along them the line of its plane is small.
+use Rattle.std.proofs.Common.{◌^◌, ◌≤◌, length, arith, pow_mono}
 use Rattle.mesh_defs.specs.Thickness.{height_of}
-use Rattle.mesh_defs.specs.BoundingBox.{point, is_in_closed}
-use Rattle.mesh_measure.specs.Most.{gap_of, IsMost, IsInRow}
-use Rattle.mesh_measure.proofs.AreaLemmas.{IsInSquare-largest, AreSmall-across}
-use Rattle.mesh_measure.proofs.MostLemmas.{IsMost-row_held, IsMost-row_other}
+use Rattle.mesh_measure.proofs.AreaLemmas.{IsInSquare-largest}
+use Rattle.mesh_measure.proofs.MostLemmas.{IsMost-row, IsMost-row_none, columns-within}
+use Rattle.mesh_measure.proofs.LineLemmas.{sums-small, sums-small-on}
 use Rattle.mesh_measure.proofs.points.row_gap.Goals as goal
-use Rattle.mesh_measure.proofs.points.row_gap.Goals.{then-is_held, else-is_held}
 
 pub of-areas-requires-clause-point_in_grid : goal.of-areas-requires-clause-point_in_grid
 of-areas-requires-clause-point_in_grid c =
-    IsInSquare-largest c.args.w.now.n c.args.left c.args.y c.requires.facet.in_grid (let fits = c.requires.right_in_grid in let le = c.requires.ordered in omega arith)
-    c.requires.y_in_grid
+    IsInSquare-largest c.args.grid.now.n 0 c.args.y c.requires.facet.in_grid (omega arith) c.requires.y_in_grid
 
-pub gap-requires-clause-small : goal.gap-requires-clause-small
-gap-requires-clause-small c =
-    let r = IsInSquare-largest c.args.w.now.n c.args.right c.args.y c.requires.facet.in_grid c.requires.right_in_grid c.requires.y_in_grid in
-    AreSmall-across c.args.facet.corners (point c.loop-x.x c.args.y) c.loop-x.areas c.requires.facet.within (let x = r.x in omega arith)
-    (let y = r.y in omega arith) c.loop-x.invariant.0
+pub returns-then-columns-clause-most : goal.returns-then-columns-clause-most
+returns-then-columns-clause-most c =
+    IsMost-row_none c.args.facet.corners (height_of c.args.grid.now.n c.args.grid.now.heights) c.args.y c.args.left c.args.right
+    c.held-columns.result c.if-columns.true (c.held-columns.ensures c.args.y c.of-areas.ensures.value)
 
-pub next-areas-requires : goal.next-areas-requires
-next-areas-requires c =
-    let r = IsInSquare-largest c.args.w.now.n c.args.right c.args.y c.requires.facet.in_grid c.requires.right_in_grid c.requires.y_in_grid in
-    record {
-      small = AreSmall-across c.args.facet.corners (point c.loop-x.x c.args.y) c.loop-x.areas c.requires.facet.within (let x = r.x in omega arith)
-          (let y = r.y in omega arith) c.loop-x.invariant.0;
-    }
+pub line_from-line-requires-clause-high : goal.line_from-line-requires-clause-high
+line_from-line-requires-clause-high c =
+    let end = columns-within c.args.facet.corners c.args.y c.args.left c.args.right c.held-columns.result c.if-columns.false
+    (c.held-columns.ensures c.args.y c.of-areas.ensures.value) in
+    let side : 2 ^ c.args.grid.now.n ≤ 2 ^ 11 = pow_mono c.requires.facet.in_grid in
+    let right = c.requires.right_in_grid in
+    let less = c.if-columns.false in
+    sums-small c.line_of.result.high c.held-columns.result.from c.line_of.result.rise c.line_of.ensures.high (omega arith) c.line_of.ensures.rise
 
-pub loop-x-preserved : goal.loop-x-preserved
-loop-x-preserved c =
-    let d : Corners = c.args.facet.corners in
-    let f : Point → ℕ = gap_of d (height_of c.args.w.now.n c.args.w.now.heights) in
-    let test : c.is_held.result ≡ is_in_closed d (point c.loop-x.x c.args.y) = c.is_held.ensures d (point c.loop-x.x c.args.y) c.loop-x.invariant.0 in
-    let from : c.args.left ≤ c.loop-x.x = omega arith in
-    let old : c.loop-x.most ≤ 3298534883328 = c.loop-x.invariant.2 in
-    let both : IsMost (IsInRow d c.args.y c.args.left (c.loop-x.x + 1)) f c.if-is_held.most × (c.if-is_held.most ≤ 3298534883328) =
-    elim c.if-is_held.branch [
-      | then-is_held w ↦
-          let most : c.if-is_held.most ≡ max c.loop-x.most (f (point c.loop-x.x c.args.y)) =
-          w.most-is ∙ w.greater-most.ensures ∙ ap (max c.loop-x.most) w.gap.ensures.value in (
-            subst (λ z. IsMost (IsInRow d c.args.y c.args.left (c.loop-x.x + 1)) f z) (sym most)
-                (IsMost-row_held d c.args.y c.args.left c.loop-x.x f c.loop-x.most from (sym test ∙ w.if-is_held.true) c.loop-x.invariant.1),
-            let is : c.if-is_held.most ≡ max c.loop-x.most w.gap.result = w.most-is ∙ w.greater-most.ensures in
-                let less : w.gap.result ≤ 3298534883328 = w.gap.ensures.small in omega arith,
-          )
-      | else-is_held w ↦ (
-        subst (λ z. IsMost (IsInRow d c.args.y c.args.left (c.loop-x.x + 1)) f z) (sym w.most-is)
-            (IsMost-row_other d c.args.y c.args.left c.loop-x.x f c.loop-x.most (sym test ∙ w.if-is_held.false) c.loop-x.invariant.1),
-        let is : c.if-is_held.most ≡ c.loop-x.most = w.most-is in omega arith,
-      )
-    ] in
-    (c.next-areas.ensures c.loop-x.x c.args.y c.loop-x.invariant.0, both.0, both.1)
+pub line_from-line-requires-clause-low : goal.line_from-line-requires-clause-low
+line_from-line-requires-clause-low c =
+    let end = columns-within c.args.facet.corners c.args.y c.args.left c.args.right c.held-columns.result c.if-columns.false
+    (c.held-columns.ensures c.args.y c.of-areas.ensures.value) in
+    let side : 2 ^ c.args.grid.now.n ≤ 2 ^ 11 = pow_mono c.requires.facet.in_grid in
+    let right = c.requires.right_in_grid in
+    let less = c.if-columns.false in
+    sums-small c.line_of.result.low c.held-columns.result.from c.line_of.result.fall c.line_of.ensures.low (omega arith) c.line_of.ensures.fall
+
+pub row_of-requires-clause-end_in_grid : goal.row_of-requires-clause-end_in_grid
+row_of-requires-clause-end_in_grid c =
+    let end = columns-within c.args.facet.corners c.args.y c.args.left c.args.right c.held-columns.result c.if-columns.false
+    (c.held-columns.ensures c.args.y c.of-areas.ensures.value) in
+    let right = c.requires.right_in_grid in omega arith
+
+pub greatest_gap-requires-clause-high : goal.greatest_gap-requires-clause-high
+greatest_gap-requires-clause-high c =
+    let end = columns-within c.args.facet.corners c.args.y c.args.left c.args.right c.held-columns.result c.if-columns.false
+    (c.held-columns.ensures c.args.y c.of-areas.ensures.value) in
+    let side : 2 ^ c.args.grid.now.n ≤ 2 ^ 11 = pow_mono c.requires.facet.in_grid in
+    let right = c.requires.right_in_grid in
+    let less = c.if-columns.false in
+    let count = c.row_of.ensures.count in
+    sums-small-on c.line_of.result.high c.held-columns.result.from c.line_of.result.rise c.line_from-line.result.high (length c.row_of.result.now)
+    c.line_from-line.result.rise c.line_of.ensures.high (omega arith) c.line_of.ensures.rise c.line_from-line.ensures.high c.line_from-line.ensures.rise
+
+pub greatest_gap-requires-clause-low : goal.greatest_gap-requires-clause-low
+greatest_gap-requires-clause-low c =
+    let end = columns-within c.args.facet.corners c.args.y c.args.left c.args.right c.held-columns.result c.if-columns.false
+    (c.held-columns.ensures c.args.y c.of-areas.ensures.value) in
+    let side : 2 ^ c.args.grid.now.n ≤ 2 ^ 11 = pow_mono c.requires.facet.in_grid in
+    let right = c.requires.right_in_grid in
+    let less = c.if-columns.false in
+    let count = c.row_of.ensures.count in
+    sums-small-on c.line_of.result.low c.held-columns.result.from c.line_of.result.fall c.line_from-line.result.low (length c.row_of.result.now)
+    c.line_from-line.result.fall c.line_of.ensures.low (omega arith) c.line_of.ensures.fall c.line_from-line.ensures.low c.line_from-line.ensures.fall
 
 pub returns-clause-most : goal.returns-clause-most
 returns-clause-most c =
-    let last : c.loop-x.x ≡ c.args.right + 1 = omega arith in
-    subst (λ z. IsMost (IsInRow c.args.facet.corners c.args.y c.args.left z)
-    (gap_of c.args.facet.corners (height_of c.args.w.now.n c.args.w.now.heights)) c.loop-x.most) last c.loop-x.invariant.1
+    let f = height_of c.args.grid.now.n c.args.grid.now.heights in
+    let valid = c.requires.facet in
+    let less = c.if-columns.false in
+    IsMost-row c.args.facet.corners f c.args.y c.args.left c.args.right c.args.facet.area c.held-columns.result c.line_of.result c.line_from-line.result
+    c.row_of.result.now c.greatest_gap.result valid.area
+    (c.line_of.ensures.line f c.args.y record { apex = valid.apex; v0 = valid.v0; v1 = valid.v1 } c.of-areas.ensures.value)
+    (omega arith) (c.held-columns.ensures c.args.y c.of-areas.ensures.value)
+    c.line_from-line.ensures.high c.line_from-line.ensures.low c.line_from-line.ensures.rise c.line_from-line.ensures.fall
+    c.row_of.ensures.count c.row_of.ensures.heights c.greatest_gap.ensures.greatest

@@ -1,0 +1,55 @@
+-- The plane of a triangle along a row.
+use Rattle.std.proofs.Common.{◌≡◌, ℕ, ◌+◌, ◌*◌, ◌≤◌, true, sym, ap, arith, mul-le-mul_left}
+use Rattle.mesh_defs.specs.declared.point.Point.{Point}
+use Rattle.mesh_defs.specs.declared.point.Corners.{Corners}
+use Rattle.mesh_defs.specs.BoundingBox.{point, is_left_or_on}
+use Rattle.std.proofs.lemmas.Bool.{leb-true}
+use Rattle.deviation_laws.specs.PlaneHeight.{doubled_area}
+use Rattle.deviation_laws.proofs.PlaneLemmas.{left_or_on-held}
+use Rattle.mesh_measure.specs.declared.areas.Across.{Across}
+use Rattle.mesh_measure.specs.declared.areas.Areas.{Areas}
+use Rattle.mesh_measure.specs.declared.line.Line.{Line}
+use Rattle.mesh_measure.specs.Areas.{IsAcross, AreAcross}
+use Rattle.mesh_measure.specs.Line.{IsLineOf}
+
+-- one edge: its area times a height, by both sums
+edge-part : (p q : Point) (y x height z : ℕ) (s : Across) → IsAcross (point 0 y) p q s → height ≡ z → is_left_or_on (point x y) p q ≡ true →
+    doubled_area (point x y) p q * z + (s.low * height + x * (q.y * height)) ≡ s.high * height + x * (p.y * height)
+edge-part p q y x height z s a same left =
+    let le = leb-true (p.y * q.x + q.y * x + y * p.x) (p.x * q.y + q.x * y + x * p.y) left in
+    let high = a.high in
+    let low = a.low in
+    let area : ℕ = doubled_area (point x y) p q in
+    let whole : area + (s.low + x * q.y) ≡ s.high + x * p.y = omega arith in
+    let scaled : (area + (s.low + x * q.y)) * height ≡ (s.high + x * p.y) * height = ap (λ k. k * height) whole in
+    let swap : area * z ≡ area * height = ap (λ k. area * k) (sym same) in
+    omega arith
+
+-- the sums weigh as the definition does, at each point that the triangle holds
+pub line-weights : (c : Corners) (f : Point → ℕ) (y apex v0 v1 : ℕ) (s : Areas) (line : Line) →
+    apex ≡ f c.apex → v0 ≡ f c.v0 → v1 ≡ f c.v1 → AreAcross c (point 0 y) s →
+    line.high ≡ s.apex.high * apex + s.v0.high * v0 + s.v1.high * v1 →
+    line.low ≡ s.apex.low * apex + s.v0.low * v0 + s.v1.low * v1 →
+    line.rise ≡ c.v0.y * apex + c.v1.y * v0 + c.apex.y * v1 →
+    line.fall ≡ c.v1.y * apex + c.apex.y * v0 + c.v0.y * v1 →
+    IsLineOf c f y line
+line-weights c f y apex v0 v1 s line one two three a high low rise fall x held =
+    let sides = left_or_on-held c (point x y) held in
+    let p = edge-part c.v0 c.v1 y x apex (f c.apex) s.apex a.apex one sides.1 in
+    let q = edge-part c.v1 c.apex y x v0 (f c.v0) s.v0 a.v0 two sides.2 in
+    let r = edge-part c.apex c.v0 y x v1 (f c.v1) s.v1 a.v1 three sides.0 in
+    let up : x * line.rise ≡ x * (c.v0.y * apex + c.v1.y * v0 + c.apex.y * v1) = ap (λ k. x * k) rise in
+    let down : x * line.fall ≡ x * (c.v1.y * apex + c.apex.y * v0 + c.v0.y * v1) = ap (λ k. x * k) fall in
+    omega arith
+
+-- a sum some columns on is small
+pub sums-small : (start x slope : ℕ) → start ≤ 2473901162496 → x ≤ 2049 → slope ≤ 402653184 → start + x * slope ≤ 4398046511104
+sums-small start x slope small few flat =
+    let first : x * slope ≤ x * 402653184 = mul-le-mul_left x flat in omega arith
+
+-- so is it after some more
+pub sums-small-on : (start x slope next k rise : ℕ) → start ≤ 2473901162496 → x + k ≤ 2049 → slope ≤ 402653184 → next ≡ start + x * slope →
+    rise ≡ slope → next + k * rise ≤ 4398046511104
+sums-small-on start x slope next k rise small few flat is same =
+    let all = sums-small start (x + k) slope small few flat in
+    let more : k * rise ≡ k * slope = ap (λ z. k * z) same in omega arith

@@ -1,0 +1,32 @@
+-- The plane of a triangle along a row.
+-- Words: high_on, low_on, AreHeights, IsLineOf, gap_on.
+use Rattle.std.specs.Prelude.{◌≡◌, ℕ, ◌+◌, ◌*◌, List, slice_index, true}
+use Rattle.mesh_defs.specs.declared.point.Point.{Point}
+use Rattle.mesh_defs.specs.declared.point.Corners.{Corners}
+use Rattle.mesh_defs.specs.Thickness.{apart}
+use Rattle.mesh_defs.specs.BoundingBox.{point, is_in_closed}
+use Rattle.deviation_laws.specs.PlaneHeight.{weighted}
+use Rattle.mesh_measure.specs.declared.shape.Facet.{Facet}
+use Rattle.mesh_measure.specs.declared.line.Line.{Line}
+
+-- both sums, so many columns on
+abbrev pub high_on : Line → ℕ → ℕ
+high_on line k = line.high + k * line.rise
+
+abbrev pub low_on : Line → ℕ → ℕ
+low_on line k = line.low + k * line.fall
+
+-- the heights of the facet are the values of f at its corners
+pub record AreHeights (f : Point → ℕ) (facet : Facet) : Type 0 where
+  pub apex : facet.apex ≡ f facet.corners.apex
+  pub v0 : facet.v0 ≡ f facet.corners.v0
+  pub v1 : facet.v1 ≡ f facet.corners.v1
+
+-- at each point of row y that the triangle holds the first sum less the second is the weighted value of f
+abbrev pub IsLineOf : Corners → (Point → ℕ) → ℕ → Line → Type 0
+IsLineOf c f y line =
+    (x : ℕ) → is_in_closed c (point x y) ≡ true → weighted c f (point x y) + low_on line x ≡ high_on line x
+
+-- how far area times a height and the line are apart, so many columns on
+abbrev pub gap_on : ℕ → Line → List ℕ → ℕ → ℕ
+gap_on area line heights k = apart (area * slice_index heights k + low_on line k) (high_on line k)
