@@ -1,0 +1,4 @@
+pub mod IndexLemmas
+pub mod IndexLawLemmas
+pub mod ChangeLemmas
+pub mod OrderLemmas
