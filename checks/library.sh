@@ -1,0 +1,160 @@
+# shellcheck shell=bash disable=SC2154
+# The engine as a library: what C, C++ and Python get of it, each compiler and tool where it is there. The library is
+# crates/roam_c/out/libroam_c.a, which `rt ci` and lib/build leave; ROAM_ARCHIVE names another one. Sourced by checks/run.
+
+mkdir -- "$room/library" && cd -- "$room/library" || exit 1
+
+archive=${ROAM_ARCHIVE:-$top/crates/roam_c/out/libroam_c.a}
+if [ ! -f "$archive" ]; then
+  wrong the_library_is_built "there is no crates/roam_c/out/libroam_c.a; run 'lib/build' or 'rt ci' first"
+  return
+fi
+prefix=$PWD/prefix
+uses=$top/examples/library
+tests=$top/checks/library
+strict=(-Wall -Wextra -pedantic -Werror)
+jacksboro=$top/examples/jacksboro/grid.pgm
+
+# runs NAME TEXT WORDS..: one command; its last line has to hold TEXT.
+runs() {
+  local said status
+  said=$("${@:3}" 2>&1)
+  status=$?
+  if [ $status -eq 0 ] && [[ $(tail -n 1 <<<"$said") == *"$2"* ]]; then
+    ok "$1"
+  else
+    wrong "$1" "exit status $status, '$(tail -n 12 <<<"$said" | head -c 900 | tr '\n' '/')'"
+  fi
+}
+
+# builds NAME WORDS..: one call of a compiler; a check of its own only where it fails.
+builds() {
+  "${@:2}" >said 2>&1 && return
+  wrong "$1" "not built: '$(head -n 5 said | head -c 600 | tr '\n' '/')'"
+  return 1
+}
+
+if ! "$top/lib/build" "$prefix" "$archive" >said 2>&1; then
+  wrong library_is_installed "'$(tail -n 5 said | tr '\n' '/')'"
+  return
+fi
+ok library_is_installed
+static=("-I$prefix/include" "$prefix/lib/libroam.a")
+
+if has library_exports_what_its_header_says nm; then
+  mapfile -t why < <(
+    diff <(nm -D --defined-only "$prefix/lib/libroam.so" | awk '{ print $3 }' | sort) \
+      <(sed -n 's/^[a-z_0-9]* \(roam_[a-z_]*\)(.*/\1/p' "$prefix/include/roam.h" | sort) | grep '^[<>]'
+  )
+  decide library_exports_what_its_header_says ${why[0]+"${why[@]}"}
+fi
+
+# --- C and C++: the headers without a warning, the examples, and every call against the header's words. ---
+
+for cc in gcc clang; do
+  if has "library_$cc" "$cc"; then
+    c=("$cc" -std=c99 -O2 "${strict[@]}")
+    if builds "library_heap_$cc" "${c[@]}" -c -o heap.o "$top/lib/heap.c" &&
+      builds "library_flight_$cc" "${c[@]}" -o "flight_$cc" "$uses/flight.c" "${static[@]}"; then
+      runs "library_flight_$cc" '40 frames' "./flight_$cc" "$jacksboro" 2000 90 40
+    fi
+    if builds "library_calls_$cc" "${c[@]}" -o "calls_$cc" "$tests/calls.c" "${static[@]}"; then
+      runs "library_calls_$cc" state "./calls_$cc" 1 "$([ "$cc" = gcc ] && echo 200000 || echo 20000)"
+      runs "library_ends_$cc" 'each refused in turn' "./calls_$cc" ends
+    fi
+  fi
+done
+
+for cc in g++ clang++; do
+  if has "library_$cc" "$cc"; then
+    c=("$cc" -std=c++17 -O2 "${strict[@]}" -pthread)
+    for name in first_frame threads; do
+      if builds "library_${name}_$cc" "${c[@]}" -o "${name}_$cc" "$uses/$name.cpp" "${static[@]}"; then
+        runs "library_${name}_$cc" '' "./${name}_$cc"
+      fi
+    done
+    if builds "library_answers_$cc" "${c[@]}" -fno-exceptions -o "answers_$cc" "$tests/answers.cpp" "${static[@]}"; then
+      runs "library_answers_$cc" '' "./answers_$cc"
+    fi
+  fi
+done
+
+if has library_by_pkg_config pkg-config cc; then
+  read -r -a words < <(PKG_CONFIG_PATH=$prefix/lib/pkgconfig pkg-config --cflags --libs roam)
+  if builds library_by_pkg_config cc -std=c99 -o flight_shared "$uses/flight.c" "${words[@]}"; then
+    runs library_by_pkg_config '10 frames' env LD_LIBRARY_PATH="$prefix/lib" ./flight_shared "$jacksboro" 2000 90 10
+  fi
+fi
+
+if has library_by_cmake cmake make; then
+  if builds library_by_cmake cmake -S "$tests" -B by_cmake -DCMAKE_PREFIX_PATH="$prefix" -DEXAMPLES="$uses" &&
+    builds library_by_cmake cmake --build by_cmake; then
+    runs library_by_cmake 'triangles of' by_cmake/first_frame
+    runs library_by_cmake_shared '10 frames' by_cmake/flight "$jacksboro" 2000 90 10
+  fi
+fi
+
+# --- The same under sanitizers, from libFuzzer, and in valgrind. ---
+
+sanitized=(-g -O1 '-fsanitize=address,undefined' -fno-sanitize-recover=all)
+sanitizer=
+echo 'int main(void) { return 0; }' >empty.c
+for cc in clang gcc; do
+  "$cc" "${sanitized[@]}" -o empty empty.c >said 2>&1 && ./empty && sanitizer=$cc && break
+done
+if [ -n "$sanitizer" ]; then
+  c=("$sanitizer" "${sanitized[@]}")
+  cpp=("${sanitizer/gcc/g}" "${sanitized[@]}")
+  cpp[0]+=++
+  if builds library_flight_sanitized "${c[@]}" -std=c99 -o flight_sanitized "$uses/flight.c" "${static[@]}"; then
+    runs library_flight_sanitized '20 frames' ./flight_sanitized "$jacksboro" 2000 90 20
+  fi
+  if builds library_threads_sanitized "${cpp[@]}" -std=c++17 -pthread -o threads_sanitized "$uses/threads.cpp" "${static[@]}"; then
+    runs library_threads_sanitized 'one after the other' ./threads_sanitized
+  fi
+  if builds library_calls_sanitized "${c[@]}" -std=c99 -o calls_sanitized "$tests/calls.c" "${static[@]}"; then
+    runs library_calls_sanitized state ./calls_sanitized 2 200000
+    runs library_ends_sanitized 'each refused in turn' ./calls_sanitized ends
+  fi
+else
+  skip library_sanitized 'no compiler with the sanitizers of addresses and undefined behaviour is there'
+fi
+
+if has library_fuzzed clang; then
+  if clang -g -O1 -std=c99 -DFUZZER -fsanitize=fuzzer,address,undefined -fno-sanitize-recover=all -o fuzzed "$tests/calls.c" "${static[@]}" >said 2>&1; then
+    runs library_fuzzed 'Done 20000 runs' ./fuzzed -seed=1 -runs=20000 -max_len=4096 -len_control=0
+  else
+    skip library_fuzzed 'clang has no libFuzzer'
+  fi
+fi
+
+if has library_in_valgrind valgrind cc; then
+  watched=(valgrind -q --error-exitcode=9 --leak-check=full --show-leak-kinds=all --errors-for-leak-kinds=all)
+  if builds library_calls_in_valgrind cc -std=c99 -g -O1 -o calls_watched "$tests/calls.c" "${static[@]}"; then
+    runs library_calls_in_valgrind state "${watched[@]}" ./calls_watched 3 2000
+  fi
+  if builds library_flight_in_valgrind cc -std=c99 -g -O1 -o flight_watched "$uses/flight.c" "${static[@]}"; then
+    runs library_flight_in_valgrind '4 frames' "${watched[@]}" ./flight_watched "$jacksboro" 500 90 4
+  fi
+fi
+
+# --- Python, with numpy and without: the doctest, the examples' reports, what is refused, and sessions against the definitions. ---
+
+if has library_python python3; then
+  mkdir without
+  echo 'raise ImportError("not here")' >without/numpy.py
+  for kind in numpy plain; do
+    path=$prefix/lib/python
+    if [ $kind = plain ]; then
+      path=$PWD/without:$path
+    elif ! python3 -c 'import numpy' 2>/dev/null; then
+      skip library_python_numpy 'numpy is not there'
+      continue
+    fi
+    python=(env PYTHONPATH="$path${PYTHONPATH:+:$PYTHONPATH}" PYTHONDONTWRITEBYTECODE=1 ROAM_LIBRARY="$prefix/lib/libroam.so" python3)
+    runs "library_python_doctest_$kind" '' "${python[@]}" -m doctest "$prefix/lib/python/roam.py"
+    runs "library_python_jacksboro_$kind" 'outside 193' "${python[@]}" "$uses/jacksboro.py"
+    runs "library_python_refusals_$kind" '' "${python[@]}" "$tests/refusals.py"
+    runs "library_python_sessions_$kind" '100 sessions' "${python[@]}" "$tests/sessions.py" 1 100
+  done
+fi

@@ -1,0 +1,492 @@
+/* Every call of roam.h with arguments at the ends of their ranges and random ones. Each answer is compared with what the
+ * header says, written anew here; after each call the state is compared with a model; what a refused call may not write is
+ * compared byte by byte; and each mesh is tested. Allocations fail now and then, and at the end no block is left.
+ * usage: calls SEED COUNT       until each call was made COUNT times
+ *        calls ends             each side, each allocation refused in turn, and an engine that is worn
+ * With -DFUZZER the numbers are those of libFuzzer. */
+#include "roam.h"
+#include <stdbool.h>
+#include <stdio.h>
+#include <stdlib.h>
+#include <string.h>
+
+/* --- The heap, which counts its blocks and fails where it is told to. --- */
+
+struct block { bool is_there; void *at; };
+static long blocks, left = -1; /* left: allocations that succeed before one fails; -1: all */
+static bool has_failed;
+static char nothing;
+
+static struct block told(void *at) { struct block it = { at != NULL, at != NULL ? at : &nothing }; return it; }
+static bool fails(void) {
+    if (left != 0) { left -= left > 0; return false; }
+    return has_failed = true;
+}
+struct block rattle_alloc(size_t size, size_t align) {
+    void *at = fails() ? NULL : malloc(size != 0 ? size : align);
+    blocks += at != NULL;
+    return told(at);
+}
+struct block rattle_realloc(void *at, size_t size, size_t next, size_t align) {
+    (void)size;
+    return told(fails() ? NULL : realloc(at, next != 0 ? next : align));
+}
+void rattle_dealloc(void *at) { blocks--, free(at); }
+
+/* --- The numbers. --- */
+
+static uint64_t seed;
+static const uint8_t *bytes; /* where there are bytes, numbers are drawn from them */
+static size_t byte_count;
+
+static uint64_t word(void) {
+    if (bytes != NULL) {
+        uint64_t it = 0;
+        for (int k = 0; k < 8 && byte_count > 0; k++, byte_count--) it = it << 8 | *bytes++;
+        return it;
+    }
+    uint64_t it = seed += 0x9E3779B97F4A7C15u;
+    it = (it ^ it >> 30) * 0xBF58476D1CE4E5B9u;
+    it = (it ^ it >> 27) * 0x94D049BB133111EBu;
+    return it ^ it >> 31;
+}
+static size_t below(size_t end) {
+    if (bytes == NULL || end > 256) return (size_t)(word() % end);
+    return byte_count > 0 ? (byte_count--, *bytes++) % end : 0;
+}
+
+/* --- What a call has to answer, and what has to hold after it. --- */
+
+enum { OPEN, CLOSE, CAMERA, ADD_PLANE, CLEAR_PLANES, BUDGET, SET, RAISE, FRAME, INDICES, LEAVES, CHANGES, STATE, CALLS };
+static const char *const names[CALLS] = { "open", "close", "camera", "add_plane", "clear_planes", "budget", "set", "raise", "frame", "indices", "leaves", "changes", "state" };
+static unsigned long made[CALLS], refused[CALLS][13];
+static int call; /* the one that is being made */
+
+static void must(bool holds, const char *what) {
+    if (holds) return;
+    fprintf(stderr, "calls: roam_%s: %s\n", names[call], what);
+    abort();
+}
+static void answers(int32_t answer, int32_t wanted) {
+    made[call]++;
+    if (answer >= 0 && answer <= 12) refused[call][answer]++;
+    if (answer == wanted) return;
+    fprintf(stderr, "calls: roam_%s answers %d, not %d\n", names[call], (int)answer, (int)wanted);
+    abort();
+}
+
+enum { SIDE = 33, POINTS = SIDE * SIDE, MOST = 2 * (SIDE - 1) * (SIDE - 1), ENGINES = 3, ROOM = 3 * MOST + 8 };
+static uint16_t heights[POINTS];
+static struct engine {
+    roam_handle handle;
+    bool is_open;
+    roam_state_note state;
+    int64_t camera[3];
+    uint32_t triangles, before_count, before[MOST]; /* of the last frame, and the leaves that were written last */
+} engines[ENGINES];
+static uint32_t list[ROOM], other[ROOM], gone[ROOM], come[ROOM];
+
+static void fill(void *at, size_t size) { memset(at, 0xA5, size); }
+static bool is_filled(const void *at, size_t size) {
+    const uint8_t *byte = at;
+    return size == 0 || (byte[0] == 0xA5 && memcmp(byte, byte + 1, size - 1) == 0);
+}
+
+static void test_state(struct engine *e) {
+    roam_state_note it;
+    int was = call;
+    call = STATE;
+    fill(&it, sizeof it);
+    answers(roam_state(&e->handle, &it), e->is_open ? ROAM_OK : ROAM_IS_EMPTY);
+    call = was;
+    if (!e->is_open) {
+        must(is_filled(&it, sizeof it), "a refused call has written");
+        return;
+    }
+    must(it.side == e->state.side && it.most == e->state.most && it.budget == e->state.budget && it.planes == e->state.planes, "the state is another");
+    must(it.way == e->state.way && it.frames == e->state.frames, "the way or the frames are others");
+    must(call == FRAME ? it.evaluations >= e->state.evaluations : it.evaluations == e->state.evaluations, "the evaluations are others");
+    e->state.evaluations = it.evaluations;
+}
+
+/* The number of the grid's level, or 0. */
+static unsigned level_of(size_t count) {
+    for (unsigned n = 1; n <= 11; n++) if (count == ((size_t)1 << n | 1) * ((size_t)1 << n | 1)) return n;
+    return 0;
+}
+
+static void do_open(struct engine *e, const uint16_t *from, size_t count, uint32_t budget, uint32_t spacing) {
+    call = OPEN;
+    long held = blocks;
+    has_failed = false;
+    int32_t wanted = level_of(count) == 0 ? ROAM_BAD_GRID : budget < 2 || budget > 1048576 ? ROAM_BAD_BUDGET
+                     : spacing < 1 || spacing > 1024 ? ROAM_BAD_SPACING : ROAM_OK;
+    int32_t answer = roam_open(&e->handle, from, count, budget, spacing);
+    left = -1;
+    if (wanted == ROAM_OK && has_failed) wanted = ROAM_NO_MEMORY;
+    answers(answer, wanted);
+    if (answer != ROAM_OK) must(blocks == held, "a refused call has left memory behind");
+    if (answer == ROAM_OK) {
+        memset(&e->state, 0, sizeof e->state);
+        memset(e->camera, 0, sizeof e->camera);
+        e->state.side = ((size_t)1 << level_of(count)) + 1;
+        e->state.most = e->state.budget = budget;
+        e->is_open = true, e->triangles = 2, e->before_count = 0;
+    }
+    test_state(e);
+}
+
+static void do_close(struct engine *e) {
+    call = CLOSE;
+    answers(roam_close(&e->handle), e->is_open ? ROAM_OK : ROAM_IS_EMPTY);
+    e->is_open = false;
+    test_state(e);
+}
+
+static uint64_t distance(int64_t a, int64_t b) { return a < b ? (uint64_t)(b - a) : (uint64_t)(a - b); }
+static bool is_within(int64_t a, int64_t end) { return -end <= a && a <= end; }
+
+static void do_camera(struct engine *e, int64_t x, int64_t y, int64_t z) {
+    call = CAMERA;
+    const int64_t end = (int64_t)1 << 30;
+    bool is_place = is_within(x, end) && is_within(y, end) && is_within(z, end);
+    answers(roam_camera(&e->handle, x, y, z), !e->is_open ? ROAM_IS_EMPTY : is_place ? ROAM_OK : ROAM_BAD_CAMERA);
+    if (e->is_open && is_place) {
+        e->state.way += distance(e->camera[0], x) + distance(e->camera[1], y) + distance(e->camera[2], z);
+        e->camera[0] = x, e->camera[1] = y, e->camera[2] = z;
+    }
+    test_state(e);
+}
+
+static void do_add_plane(struct engine *e, int64_t a, int64_t b, int64_t c, int64_t d) {
+    call = ADD_PLANE;
+    const int64_t slope = (int64_t)1 << 20, offset = (int64_t)1 << 50;
+    bool is_plane = is_within(a, slope) && is_within(b, slope) && is_within(c, slope) && is_within(d, offset);
+    int32_t wanted = !e->is_open ? ROAM_IS_EMPTY : !is_plane ? ROAM_BAD_PLANE : e->state.planes >= 6 ? ROAM_TOO_MANY_PLANES : ROAM_OK;
+    answers(roam_add_plane(&e->handle, a, b, c, d), wanted);
+    e->state.planes += wanted == ROAM_OK;
+    test_state(e);
+}
+
+static void do_clear_planes(struct engine *e) {
+    call = CLEAR_PLANES;
+    answers(roam_clear_planes(&e->handle), e->is_open ? ROAM_OK : ROAM_IS_EMPTY);
+    e->state.planes = 0;
+    test_state(e);
+}
+
+static void do_budget(struct engine *e, uint32_t budget) {
+    call = BUDGET;
+    bool is_budget = 2 <= budget && budget <= e->state.most;
+    answers(roam_budget(&e->handle, budget), !e->is_open ? ROAM_IS_EMPTY : is_budget ? ROAM_OK : ROAM_BAD_BUDGET);
+    if (e->is_open && is_budget) e->state.budget = budget;
+    test_state(e);
+}
+
+static void do_set(struct engine *e, uint32_t x, uint32_t y, uint16_t height) {
+    call = SET;
+    bool is_point = x < e->state.side && y < e->state.side;
+    answers(roam_set(&e->handle, x, y, height), !e->is_open ? ROAM_IS_EMPTY : is_point ? ROAM_OK : ROAM_OUTSIDE_GRID);
+    test_state(e);
+}
+
+static void do_raise(struct engine *e, uint32_t x0, uint32_t y0, uint32_t x1, uint32_t y1, int32_t dz) {
+    call = RAISE;
+    bool is_area = x0 <= x1 && y0 <= y1 && x1 < e->state.side && y1 < e->state.side;
+    int32_t wanted = !e->is_open ? ROAM_IS_EMPTY : !is_area ? ROAM_OUTSIDE_GRID : is_within(dz, 65535) ? ROAM_OK : ROAM_BAD_CHANGE;
+    answers(roam_raise(&e->handle, x0, y0, x1, y1, dz), wanted);
+    test_state(e);
+}
+
+static void do_frame(struct engine *e) {
+    call = FRAME;
+    roam_frame_note it;
+    fill(&it, sizeof it);
+    int32_t wanted = !e->is_open ? ROAM_IS_EMPTY : e->state.frames >= 1000000 ? ROAM_WORN : ROAM_OK;
+    answers(roam_frame(&e->handle, &it), wanted);
+    if (wanted == ROAM_OK) {
+        must(2 <= it.triangles && it.triangles <= e->state.budget, "the mesh is not within the budget");
+        must(it.triangles <= 2 * (e->state.side - 1) * (e->state.side - 1), "more triangles than the grid has");
+        must(it.blocking == 0 ? it.worst == 0 && it.need == 0 : it.worst > 0 && it.need > e->state.budget, "the certificate");
+        must(it.triangles - e->triangles == it.splits - it.merges, "splits and merges do not lead to the mesh");
+        must(it.inside + it.cut + it.outside == (e->state.planes > 0 ? it.triangles : 0), "the counts by planes");
+        must(it.spare == 0, "spare");
+        e->triangles = it.triangles;
+        e->state.frames++;
+    } else {
+        must(is_filled(&it, sizeof it), "a refused call has written");
+    }
+    test_state(e);
+}
+
+static unsigned level(uint32_t address) { unsigned it = 0; while (address >> it > 3) it++; return it; }
+
+/* The corners of an address as places in the heights, by the halves on the way to it. */
+static void corners(uint32_t address, size_t side, uint32_t place[3]) {
+    long m = (long)side - 1, at[3][2] = { { 0, 0 }, { m, 0 }, { 0, m } };
+    if (address >> level(address) == 3) at[0][0] = at[0][1] = m, at[1][0] = 0, at[1][1] = m, at[2][0] = m, at[2][1] = 0;
+    for (unsigned k = level(address); k-- > 0;) {
+        long middle[2] = { (at[1][0] + at[2][0]) / 2, (at[1][1] + at[2][1]) / 2 };
+        int kept = (address >> k & 1) == 0 ? 1 : 2; /* the end of the base that the half has */
+        if (kept == 1) memcpy(at[2], at[1], sizeof at[2]), memcpy(at[1], at[0], sizeof at[1]);
+        else memcpy(at[1], at[2], sizeof at[1]), memcpy(at[2], at[0], sizeof at[2]);
+        memcpy(at[0], middle, sizeof middle);
+    }
+    for (int c = 0; c < 3; c++) place[c] = (uint32_t)(((long)side - 1 - at[c][1]) * (long)side + at[c][0]);
+}
+
+/* Leaves in order cover the square once: each begins where the one before ends. */
+static void test_leaves(const uint32_t *leaf, uint32_t count, size_t side) {
+    uint32_t end = (uint32_t)2 << 22;
+    for (uint32_t k = 0; k < count; k++) {
+        must(leaf[k] >= 2 && leaf[k] < 4 * (uint32_t)((side - 1) * (side - 1)), "an address that the grid does not have");
+        must(leaf[k] << (22 - level(leaf[k])) == end, "the leaves do not lie one behind the other");
+        end += (uint32_t)1 << (22 - level(leaf[k]));
+    }
+    must(end == (uint32_t)4 << 22, "the leaves do not cover the square");
+}
+
+/* Of a list of addresses and a list of indices, `each` numbers a triangle. */
+static void do_list(struct engine *e, size_t places, unsigned each) {
+    call = each == 3 ? INDICES : LEAVES;
+    size_t triangles;
+    if (places > ROOM) places = ROOM;
+    fill(list, sizeof list), fill(&triangles, sizeof triangles);
+    int32_t answer = each == 3 ? roam_indices(&e->handle, list, places, &triangles) : roam_leaves(&e->handle, list, places, &triangles);
+    int32_t wanted = !e->is_open ? ROAM_IS_EMPTY : places < each * (size_t)e->triangles ? ROAM_NO_ROOM : ROAM_OK;
+    answers(answer, wanted);
+    size_t written = wanted == ROAM_OK ? each * (size_t)e->triangles : 0;
+    must(is_filled(list + written, sizeof list - written * sizeof *list), "places were written that no triangle has");
+    if (wanted != ROAM_OK) {
+        must(is_filled(&triangles, sizeof triangles), "a refused call has written");
+    } else {
+        must(triangles == e->triangles, "the count is not that of the frame");
+        if (each == 1) {
+            test_leaves(list, e->triangles, e->state.side);
+            memcpy(e->before, list, written * sizeof *list);
+            e->before_count = e->triangles;
+        } else {
+            call = LEAVES;
+            answers(roam_leaves(&e->handle, other, ROOM, &triangles), ROAM_OK);
+            call = INDICES;
+            for (uint32_t k = 0; k < e->triangles; k++) {
+                uint32_t place[3];
+                corners(other[k], e->state.side, place);
+                must(memcmp(place, list + 3 * k, sizeof place) == 0, "the indices are not the corners of the leaves");
+            }
+        }
+    }
+    test_state(e);
+}
+
+static bool has(const uint32_t *in, size_t count, uint32_t address) {
+    for (size_t k = 0; k < count; k++) if (in[k] == address) return true;
+    return false;
+}
+/* What the first list has alone, in its order, with as many as there is room for, and untouched places behind. */
+static void test_alone(const uint32_t *first, size_t firsts, const uint32_t *second, size_t seconds, const uint32_t *out, size_t space, size_t count) {
+    size_t alone = 0;
+    for (size_t k = 0; k < firsts; k++) {
+        if (has(second, seconds, first[k])) continue;
+        must(alone >= space || out[alone] == first[k], "an address is missing, or stands in another place");
+        alone++;
+    }
+    must(count == alone, "the count is another");
+    if (alone < space) space = alone;
+    must(is_filled(out + space, (ROOM - space) * sizeof *out), "places were written for which there was no room");
+}
+
+static void do_changes(const struct engine *a, const struct engine *b, size_t gone_room, size_t come_room, bool is_strange) {
+    call = CHANGES;
+    roam_changes_note it;
+    fill(gone, sizeof gone), fill(come, sizeof come), fill(&it, sizeof it);
+    size_t befores = a->before_count, afters = b->before_count;
+    memcpy(list, a->before, sizeof a->before), memcpy(other, b->before, sizeof b->before);
+    if (is_strange && befores + afters > 0) for (int k = 0; k < 3; k++) {
+        uint32_t *in = below(2) ? list : other;
+        in[below(MOST)] = (uint32_t)word() >> below(32);
+    }
+    bool is_one_grid = a->state.side == b->state.side || befores == 0 || afters == 0;
+    roam_changes(list, befores, other, afters, gone, gone_room, come, come_room, &it);
+    answers(ROAM_OK, ROAM_OK);
+    if (is_strange || !is_one_grid) { /* no lists of one grid: any counts, but nothing beyond the room */
+        must(is_filled(gone + gone_room, (ROOM - gone_room) * sizeof *gone), "places were written for which there was no room");
+        must(is_filled(come + come_room, (ROOM - come_room) * sizeof *come), "places were written for which there was no room");
+        return;
+    }
+    test_alone(list, befores, other, afters, gone, gone_room, it.gone);
+    test_alone(other, afters, list, befores, come, come_room, it.come);
+}
+
+/* --- Arguments at the ends of their ranges, and random ones. --- */
+
+#define OF(table) (table)[below(sizeof(table) / sizeof *(table))]
+
+static int64_t signed_number(void) {
+    static const int64_t ends[] = { 20, 30, 50, 63 };
+    int64_t end = OF(ends), power = (int64_t)((uint64_t)1 << (end < 63 ? end : 0)), one = (int64_t)below(3) - 1;
+    switch (below(5)) {
+    case 0: return power + one;
+    case 1: return -power - one;
+    case 2: return below(2) ? INT64_MIN : INT64_MAX;
+    case 3: return (int64_t)below(4000) - 1000;
+    default: return (int64_t)(word() >> below(64)) * (below(2) ? 1 : -1);
+    }
+}
+/* One that a call mostly takes. */
+static int64_t place_number(void) { return below(8) ? (int64_t)below(3000) - 500 : signed_number(); }
+static uint32_t number(uint32_t end) {
+    const uint32_t ends[] = { 0, 1, 2, end - 1, end, end + 1, (uint32_t)INT32_MAX, (uint32_t)INT32_MAX + 1, UINT32_MAX };
+    return below(4) == 0 ? OF(ends) : (uint32_t)below((size_t)end + 1);
+}
+static size_t room_for(size_t count) {
+    const size_t rooms[] = { 0, 1, 2, count > 0 ? count - 1 : 0, count, count, count, count + 1, count + 2, ROOM };
+    size_t it = OF(rooms);
+    return it < ROOM ? it : ROOM;
+}
+
+static void open_some(struct engine *e) {
+    static const size_t counts[] = { 9, 9, 25, 25, 81, 81, 289, 1089, 0, 1, 4, 8, 10, 16, 24, 26, 80, 82, 290, 1088 };
+    static const uint32_t budgets[] = { 0, 1, 2, 3, 1048577, UINT32_MAX };
+    static const uint32_t spacings[] = { 0, 1, 2, 1023, 1024, 1025, UINT32_MAX };
+    unsigned rough = (unsigned)below(17);
+    for (int k = 0; k < POINTS && below(4) == 0; k++) heights[below(POINTS)] = (uint16_t)(word() >> rough);
+    if (below(16) == 0) left = (long)below(32);
+    do_open(e, heights, OF(counts), below(8) ? 2 + (uint32_t)below(300) : OF(budgets), below(4) ? 1 + (uint32_t)below(40) : OF(spacings));
+    left = -1;
+}
+
+static void step(void) {
+    struct engine *e = &engines[below(ENGINES)];
+    uint32_t side = e->is_open ? (uint32_t)e->state.side : 5;
+    switch (below(CALLS)) {
+    case OPEN: open_some(e); break;
+    case CLOSE:
+        do_close(e);
+        while (!e->is_open && below(8)) open_some(e);
+        break;
+    case CAMERA: do_camera(e, place_number(), place_number(), place_number()); break;
+    case ADD_PLANE:
+        for (size_t more = below(4) ? 1 : below(9); more > 0; more--)
+            do_add_plane(e, (int64_t)below(9) - 4, (int64_t)below(9) - 4, (int64_t)below(9) - 4, (int64_t)below(2000) - 1000);
+        do_add_plane(e, signed_number(), place_number(), place_number(), signed_number());
+        break;
+    case CLEAR_PLANES: do_clear_planes(e); break;
+    case BUDGET: do_budget(e, number(e->is_open ? e->state.most : 9)); break;
+    case SET: do_set(e, number(side), number(side), (uint16_t)(word() >> below(64))); break;
+    case RAISE: {
+        static const int32_t ends[] = { 0, 1, -1, 65535, -65535, 65536, -65536, INT32_MAX, INT32_MIN };
+        uint32_t x = number(side), y = number(side), is_free = below(4) == 0;
+        do_raise(e, x, y, is_free ? number(side) : x + (uint32_t)below(3), is_free ? number(side) : y + (uint32_t)below(3),
+                 below(2) ? (int32_t)below(900) - 450 : OF(ends));
+        break;
+    }
+    case FRAME: do_frame(e); break;
+    case INDICES: do_list(e, room_for(3 * (size_t)e->triangles), 3); break;
+    case LEAVES: do_list(e, room_for(e->triangles), 1); break;
+    case CHANGES: {
+        const struct engine *b = &engines[below(ENGINES)];
+        do_changes(e, b, room_for(e->before_count), room_for(b->before_count), below(4) == 0);
+        break;
+    }
+    default: test_state(e); break;
+    }
+}
+
+static void start(void) {
+    const roam_handle empty = ROAM_EMPTY;
+    memset(engines, 0, sizeof engines);
+    engines[0].handle = empty;
+    for (int k = 0; k < POINTS; k++) heights[k] = (uint16_t)(k * 7919 % 211);
+}
+static void finish(void) {
+    for (int k = 0; k < ENGINES; k++) if (engines[k].is_open) do_close(&engines[k]);
+    must(blocks == 0, "blocks are left when all is closed");
+}
+
+#ifdef FUZZER
+int LLVMFuzzerTestOneInput(const uint8_t *data, size_t size) {
+    bytes = data, byte_count = size;
+    start();
+    while (byte_count > 0) step();
+    finish();
+    return 0;
+}
+#else
+/* --- What random calls do not come to. --- */
+
+static void test_sides(void) {
+    struct engine *e = &engines[0];
+    size_t most = (size_t)2049 * 2049;
+    uint16_t *large = calloc(most + 1, sizeof *large);
+    must(large != NULL, "out of memory");
+    for (unsigned n = 1; n <= 11; n++) {
+        size_t count = ((size_t)1 << n | 1) * ((size_t)1 << n | 1);
+        do_open(e, large, count - 1, 2, 1);
+        do_open(e, large, count + 1, 2, 1);
+        do_open(e, large, count, n == 11 ? 1048576 : 2, 1024);
+        do_set(e, 1u << n, 1u << n, 65535), do_set(e, (1u << n) + 1, 0, 1), do_set(e, 0, (1u << n) + 1, 1);
+        do_raise(e, 0, 0, 1u << n, 1u << n, 65535), do_raise(e, 0, 0, (1u << n) + 1, 1u << n, 1);
+        do_budget(e, 2);
+        do_frame(e);
+    }
+    do_close(e);
+    free(large);
+}
+
+static void test_refused_allocations(void) {
+    struct engine *e = &engines[0];
+    long count = 0;
+    for (int is_full = 0; is_full < 2; is_full++) { /* over an empty handle, and over one whose engine has to stay */
+        do_open(e, heights, 81, 40, 3);
+        if (!is_full) do_close(e);
+        for (count = 0;; count++) {
+            left = count;
+            do_open(e, heights, 289, 60, 5);
+            if (!has_failed) break;
+            must(e->is_open == (is_full == 1), "a refused open has changed the handle");
+            if (is_full) do_frame(e), do_list(e, ROOM, 3);
+        }
+        do_frame(e);
+        do_close(e);
+    }
+    must(count >= 3, "hardly any allocation was refused");
+    left = 0; /* no call but open takes memory */
+    do_close(e);
+    left = -1;
+    printf("%ld allocations, each refused in turn\n", count);
+}
+
+static void test_worn(void) {
+    struct engine *e = &engines[0];
+    do_open(e, heights, 9, 8, 1);
+    while (e->state.frames < 1000000) do_frame(e);
+    do_frame(e), do_camera(e, 1, 2, 3), do_frame(e), do_list(e, ROOM, 3);
+    do_open(e, heights, 9, 8, 1);
+    do_frame(e);
+    do_close(e);
+}
+
+int main(int argc, char **argv) {
+    start();
+    if (argc == 2 && strcmp(argv[1], "ends") == 0) {
+        test_sides(), test_refused_allocations(), test_worn();
+        finish();
+        return 0;
+    }
+    if (argc != 3) return fprintf(stderr, "usage: calls SEED COUNT, or calls ends\n"), 2;
+    seed = strtoull(argv[1], NULL, 10);
+    unsigned long wanted = strtoul(argv[2], NULL, 10);
+    for (int k = 0; k < CALLS;) {
+        step();
+        while (k < CALLS && made[k] >= wanted) k++;
+    }
+    finish();
+    for (int k = 0; k < CALLS; k++) {
+        printf("%s %lu", names[k], made[k]);
+        for (int a = 1; a <= 12; a++) if (refused[k][a] > 0) printf(" %d:%lu", a, refused[k][a]);
+        printf("\n");
+    }
+    return 0;
+}
+#endif

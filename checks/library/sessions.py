@@ -1,0 +1,112 @@
+#!/usr/bin/env python3
+"""Random sessions of the library against the definitions (terrain.py, frames.py), of which it knows nothing: after each
+frame the addresses of the mesh, its indices and each number of the note; between frames what changed.
+
+usage: sessions.py SEED COUNT      with roam.py on PYTHONPATH"""
+import os
+import random
+import sys
+
+sys.path.insert(0, os.path.dirname(os.path.dirname(os.path.abspath(__file__))))
+
+from frames import View, frame_of, leaves_of, run_of_steps, vertices_of  # noqa: E402
+from scripts import carry_out  # noqa: E402
+from terrain import Terrain  # noqa: E402
+
+import roam  # noqa: E402
+
+
+def flat(found):
+    """The numbers of an array or of a list of tuples."""
+    return [int(k) for row in found for k in row]
+
+
+class Session:
+    """One engine, and beside it the terrain as the definitions have it."""
+
+    def __init__(self, draw):
+        self.draw, n = draw, draw.choice([1, 1, 2, 2, 3])
+        self.side = 2 ** n + 1
+        rough = draw.choice([1, 9, 300, 65_535])
+        heights = [draw.randint(0, rough) for _ in range(self.side ** 2)]
+        most, spacing = draw.choice([2, 3, draw.randint(2, 2 * 4 ** n + 1)]), draw.choice([1, draw.randint(1, 60), 1024])
+        points = {(k % self.side, self.side - 1 - k // self.side): height for k, height in enumerate(heights)}
+        self.most, self.before, self.leaves = most, set(), []
+        self.terrain = Terrain((n, 65_535, points), spacing, most)
+        self.engine = roam.Engine(heights, most, spacing)
+        self.reach = spacing * self.side + 100
+
+    def point(self):
+        return [self.draw.randrange(self.side) for _ in range(2)]
+
+    def change(self):
+        """One change, of the engine and of the terrain."""
+        draw, kind = self.draw, self.draw.choice([b"camera", b"camera", b"set", b"raise", b"plane", b"noplanes", b"budget"])
+        if kind == b"camera":
+            values = [draw.randint(-self.reach, self.reach) for _ in range(3)]
+            if draw.randrange(9) == 0:
+                values[draw.randrange(3)] = draw.choice([-2 ** 30, 2 ** 30])
+            self.engine.camera(*values)
+        elif kind == b"set":
+            values = [*self.point(), draw.choice([0, 65_535, draw.randint(0, 400)])]
+            self.engine.set(*values)
+        elif kind == b"raise":
+            (x0, y0), (x1, y1) = self.point(), self.point()
+            values = [min(x0, x1), min(y0, y1), max(x0, x1), max(y0, y1), draw.choice([-65_535, 65_535, draw.randint(-90, 90)])]
+            self.engine.raise_area(*values)
+        elif kind == b"plane" and len(self.terrain.planes) < 6:
+            values = [draw.randint(-3, 3) for _ in range(3)] + [draw.randint(-self.reach, self.reach)]
+            if draw.randrange(9) == 0:
+                values = [draw.choice([-1, 1]) * 2 ** 20 for _ in range(3)] + [draw.choice([-1, 1]) * 2 ** 50]
+            self.engine.add_plane(*values)
+        elif kind == b"budget":
+            values = [draw.randint(2, self.most)]
+            self.engine.budget(*values)
+        else:
+            kind, values = b"noplanes", []
+            self.engine.clear_planes()
+        carry_out(self.terrain, kind, values)
+
+    def frame(self):
+        """One frame, and what is wrong with it."""
+        terrain, note = self.terrain, self.engine.frame()
+        view = View(terrain)
+        split, blocked = frame_of(terrain, view)
+        reached, splits, merges = run_of_steps(terrain, view, self.before)
+        assert reached == split, "the frame steps lead elsewhere than to the frame of the budget"
+        leaves = leaves_of(split)
+        marks = [terrain.mark(a) for a in leaves] if terrain.planes else []
+        counts = (marks.count(kind) for kind in ("inside", "cut", "outside"))
+        wanted = roam.Note(view.worst(leaves), len(leaves), len(vertices_of(terrain, leaves)), splits, merges, *(blocked or (0, 0)), *counts)
+        assert note == wanted, f"the note is {note}, not {wanted}"
+        places = [(self.side - 1 - y) * self.side + x for a in leaves for x, y in terrain.corners[a]]
+        assert flat(self.engine.indices()) == places, "the indices are others"
+        found = self.engine.leaves()
+        assert [int(a) for a in found] == leaves, f"the mesh is {list(found)}, not {leaves}"
+        gone, come = roam.changes(self.leaves if len(self.leaves) else found, found)
+        old = set(map(int, self.leaves)) if len(self.leaves) else set(leaves)
+        assert [int(a) for a in gone] == sorted_as(self.leaves, old - set(leaves)), "what went is another"
+        assert [int(a) for a in come] == sorted_as(leaves, set(leaves) - old), "what came is another"
+        self.before, self.leaves = split, found
+
+
+def sorted_as(these, wanted):
+    return [int(a) for a in these if int(a) in wanted]
+
+
+def main(seed, count):
+    for k in range(count):
+        session = Session(random.Random(f"{seed} {k}"))
+        with session.engine:
+            for frame in range(8):
+                for _ in range(session.draw.randrange(4)):
+                    session.change()
+                try:
+                    session.frame()
+                except AssertionError as why:
+                    sys.exit(f"session {k} of seed {seed}, frame {frame + 1}: {why}")
+    print(f"{count} sessions")
+
+
+if __name__ == "__main__":
+    main(int(sys.argv[1]), int(sys.argv[2]))

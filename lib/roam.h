@@ -1,0 +1,117 @@
+/* roam.h: meshes of few triangles of terrain, by a proved engine.
+ *
+ * What C owes, since no library can test it; everything else is tested, and answered by a number:
+ * 1. A handle begins as ROAM_EMPTY, or zeroed, and from then on only these functions write it.
+ * 2. A full handle has one owner. A copy takes its place, and then the old one is used no more.
+ * 3. One call at a time uses a handle. Different handles share nothing.
+ * 4. A pointer is valid for what its type and its count say, and is never null, not even where the count is 0.
+ * 5. What a call writes overlaps nothing else that the call is given.
+ * 6. A handle stays on the thread that opened it.
+ * 7. No call comes from a signal handler, or from the forked child of a process with threads.
+ * 8. The three functions of heap.c come from one allocator, and align blocks as malloc does.
+ */
+#ifndef ROAM_H
+#define ROAM_H
+#include <stddef.h>
+#include <stdint.h>
+#ifdef __cplusplus
+extern "C" {
+#endif
+
+/* What calls answer. Where two causes hold it is ROAM_IS_EMPTY, else the lesser number, and ROAM_NO_MEMORY last. A call that
+ * answers anything but ROAM_OK has changed nothing and written nothing. */
+enum roam_answer {
+    ROAM_OK = 0,
+    ROAM_NO_MEMORY = 1,       /* out of memory */
+    ROAM_BAD_GRID = 2,        /* the count of heights is not (2^n + 1)^2 with n from 1 to 11 */
+    ROAM_BAD_BUDGET = 3,      /* below 2, above 1048576, or above the budget that the engine was opened with */
+    ROAM_BAD_SPACING = 4,     /* 0, or above 1024 */
+    ROAM_BAD_CAMERA = 5,      /* a coordinate beyond -2^30 .. 2^30 */
+    ROAM_BAD_PLANE = 6,       /* a, b or c beyond -2^20 .. 2^20, or d beyond -2^50 .. 2^50 */
+    ROAM_TOO_MANY_PLANES = 7, /* six are in force */
+    ROAM_OUTSIDE_GRID = 8,    /* a point or an area that is not in the grid, or an empty area */
+    ROAM_BAD_CHANGE = 9,      /* dz beyond -65535 .. 65535 */
+    ROAM_WORN = 10,           /* 1000000 frames were made, or the camera has gone more than 2^61 units: open the engine anew */
+    ROAM_NO_ROOM = 11,        /* the array has too few places */
+    ROAM_IS_EMPTY = 12        /* the handle has no engine */
+};
+
+/* Owns an engine, or is empty. The fields are the library's. */
+typedef struct roam_handle {
+    uint64_t head;
+    void *at;
+} roam_handle;
+#define ROAM_EMPTY { 0, NULL }
+
+/* What a frame did, and what its mesh is. */
+typedef struct roam_frame_note {
+    uint64_t worst;                /* the greatest priority of a triangle of the mesh */
+    uint32_t triangles, vertices;
+    uint32_t splits, merges;       /* triangles split and merged in this frame */
+    uint32_t blocking;             /* the triangle of priority `worst` whose split does not fit the budget, or 0: all priorities are 0 */
+    uint32_t need;                 /* how many triangles the mesh would have with it split */
+    uint32_t inside, cut, outside; /* triangles by the planes in force; all 0 where there is none */
+    uint32_t spare;                /* 0 */
+} roam_frame_note;
+
+typedef struct roam_changes_note {
+    size_t gone, come;
+} roam_changes_note;
+
+typedef struct roam_state_note {
+    size_t side;          /* points of a side, 2^n + 1 */
+    uint64_t way;         /* how far the camera has gone, over the three axes, in world units */
+    uint64_t evaluations; /* how often a priority was evaluated */
+    uint32_t frames;      /* how many were made */
+    uint32_t most;        /* the budget that the engine was opened with */
+    uint32_t budget;      /* the budget in force */
+    uint32_t planes;      /* planes in force */
+} roam_state_note;
+
+/* Opens an engine over `count` heights: rows from the far side (greatest y) to the near one, each from left to right. They are
+ * copied. `budget` is the most triangles that a mesh may have, `spacing` the length of a grid step in units of height. All
+ * memory is taken here; no other call takes any. A full handle lets go of its engine, unless the call fails. */
+int32_t roam_open(roam_handle *h, const uint16_t *heights, size_t count, uint32_t budget, uint32_t spacing);
+
+/* Lets go of the engine; the handle is empty then. */
+int32_t roam_close(roam_handle *h);
+
+/* Puts the camera to a place, in world units: x and y are `spacing` to a grid step, z is one to a unit of height; the near
+ * left point of the grid is at (0, 0). An engine opens with the camera at (0, 0, 0). */
+int32_t roam_camera(roam_handle *h, int64_t x, int64_t y, int64_t z);
+
+/* Adds a view plane: its inside is where a x + b y + c z + d >= 0, in world units. What is outside has priority 0. */
+int32_t roam_add_plane(roam_handle *h, int64_t a, int64_t b, int64_t c, int64_t d);
+int32_t roam_clear_planes(roam_handle *h);
+
+/* Puts a budget in force, from 2 to the one that the engine was opened with. */
+int32_t roam_budget(roam_handle *h, uint32_t triangles);
+
+/* Sets the height of a grid point; x and y count grid steps, and (0, 0) is the near left point. */
+int32_t roam_set(roam_handle *h, uint32_t x, uint32_t y, uint16_t height);
+
+/* Raises the points from (x0, y0) to (x1, y1), both included, by dz; heights stay within 0 .. 65535. */
+int32_t roam_raise(roam_handle *h, uint32_t x0, uint32_t y0, uint32_t x1, uint32_t y1, int32_t dz);
+
+/* Makes the mesh of what stands now: it has no cracks, is within the budget in force, and no other such mesh has a lower `worst`. */
+int32_t roam_frame(roam_handle *h, roam_frame_note *out);
+
+/* Writes three indices for each triangle of the last frame's mesh, depth first: apex and the two ends of the base,
+ * counterclockwise from above. An index is a place in the array of heights, so one vertex buffer of all grid points serves
+ * every frame. `places` is the length of `out`; 3 times the greater of the budgets always suffices. */
+int32_t roam_indices(roam_handle *h, uint32_t *out, size_t places, size_t *triangles);
+
+/* Writes the address of each triangle, in the same order: a number from 2 to 2^24 - 1 that names it in every frame. */
+int32_t roam_leaves(roam_handle *h, uint32_t *out, size_t places, size_t *triangles);
+
+/* Of two lists that roam_leaves wrote for one grid: the addresses of the first alone, and of the second alone, and how many
+ * there are. Those for which there is no room are counted all the same. */
+void roam_changes(const uint32_t *before, size_t befores, const uint32_t *after, size_t afters, uint32_t *gone, size_t gone_room,
+                  uint32_t *come, size_t come_room, roam_changes_note *out);
+
+int32_t roam_state(roam_handle *h, roam_state_note *out);
+
+#ifdef __cplusplus
+}
+#endif
+#endif
