@@ -212,14 +212,36 @@ if [ -x "$single" ]; then
   # Flights of an engine over made heights: its tables, its first frame, and the mean of the frames behind it.
   for flight in 9_20000_0 9_20000_30 9_20000_602 11_20000_0 11_20000_30 11_20000_2409 11_100000_30 11_100000_2409 11_1048576_30; do
     IFS=_ read -r level most step <<<"$flight"
-    for ((k = 0; k < runs; k++)); do "$single" "fly_$flight"; done >"$room/flown"
-    tables=$(awk '$2 == "tables" { print $3 }' "$room/flown" | sort -n | head -n 1)
+    for ((k = 0; k < runs; k++)); do "$single" "fly_$flight"; done >"$room/flown_$flight"
+    tables=$(awk '$2 == "tables" { print $3 }' "$room/flown_$flight" | sort -n | head -n 1)
     echo "| an engine made over made heights, n = $level, budget $most | 1 call | $tables s | | |"
     for kind in first later; do
-      read -r _ _ count _ calls _ found _ seconds <<<"$(grep " $kind " "$room/flown" | sort -t ' ' -k 9 -n | head -n 1)"
+      read -r _ _ count _ calls _ found _ seconds <<<"$(grep " $kind " "$room/flown_$flight" | sort -t ' ' -k 9 -n | head -n 1)"
       echo "| its $kind frames, $step units a frame | $count frames, $calls evaluations, $found triangles split or merged | $(awk -v s="$seconds" -v n="$count" 'BEGIN { printf "%.2f", 1000 * s / n }') ms a frame | | |"
     done
   done
+  # The same flights through the calls of the C library, in processor time, least of the runs, beside the engine's own.
+  if command -v cc >"$room/said" && [ -f "$top/crates/roam_c/out/libroam_c.a" ] &&
+    cc -std=c99 -O2 -I"$top/lib" -o "$room/calls" "$top/bench/calls.c" "$top/crates/roam_c/out/libroam_c.a" 2>"$room/said"; then
+    for flight in 9_20000_30 9_20000_602 11_20000_30 11_100000_30; do
+      IFS=_ read -r level most step <<<"$flight"
+      for ((k = 0; k < runs; k++)); do "$room/calls" "$level" "$most" "$step"; done >"$room/called"
+      for name in open first later indices leaves changes planes turned camera state set raise edited; do
+        read -r _ count seconds _ asked _ changed <<<"$(grep "^$name " "$room/called" | sort -t ' ' -k 3 -g | head -n 1)"
+        beside=
+        case $name in
+        open) beside="an engine made $(awk '$2 == "tables" { print $3 }' "$room/flown_$flight" | sort -n | head -n 1) s" ;;
+        first | later)
+          beside=$(grep " $name " "$room/flown_$flight" | sort -t ' ' -k 9 -n | head -n 1 |
+            awk -v s="$seconds" '{ printf "the engine %.2f ms, calls / engine %.2f", 1000 * $9 / $3, s / $9 }')
+          ;;
+        esac
+        echo "| \`roam_c\`, n = $level, budget $most, $step units a frame: $name | $count calls${asked:+, $asked evaluations, $changed triangles split or merged} | $(awk -v s="$seconds" -v n="$count" 'BEGIN { t = s / n; if (t < 1e-4) printf "%.2f us a call", 1e6 * t; else printf "%.3f ms a call", 1e3 * t }') | $beside | |"
+      done
+    done
+  else
+    echo "bench/run.sh: there is no C compiler or no crates/roam_c/out/libroam_c.a, so its calls are not timed; lib/build makes it" >&2
+  fi
   # The pool of linked triangles: made; filled level by level, then emptied or planned over; refined by force.
   plain_pool=
   if command -v rustc >"$room/said" && rustc -O --edition 2021 "$top/bench/pool.rs" -o "$room/pool" 2>"$room/said"; then

@@ -1,0 +1,158 @@
+/* What the calls of the C library cost, over the generated grids of roam_bench and with its flights, in processor time of the
+ * thread; and how much memory an engine takes.
+ * usage: calls N BUDGET STEP      lines NAME CALLS SECONDS; the first and the later frames tell evaluations and changes, too
+ *        calls memory N BUDGET    the most bytes that were taken while an engine was opened, and those that it keeps */
+#define _POSIX_C_SOURCE 200809L
+#include "roam.h"
+#include <malloc.h>
+#include <stdbool.h>
+#include <stdio.h>
+#include <stdlib.h>
+#include <string.h>
+#include <time.h>
+
+/* The heap of heap.c, which counts what it has given out. */
+struct block { bool is_there; void *at; };
+static size_t held, most_held;
+static char nothing;
+static struct block told(void *at) {
+    struct block it = { at != NULL, at != NULL ? at : &nothing };
+    if (at != NULL) held += malloc_usable_size(at);
+    if (held > most_held) most_held = held;
+    return it;
+}
+struct block rattle_alloc(size_t size, size_t align) { return told(malloc(size != 0 ? size : align)); }
+struct block rattle_realloc(void *at, size_t size, size_t next, size_t align) {
+    (void)size;
+    held -= malloc_usable_size(at);
+    void *moved = realloc(at, next != 0 ? next : align);
+    if (moved == NULL) held += malloc_usable_size(at);
+    return told(moved);
+}
+void rattle_dealloc(void *at) { held -= malloc_usable_size(at), free(at); }
+
+/* The grid of `roam try N 1`, as docs/FORMATS.md has it. */
+static uint64_t mixed(uint64_t z) { return z * 6364136223846793005u + (z >> 32) * (z & 0xFFFFFFFFu) + 1442695040888963407u; }
+static uint64_t lattice(unsigned octave, uint64_t i, uint64_t j) { return mixed(mixed(mixed(mixed(1) + octave) + i) + j); }
+static uint64_t point(unsigned octave, uint64_t i, uint64_t j) { return mixed(lattice(octave, i, j)) >> 48; }
+static uint16_t *made_grid(unsigned n) {
+    size_t m = (size_t)1 << n, side = m + 1;
+    uint16_t *heights = calloc(side * side, sizeof *heights);
+    if (heights == NULL) exit(1);
+    for (unsigned octave = 0; octave <= n; octave++) {
+        uint64_t step = (uint64_t)1 << octave, width = m / step + 2, *at = calloc(width * width, sizeof *at);
+        if (at == NULL) exit(1);
+        for (uint64_t k = 0; k < width * width; k++) at[k] = point(octave, k % width, k / width);
+        for (size_t k = 0; k < side * side; k++) {
+            uint64_t x = k % side, y = m - k / side, i = x / step, a = x % step, j = y / step, b = y % step;
+            uint64_t low = at[j * width + i] * (step - a) + at[j * width + i + 1] * a;
+            uint64_t high = at[(j + 1) * width + i] * (step - a) + at[(j + 1) * width + i + 1] * a;
+            heights[k] = (uint16_t)(heights[k] + ((low * (step - b) + high * b) / (step * step) >> (n - octave + 1)));
+        }
+        free(at);
+    }
+    return heights;
+}
+
+static double now(void) {
+    struct timespec it;
+    clock_gettime(CLOCK_THREAD_CPUTIME_ID, &it);
+    return (double)it.tv_sec + 1e-9 * (double)it.tv_nsec;
+}
+static void must(int32_t answer) { if (answer != ROAM_OK) fprintf(stderr, "calls: answer %d\n", (int)answer), exit(1); }
+static void tell(const char *name, int calls, double seconds) { printf("%s %d %.9f\n", name, calls, seconds); }
+
+static roam_handle terrain = ROAM_EMPTY;
+static roam_frame_note note;
+static roam_state_note state;
+static uint64_t asked, changed;
+static double frame(void) {
+    must(roam_state(&terrain, &state));
+    uint64_t before = state.evaluations;
+    double start = now();
+    must(roam_frame(&terrain, &note));
+    start = now() - start;
+    must(roam_state(&terrain, &state));
+    asked += state.evaluations - before, changed += (uint64_t)note.splits + note.merges;
+    return start;
+}
+static void told_frames(const char *name, int count, double seconds) {
+    printf("%s %d %.9f evaluations %llu changes %llu\n", name, count, seconds, (unsigned long long)asked, (unsigned long long)changed);
+    asked = changed = 0;
+}
+
+int main(int argc, char **argv) {
+    bool is_memory = argc == 4 && strcmp(argv[1], "memory") == 0;
+    if (argc != 4) return fprintf(stderr, "usage: calls N BUDGET STEP, or calls memory N BUDGET\n"), 2;
+    unsigned n = (unsigned)atoi(argv[is_memory ? 2 : 1]);
+    uint32_t budget = (uint32_t)atol(argv[is_memory ? 3 : 2]);
+    int64_t step = atol(argv[3]), width = (int64_t)30 << n, x = width / 3, y = width / 2, z = 40000;
+    if (n < 1 || n > 11) return 2;
+    size_t side = ((size_t)1 << n) + 1, room = budget;
+    uint16_t *heights = made_grid(n);
+
+    double start = now();
+    must(roam_open(&terrain, heights, side * side, budget, 30));
+    tell("open", 1, now() - start);
+    if (is_memory) {
+        printf("most %zu kept %zu\n", most_held, held);
+        must(roam_close(&terrain));
+        return held != 0;
+    }
+    uint32_t *index = malloc(12 * room), *leaf = malloc(4 * room), *before = malloc(4 * room), *gone = malloc(4 * room), *come = malloc(4 * room);
+    if (!index || !leaf || !before || !gone || !come) return 1;
+    must(roam_camera(&terrain, x, y, z));
+    told_frames("first", 1, frame());
+
+    double in_frame = 0, in_indices = 0, in_leaves = 0, in_changes = 0;
+    size_t count = 0, befores = 0;
+    must(roam_leaves(&terrain, before, room, &befores));
+    for (int k = 1; k <= 10; k++) {
+        roam_changes_note both;
+        must(roam_camera(&terrain, x += step, y, z));
+        in_frame += frame();
+        start = now();
+        must(roam_indices(&terrain, index, 3 * room, &count));
+        in_indices += now() - start, start = now();
+        must(roam_leaves(&terrain, leaf, room, &count));
+        in_leaves += now() - start, start = now();
+        roam_changes(before, befores, leaf, count, gone, room, come, room, &both);
+        in_changes += now() - start;
+        uint32_t *swap = before;
+        before = leaf, leaf = swap, befores = count;
+    }
+    told_frames("later", 10, in_frame);
+    tell("indices", 10, in_indices), tell("leaves", 10, in_leaves), tell("changes", 10, in_changes);
+
+    /* A view of four planes that turns in each frame. */
+    in_frame = 0;
+    double in_planes = 0;
+    for (int k = 1; k <= 10; k++) {
+        must(roam_camera(&terrain, x += step, y, z));
+        start = now();
+        must(roam_clear_planes(&terrain));
+        must(roam_add_plane(&terrain, 1000, 1000 + k, 0, -1000 * x - (1000 + k) * y));
+        must(roam_add_plane(&terrain, -1000, 1000 - k, 0, 1000 * x - (1000 - k) * y));
+        must(roam_add_plane(&terrain, 0, 1000, 1500 + k, -1000 * y)), must(roam_add_plane(&terrain, 0, 1000, -1500, 1500 * z - 1000 * y));
+        in_planes += now() - start;
+        in_frame += frame();
+    }
+    tell("planes", 10, in_planes);
+    told_frames("turned", 10, in_frame);
+    must(roam_clear_planes(&terrain));
+    frame(), asked = changed = 0;
+
+    start = now();
+    for (int k = 0; k < 100000; k++) must(roam_camera(&terrain, x + k % 2, y, z));
+    tell("camera", 100000, now() - start), start = now();
+    for (int k = 0; k < 100000; k++) must(roam_state(&terrain, &state));
+    tell("state", 100000, now() - start), start = now();
+    for (int k = 0; k < 1000; k++) must(roam_set(&terrain, (uint32_t)(k * 7919 % (int)side), (uint32_t)(k * 104729 % (int)side), (uint16_t)k));
+    tell("set", 1000, now() - start), start = now();
+    for (int k = 0; k < 20; k++) must(roam_raise(&terrain, (uint32_t)side / 2, (uint32_t)side / 2, (uint32_t)side / 2 + 16, (uint32_t)side / 2 + 16, k - 10));
+    tell("raise", 20, now() - start);
+    told_frames("edited", 1, frame());
+    must(roam_close(&terrain));
+    free(heights), free(index), free(leaf), free(before), free(gone), free(come);
+    return 0;
+}
