@@ -4,6 +4,40 @@
 
 mkdir -- "$room/library" && cd -- "$room/library" || exit 1
 
+# lib/build over a small repository with a toolchain of a few lines: what it builds and when, as launcher.sh has it of the program.
+if has library_build cc ar touch; then
+  mkdir -p small/bin small/crates/{low,roam_c,unused}/src
+  cp -R -- "$top/roam" "$top/lib" small/
+  rm -rf small/lib/out
+  printf 'low:\nunused:\nroam_c staticlib: low kit_library\n' >small/crates.txt
+  for name in low roam_c unused; do echo 'int roam_open(void) { return 0; }' >"small/crates/$name/src/text.c"; done
+  cat >small/bin/rt <<'RT'
+#!/usr/bin/env bash
+[ "$1" = lib ] || exit 1
+echo "$1 ${PWD##*/}" >>"${0%/*}/commands"
+mkdir -p out && cc -fPIC -c -o out/text.o src/text.c && ar r "out/lib${PWD##*/}.a" out/text.o
+RT
+  chmod +x small/bin/rt
+  # build NAME STATUS COMMANDS: one call; its status, and which commands of the toolchain it gave.
+  build() {
+    local why=() status
+    : >small/bin/commands
+    rm -rf installed
+    PATH=$PWD/small/bin:$PATH small/lib/build installed >said 2>&1
+    status=$?
+    [ $status -eq "$2" ] || why+=("exit status $status, not $2: $(tail -n 3 said | tr '\n' '/')")
+    [ "$(tr '\n' ' ' <small/bin/commands)" = "$3" ] || why+=("commands: $(tr '\n' ' ' <small/bin/commands)")
+    [ "$(find installed -name 'libroam.*' 2>/dev/null | wc -l)" -eq $(($2 == 0 ? 3 : 0)) ] || why+=("installed: $(find installed | tr '\n' ' ')")
+    decide "$1" ${why[0]+"${why[@]}"}
+  }
+  build library_build_proves_what_is_needed_lowest_first 0 'lib low lib roam_c '
+  touch -d '+1 hour' small/crates/unused/src/text.c
+  build library_build_only_installs_the_second_time 0 ''
+  sleep 0.01
+  echo broken >small/crates/low/src/text.c
+  build library_build_installs_nothing_where_a_crate_is_refused 125 'lib low '
+fi
+
 archive=${ROAM_ARCHIVE:-$top/crates/roam_c/out/libroam_c.a}
 if [ ! -f "$archive" ]; then
   wrong the_library_is_built "there is no crates/roam_c/out/libroam_c.a; run 'lib/build' or 'rt ci' first"
