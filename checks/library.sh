@@ -1,5 +1,5 @@
 # shellcheck shell=bash disable=SC2154
-# The engine as a library: what C, C++ and Python get of it, each compiler and tool where it is there. The library is
+# The engine as a library: what C, C++, Python and C# get of it, each compiler and tool where it is there. The library is
 # crates/roam_c/out/libroam_c.a, which `rt ci` and lib/build leave; ROAM_ARCHIVE names another one. Sourced by checks/run.
 
 mkdir -- "$room/library" && cd -- "$room/library" || exit 1
@@ -191,4 +191,12 @@ if has library_python python3; then
     runs "library_python_refusals_$kind" '' "${python[@]}" "$tests/refusals.py"
     runs "library_python_sessions_$kind" '100 sessions' "${python[@]}" "$tests/sessions.py" 1 100
   done
+fi
+
+# --- C#, by mono. ---
+
+if has library_csharp mcs mono; then
+  if builds library_csharp mcs -warnaserror -out:frames.exe "$prefix/share/roam/Roam.cs" "$tests/Frames.cs"; then
+    runs library_csharp 'frames of C#' env LD_LIBRARY_PATH="$prefix/lib" mono frames.exe
+  fi
 fi

@@ -1,0 +1,36 @@
+// Roam.cs over a hill of nine points: a frame found by hand, its indices, what is refused, and use after Dispose.
+using System;
+using Roam;
+
+static class Frames {
+    static void Must(bool holds, string what) { if (!holds) { Console.Error.WriteLine("Frames: " + what); Environment.Exit(1); } }
+    static Answer AnswerOf(Action call) { try { call(); return Answer.Ok; } catch (RoamException refused) { return refused.Answer; } }
+
+    static void Main() {
+        var hill = new ushort[] { 0, 0, 0, 0, 100, 0, 0, 0, 0 };
+        var engine = new Engine(hill, 8, 10);
+        engine.Camera(10, 10, 150);
+        Note note = engine.Frame();
+        Must(note.Triangles == 4 && note.Vertices == 5 && note.Worst == 0 && note.Blocking == 0 && note.Splits == 2, "the frame of the hill");
+        var indices = new uint[13];
+        indices[12] = 77;
+        Must(engine.Indices(indices) == 4 && indices[0] == 4 && indices[1] == 6 && indices[2] == 8 && indices[12] == 77, "its indices");
+        var leaves = new uint[4];
+        Must(engine.Leaves(leaves) == 4 && leaves[0] == 4 && leaves[3] == 7, "its addresses");
+        engine.Set(0, 0, 900);
+        engine.Raise(0, 0, 2, 2, -50);
+        engine.Budget(5);
+        engine.AddPlane(0, 0, 1, 0);
+        note = engine.Frame();
+        Must(note.Triangles <= 5 && note.Inside + note.Cut + note.Outside == note.Triangles, "a frame after changes");
+        State state = engine.State();
+        Must((ulong)state.Side == 3 && state.Frames == 2 && state.Most == 8 && state.Budget == 5 && state.Planes == 1 && state.Way == 170, "the state");
+        Must(AnswerOf(() => new Engine(new ushort[8], 8, 10)) == Answer.BadGrid, "a grid of eight");
+        Must(AnswerOf(() => new Engine(new ushort[0], 8, 10)) == Answer.BadGrid, "an empty grid");
+        Must(AnswerOf(() => engine.Indices(new uint[0])) == Answer.NoRoom, "no room");
+        Must(AnswerOf(() => engine.Camera(1L << 31, 0, 0)) == Answer.BadCamera, "a far camera");
+        engine.Dispose();
+        Must(AnswerOf(() => engine.Frame()) == Answer.IsEmpty, "a frame of none");
+        Console.WriteLine("frames of C#");
+    }
+}

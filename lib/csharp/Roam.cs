@@ -1,0 +1,90 @@
+// The engine of roam.h for C#, by P/Invoke: libroam.so has to be where the loader finds it. Coordinates, units and ranges are
+// those of roam.h; a refused call throws a RoamException with its answer, and has changed nothing. Calls of several threads on
+// one engine wait for each other.
+using System;
+using System.Runtime.InteropServices;
+
+namespace Roam {
+    public enum Answer {
+        Ok, NoMemory, BadGrid, BadBudget, BadSpacing, BadCamera, BadPlane, TooManyPlanes, OutsideGrid, BadChange, Worn, NoRoom, IsEmpty
+    }
+
+    public sealed class RoamException : Exception {
+        public readonly Answer Answer;
+        public RoamException(Answer answer) : base("roam: " + answer) { Answer = answer; }
+    }
+
+    [StructLayout(LayoutKind.Sequential)]
+    public struct Note {
+        public ulong Worst;
+        public uint Triangles, Vertices, Splits, Merges, Blocking, Need, Inside, Cut, Outside, Spare;
+    }
+
+    [StructLayout(LayoutKind.Sequential)]
+    public struct State {
+        public UIntPtr Side;
+        public ulong Way, Evaluations;
+        public uint Frames, Most, Budget, Planes;
+    }
+
+    public sealed class Engine : IDisposable {
+        [StructLayout(LayoutKind.Sequential)]
+        struct Handle { ulong head; IntPtr at; }
+        Handle h;
+        readonly object turn = new object();
+
+        static class C {
+            const string Library = "libroam.so.1";
+            [DllImport(Library)] public static extern int roam_open(ref Handle h, ushort[] heights, UIntPtr count, uint budget, uint spacing);
+            [DllImport(Library)] public static extern int roam_close(ref Handle h);
+            [DllImport(Library)] public static extern int roam_camera(ref Handle h, long x, long y, long z);
+            [DllImport(Library)] public static extern int roam_add_plane(ref Handle h, long a, long b, long c, long d);
+            [DllImport(Library)] public static extern int roam_clear_planes(ref Handle h);
+            [DllImport(Library)] public static extern int roam_budget(ref Handle h, uint triangles);
+            [DllImport(Library)] public static extern int roam_set(ref Handle h, uint x, uint y, ushort height);
+            [DllImport(Library)] public static extern int roam_raise(ref Handle h, uint x0, uint y0, uint x1, uint y1, int dz);
+            [DllImport(Library)] public static extern int roam_frame(ref Handle h, out Note note);
+            [DllImport(Library)] public static extern int roam_indices(ref Handle h, [Out] uint[] to, UIntPtr places, out UIntPtr triangles);
+            [DllImport(Library)] public static extern int roam_leaves(ref Handle h, [Out] uint[] to, UIntPtr places, out UIntPtr triangles);
+            [DllImport(Library)] public static extern int roam_state(ref Handle h, out State state);
+        }
+
+        static void Must(int answer) { if (answer != 0) throw new RoamException((Answer)answer); }
+        static T[] There<T>(T[] array, string name) { // never null, and never without an element
+            if (array == null) throw new ArgumentNullException(name);
+            return array.Length > 0 ? array : new T[1];
+        }
+
+        /// Opens an engine over side x side heights, rows from the far side to the near one. All memory is taken here.
+        public Engine(ushort[] heights, uint budget, uint spacing) {
+            Must(C.roam_open(ref h, There(heights, "heights"), (UIntPtr)heights.Length, budget, spacing));
+        }
+        ~Engine() { C.roam_close(ref h); }
+        public void Dispose() {
+            lock (turn) C.roam_close(ref h);
+            GC.SuppressFinalize(this);
+        }
+
+        public void Camera(long x, long y, long z) { lock (turn) Must(C.roam_camera(ref h, x, y, z)); }
+        public void AddPlane(long a, long b, long c, long d) { lock (turn) Must(C.roam_add_plane(ref h, a, b, c, d)); }
+        public void ClearPlanes() { lock (turn) Must(C.roam_clear_planes(ref h)); }
+        public void Budget(uint triangles) { lock (turn) Must(C.roam_budget(ref h, triangles)); }
+        public void Set(uint x, uint y, ushort height) { lock (turn) Must(C.roam_set(ref h, x, y, height)); }
+        public void Raise(uint x0, uint y0, uint x1, uint y1, int dz) { lock (turn) Must(C.roam_raise(ref h, x0, y0, x1, y1, dz)); }
+        public Note Frame() { Note note; lock (turn) Must(C.roam_frame(ref h, out note)); return note; }
+        public State State() { State state; lock (turn) Must(C.roam_state(ref h, out state)); return state; }
+
+        /// Writes three places in the heights for each triangle, and answers how many triangles there are.
+        public int Indices(uint[] to) {
+            UIntPtr triangles;
+            lock (turn) Must(C.roam_indices(ref h, There(to, "to"), (UIntPtr)to.Length, out triangles));
+            return (int)triangles;
+        }
+        /// Writes the addresses of the triangles, in the same order.
+        public int Leaves(uint[] to) {
+            UIntPtr triangles;
+            lock (turn) Must(C.roam_leaves(ref h, There(to, "to"), (UIntPtr)to.Length, out triangles));
+            return (int)triangles;
+        }
+    }
+}
