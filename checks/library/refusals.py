@@ -22,6 +22,7 @@ CASES = [
     (ValueError, "heights are ", lambda: roam.Engine(HILL[:8], 8)),
     (ValueError, "to be from 0 to 65535", lambda: roam.Engine([70_000] + HILL[1:], 8)),
     (ValueError, "to be from 0 to 65535", lambda: roam.Engine([-1] + HILL[1:], 8)),
+    (TypeError, "heights ", lambda: roam.Engine([0.5] + HILL[1:], 8)),
     (ValueError, "x is 1073741825, and has to be from -1073741824 to 1073741824", lambda: engine.camera(2 ** 30 + 1, 0, 0)),
     (ValueError, "z is -18446744073709551616, and has to be from", lambda: engine.camera(0, 0, -2 ** 64)),
     (TypeError, "y is nan, and has to be a whole number", lambda: engine.camera(0, float("nan"), 0)),

@@ -162,6 +162,8 @@ def _heights(heights: Any) -> Any:
                 found = array.array("H", (row for row in heights))
             except OverflowError:
                 raise ValueError("heights have to be from 0 to 65535") from None
+            except TypeError:
+                raise TypeError("heights have to be a flat sequence of whole numbers from 0 to 65535") from None
         count = len(found)
     if count not in [side * side for side in SIDES] or len(rows) == 2 and rows[0] != rows[1]:
         raise ValueError(f"heights are {' x '.join(map(str, rows)) or count} numbers, and have to be side x side, "
@@ -217,9 +219,9 @@ class Engine:
     def __exit__(self, *_: object) -> None:
         self.close()
 
-    def __del__(self) -> None:
+    def __del__(self, close: Any = _library.roam_close, byref: Any = byref) -> None:
         if hasattr(self, "_handle"):
-            _library.roam_close(byref(self._handle))
+            close(byref(self._handle))
 
     def camera(self, x: float, y: float, z: float) -> None:
         """Puts the camera to a place in world units, at most 2^30 from 0 on each axis; floats are rounded."""
