@@ -170,6 +170,10 @@ if has library_in_valgrind valgrind cc; then
   if builds library_flight_in_valgrind cc -std=c99 -g -O1 -o flight_watched "$uses/flight.c" "${static[@]}"; then
     runs library_flight_in_valgrind '4 frames' "${watched[@]}" ./flight_watched "$jacksboro" 500 90 4
   fi
+  if has library_threads_in_valgrind c++ &&
+    builds library_threads_in_valgrind c++ -std=c++17 -g -O1 -pthread -o threads_watched "$uses/threads.cpp" "${static[@]}"; then
+    runs library_threads_in_valgrind 'one after the other' "${watched[@]}" ./threads_watched
+  fi
 fi
 
 # --- Python, with numpy and without: the doctest, the examples' reports, what is refused, and sessions against the definitions. ---
