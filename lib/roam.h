@@ -50,7 +50,7 @@ typedef struct roam_frame_note {
     uint32_t splits, merges;       /* triangles split and merged in this frame */
     uint32_t blocking;             /* the triangle of priority `worst` whose split does not fit the budget, or 0: all priorities are 0 */
     uint32_t need;                 /* how many triangles the mesh would have with it split */
-    uint32_t inside, cut, outside; /* triangles by the planes in force; all 0 where there is none */
+    uint32_t inside, cut, outside; /* triangles by the planes in force; all are inside where there is none */
     uint32_t spare;                /* 0 */
 } roam_frame_note;
 

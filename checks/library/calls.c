@@ -209,7 +209,7 @@ static void do_frame(struct engine *e) {
         must(it.triangles <= 2 * (e->state.side - 1) * (e->state.side - 1), "more triangles than the grid has");
         must(it.blocking == 0 ? it.worst == 0 && it.need == 0 : it.worst > 0 && it.need > e->state.budget, "the certificate");
         must(it.triangles - e->triangles == it.splits - it.merges, "splits and merges do not lead to the mesh");
-        must(it.inside + it.cut + it.outside == (e->state.planes > 0 ? it.triangles : 0), "the counts by planes");
+        must(it.inside + it.cut + it.outside == it.triangles && (e->state.planes > 0 || it.inside == it.triangles), "the counts by planes");
         must(it.spare == 0, "spare");
         e->triangles = it.triangles;
         e->state.frames++;

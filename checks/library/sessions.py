@@ -75,7 +75,7 @@ class Session:
         reached, splits, merges = run_of_steps(terrain, view, self.before)
         assert reached == split, "the frame steps lead elsewhere than to the frame of the budget"
         leaves = leaves_of(split)
-        marks = [terrain.mark(a) for a in leaves] if terrain.planes else []
+        marks = [terrain.mark(a) for a in leaves]
         counts = (marks.count(kind) for kind in ("inside", "cut", "outside"))
         wanted = roam.Note(view.worst(leaves), len(leaves), len(vertices_of(terrain, leaves)), splits, merges, *(blocked or (0, 0)), *counts)
         assert note == wanted, f"the note is {note}, not {wanted}"

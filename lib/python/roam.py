@@ -57,7 +57,7 @@ class Note(NamedTuple):
     merges: int     #: triangles merged in this frame
     blocking: int   #: the address of the triangle of priority `worst` that does not fit the budget if split, or 0
     need: int       #: how many triangles the mesh would have with it split
-    inside: int     #: triangles inside all planes; this and the next two are 0 where there is no plane
+    inside: int     #: triangles inside all planes, which all are where there is none
     cut: int
     outside: int
 
