@@ -1,5 +1,6 @@
 // Roam.cs over a hill of nine points: a frame found by hand, its indices, what is refused, and use after Dispose.
 using System;
+using System.Threading;
 using Roam;
 
 static class Frames {
@@ -29,6 +30,14 @@ static class Frames {
         Must(AnswerOf(() => new Engine(new ushort[0], 8, 10)) == Answer.BadGrid, "an empty grid");
         Must(AnswerOf(() => engine.Indices(new uint[0])) == Answer.NoRoom, "no room");
         Must(AnswerOf(() => engine.Camera(1L << 31, 0, 0)) == Answer.BadCamera, "a far camera");
+        bool isRefused = false;
+        var beside = new Thread(() => {
+            try { engine.Frame(); } catch (InvalidOperationException) { isRefused = true; }
+            using (var own = new Engine(hill, 8, 10)) own.Frame();
+        });
+        beside.Start();
+        beside.Join();
+        Must(isRefused && engine.State().Frames == 2, "a frame on another thread");
         engine.Dispose();
         Must(AnswerOf(() => engine.Frame()) == Answer.IsEmpty, "a frame of none");
         Console.WriteLine("frames of C#");

@@ -54,16 +54,18 @@ def refused(kind, text, call):
     return f"no error, not '{text}'"
 
 
-def turn(errors):
-    """Frames and lists of one engine beside those of another thread."""
+def beside(wrong):
+    """A thread with an engine of its own, on which the one of the main thread is refused."""
     room = array.array("I", bytes(4 * 24))
-    try:
+    for call in (engine.frame, engine.state, engine.close, engine.indices):
+        wrong += filter(None, [refused(RuntimeError, "the engine was made on another thread", call)])
+    with roam.Engine(HILL, 8, 10) as own:
         for k in range(300):
-            engine.camera(k, k / 2, 50)
-            engine.frame()
-            engine.indices(room)
-    except Exception as why:
-        errors.append(repr(why))
+            own.camera(k, k / 2, 50)
+            own.frame()
+            own.indices(room)
+        if own.state().frames != 300:
+            wrong.append("frames of a thread are lost")
 
 
 def main():
@@ -74,15 +76,13 @@ def main():
     for _ in range(6):
         engine.add_plane(0, 0, 1, 0)
     wrong += filter(None, [refused(ValueError, "six planes are in force", lambda: engine.add_plane(0, 0, 1, 0))])
-    errors = []
-    threads = [threading.Thread(target=turn, args=[errors]) for _ in range(3)]
+    threads = [threading.Thread(target=beside, args=[wrong]) for _ in range(3)]
     for thread in threads:
         thread.start()
     for thread in threads:
         thread.join()
-    wrong += errors
-    if engine.state().frames != 900:
-        wrong.append("frames of three threads are lost")
+    if engine.state() != before._replace(planes=6):
+        wrong.append("a call of another thread has changed the engine")
     engine.close()
     engine.close()
     if wrong:

@@ -19,8 +19,8 @@ point (0, 0), z counts units of height.
 Traceback (most recent call last):
 ValueError: budget is 1, and has to be from 2 to 1048576
 
-With numpy heights go in without a copy, and indices come out as one array of shape (triangles, 3). Calls of several
-threads on one engine wait for each other; engines share nothing, and run side by side.
+With numpy heights go in without a copy, and indices come out as one array of shape (triangles, 3). An engine is used on the
+thread that made it; engines share nothing, and those of several threads run side by side.
 """
 from __future__ import annotations
 
@@ -185,7 +185,7 @@ class Engine:
     """
 
     def __init__(self, heights: Any, budget: int, spacing: int = 1) -> None:
-        self._handle, self._lock = _Handle(), threading.Lock()
+        self._handle, self._thread = _Handle(), threading.get_ident()
         budget = _whole("budget", budget, 2, MOST_TRIANGLES)
         spacing = _whole("spacing", spacing, 1, MOST_SPACING)
         heights = _heights(heights)
@@ -193,10 +193,15 @@ class Engine:
         self._call("open", _pointer(heights, c_uint16), count, budget, spacing)
         self._most, self._side, self._triangles = budget, SIDES[[s * s for s in SIDES].index(count)], 2
 
+    def _stay(self) -> None:
+        """roam.h asks that a handle stays on its thread."""
+        if threading.get_ident() != self._thread:
+            raise RuntimeError("the engine was made on another thread, and stays there")
+
     def _call(self, name: str, *words: Any) -> None:
-        """One call, while no other thread makes one, and the answer as an exception."""
-        with self._lock:
-            answer = getattr(_library, "roam_" + name)(byref(self._handle), *words)
+        """One call, and the answer as an exception."""
+        self._stay()
+        answer = getattr(_library, "roam_" + name)(byref(self._handle), *words)
         if answer == 1:
             raise MemoryError("out of memory")
         if answer == 7:
@@ -210,8 +215,8 @@ class Engine:
 
     def close(self) -> None:
         """Lets go of the engine and its memory; closing twice does nothing."""
-        with self._lock:
-            _library.roam_close(byref(self._handle))
+        self._stay()
+        _library.roam_close(byref(self._handle))
 
     def __enter__(self) -> Engine:
         return self
@@ -219,8 +224,9 @@ class Engine:
     def __exit__(self, *_: object) -> None:
         self.close()
 
-    def __del__(self, close: Any = _library.roam_close, byref: Any = byref) -> None:
-        if hasattr(self, "_handle"):
+    def __del__(self, close: Any = _library.roam_close, byref: Any = byref, thread: Any = threading.get_ident) -> None:
+        # On another thread, its memory stays taken.
+        if getattr(self, "_thread", None) == thread():
             close(byref(self._handle))
 
     def camera(self, x: float, y: float, z: float) -> None:
