@@ -107,9 +107,11 @@ for cc in g++ clang++; do
         runs "library_${name}_$cc" '' "./${name}_$cc"
       fi
     done
-    if builds "library_answers_$cc" "${c[@]}" -fno-exceptions -o "answers_$cc" "$tests/answers.cpp" "${static[@]}"; then
-      runs "library_answers_$cc" '' "./answers_$cc"
-    fi
+    for year in 17 20; do
+      if builds "library_answers_${year}_$cc" "${c[@]}" "-std=c++$year" -fno-exceptions -o "answers_$cc" "$tests/answers.cpp" "${static[@]}"; then
+        runs "library_answers_${year}_$cc" '' "./answers_$cc"
+      fi
+    done
   fi
 done
 

@@ -74,6 +74,10 @@ public:
         static const uint16_t none = 0;
         return told(roam_open(&h, heights ? heights : &none, heights ? count : 0, budget, spacing), "open");
     }
+    /// The same of a vector, an array or a span of heights.
+    template <class Heights> result open(const Heights &heights, uint32_t budget, uint32_t spacing) {
+        return open(std::data(heights), std::size(heights), budget, spacing);
+    }
     void close() noexcept { (void)roam_close(&h); }
 
     result camera(int64_t x, int64_t y, int64_t z) { return told(roam_camera(&h, x, y, z), "camera"); }
@@ -95,10 +99,7 @@ public:
     }
 
 #ifndef ROAM_ANSWERS
-    /// Opens an engine over a vector, an array or a span of heights.
-    template <class Heights> engine(const Heights &heights, uint32_t budget, uint32_t spacing) {
-        open(std::data(heights), std::size(heights), budget, spacing);
-    }
+    template <class Heights> engine(const Heights &heights, uint32_t budget, uint32_t spacing) { open(heights, budget, spacing); }
     roam_frame_note frame() {
         roam_frame_note out;
         frame(out);

@@ -1,7 +1,11 @@
 // roam.hpp where answers come back in place of exceptions, and where the compiler has spans.
 #define ROAM_ANSWERS
 #include "roam.hpp"
+#include <array>
 #include <cstdio>
+#if __cplusplus >= 202002L
+#include <span>
+#endif
 
 static int fail(const char *what) {
     std::fprintf(stderr, "answers: %s\n", what);
@@ -24,5 +28,11 @@ int main() {
     other = std::move(terrain);
     if (terrain.frame(note) != ROAM_IS_EMPTY || other.frame(note) != ROAM_OK) return fail("a move");
     terrain.close();
+    const std::array<uint16_t, 9> flat{};
+    if (terrain.open(flat, 8, 10) != ROAM_OK || terrain.frame(note) != ROAM_OK || note.triangles != 2) return fail("an array");
+#if __cplusplus >= 202002L
+    if (terrain.open(std::span<const uint16_t>(heights).first(9), 8, 10) != ROAM_OK || terrain.frame(note) != ROAM_OK || note.triangles != 4)
+        return fail("a span");
+#endif
     return 0;
 }
