@@ -130,6 +130,18 @@ if has library_by_cmake cmake make; then
   fi
 fi
 
+# The loops of docs/EMBEDDING.md, each in a function of its own.
+block() { awk -v begin="\`\`\`$1" '$0 == begin { inside = 1; next } /^```/ { inside = 0 } inside' "$top/docs/EMBEDDING.md"; }
+where='int flying, int64_t x, int64_t y, int64_t z)'
+if has library_loops_of_the_docs cc c++; then
+  { echo '#include "roam.h"'; echo "int fly(const uint16_t *heights, uint32_t *index_buffer, $where {"; block c; echo 'return 0; }'; } >loop.c
+  { block cpp | grep '^#'; echo "int fly(const std::vector<uint16_t> &heights, $where {"; block cpp | grep -v '^#'; echo 'return 0; }'; } >loop.cpp
+  if builds library_loops_of_the_docs cc -std=c99 -Wall -Wextra -pedantic -c "-I$prefix/include" loop.c &&
+    builds library_loops_of_the_docs c++ -std=c++17 -Wall -Wextra -Werror -Wno-unused-variable -Wno-unused-but-set-variable -c "-I$prefix/include" loop.cpp; then
+    ok library_loops_of_the_docs
+  fi
+fi
+
 # --- The same under sanitizers, from libFuzzer, and in valgrind. ---
 
 sanitized=(-g -O1 '-fsanitize=address,undefined' -fno-sanitize-recover=all)
@@ -195,6 +207,8 @@ if has library_python python3; then
     runs "library_python_doctest_$kind" '' "${python[@]}" -m doctest "$prefix/lib/python/roam.py"
     runs "library_python_jacksboro_$kind" 'outside 193' "${python[@]}" "$uses/jacksboro.py"
     runs "library_python_refusals_$kind" '' "${python[@]}" "$tests/refusals.py"
+    { echo 'heights, path = [7] * 81, [(1, 2, 3.5)] * 3'; block python; echo 'print(note.triangles)'; } >loop.py
+    runs "library_python_loop_of_the_docs_$kind" 2 "${python[@]}" loop.py
     runs "library_python_sessions_$kind" '100 sessions' "${python[@]}" "$tests/sessions.py" 1 100
   done
 fi
