@@ -12,12 +12,19 @@ fn heap_of_two_slots(alloc: Global) -> Option<[bool; 5]> {
     let mut heap: SlotHeap<u64> = SlotHeap::new(alloc, 2).ok()?;
     heap.put(Slot(0), 5);
     heap.put(Slot(1), 3);
-    let first = heap.head() == Some((Slot(1), 3));
-    let taken = heap.take(Slot(1)) == 3;
-    let second = heap.head() == Some((Slot(0), 5));
-    let none = heap.key(Slot(1)).is_none();
+    let first = heap.head();
+    let taken = heap.take(Slot(1));
+    let second = heap.head();
+    let none = heap.key(Slot(1));
     heap.rekey(Slot(0), 9);
-    Some([first, taken, second, none, heap.key(Slot(0)) == Some(9)])
+    let other = heap.key(Slot(0));
+    Some([
+        first == Some((Slot(1), 3)),
+        taken == 3,
+        second == Some((Slot(0), 5)),
+        none.is_none(),
+        other == Some(9),
+    ])
 }
 
 #[test]
