@@ -1,6 +1,7 @@
 //! The adapters of `roam_edge`: over real files, over files of which one call fails, and over a narrow writer.
 
-ghost use Rattle.std.specs.Prelude.{◌≤◌, ◌<◌};
+ghost use Rattle.std.specs.Prelude.{◌≤◌, ◌<◌, length};
+ghost use Rattle.roam_edge.specs.declared.mesh_sink.TheConstants.{GREATEST_NUMBER};
 
 use crate::calls::{put_lines, put_mesh, read_front};
 use crate::flaky_files::FlakyFiles;
@@ -10,6 +11,7 @@ use std::cell::Cell;
 use std::io::Write;
 use std::path::{Path, PathBuf};
 use std::rc::Rc;
+use std::rt::Files;
 use std::test::Fail;
 use std::{env, fs, io, process};
 
@@ -157,12 +159,19 @@ fn flaky(alloc: Global, fails: u64, name: &'static str) -> Result<FlakyFiles, Fa
     })
 }
 
+/// Opens a file of these files by name and reads once.
+fn read_through<R: Files>(files: &R, name: &str, buf: &mut [u8]) -> Result<usize, Failed>
+    requires { 0 < length buf.old }
+{
+    let mut shelf = FileShelf::new(files);
+    read_front(&mut shelf, name, buf)
+}
+
 /// A first read of the file `grid` of which this call fails, opened by a name; and how many calls were made.
 fn read_flaky(alloc: Global, fails: u64, name: &str) -> Result<(Result<usize, Failed>, u64), Fail> {
     let files = flaky(alloc, fails, "grid")?;
-    let mut shelf = FileShelf::new(&files);
     let mut buf = [0u8; 8];
-    let read = read_front(&mut shelf, name, &mut buf);
+    let read = read_through(&files, name, &mut buf);
     Ok((read, files.calls.get()))
 }
 
@@ -184,11 +193,19 @@ fn a_failed_read_or_open_is_told_and_not_tried_again(rt: HostRuntime) -> Result<
     Ok(())
 }
 
+/// A mesh as one of these files.
+fn put_through<R: Files>(files: &R, prefix: &str, number: u32) -> Result<(), Failed>
+    requires number_low { 1 ≤ number }
+    requires number_high { number ≤ GREATEST_NUMBER }
+{
+    let mut meshes = FileMeshes::new(files);
+    put_mesh(&mut meshes, prefix, number)
+}
+
 /// A mesh as the file `out000042.obj` of which this call fails; and how many calls were made.
 fn put_flaky(alloc: Global, fails: u64) -> Result<(bool, u64), Fail> {
     let files = flaky(alloc, fails, "out000042.obj")?;
-    let mut meshes = FileMeshes::new(&files);
-    let put = put_mesh(&mut meshes, "out", 42);
+    let put = put_through(&files, "out", 42);
     Ok((put.is_ok(), files.calls.get()))
 }
 
