@@ -1,3 +1,2 @@
 mod AskedLemmas
 mod FrameLemmas
-mod LeafListLemmas

@@ -11,9 +11,9 @@ ghost use Rattle.obj_write.specs.Numbers.{numbers_of};
 ghost use Rattle.least_laws.specs.Least.{IsLeastList, IsLeastMesh};
 
 use crate::flags::sweep;
-use crate::list::{list_leaves, worst_leaf};
+use crate::list::worst_leaf;
 use crate::worse::flag_worse;
-use address_flags::end;
+use address_flags::{end, list_leaves};
 use bintree_addr::{Tri, level_laws};
 use closure_laws::base_mesh;
 use cull_marks::Planes;

@@ -6,7 +6,6 @@ use Rattle.least_laws.specs.Sweep.{is_flagged}
 use Rattle.least_laws.proofs.FlagLemmas.{flagged-unset}
 use Rattle.obj_write.specs.Numbers.{numbers_of}
 use Rattle.least_mesh.proofs.FrameLemmas.{levels-listed}
-use Rattle.least_mesh.proofs.LeafListLemmas.{leaves-base}
 use Rattle.least_mesh.proofs.least.Least.make.Goals as goal
 
 pub number_vertices-requires-clause-levels : goal.number_vertices-requires-clause-levels
@@ -19,8 +18,7 @@ pub returns-clause-base : goal.returns-clause-base
 returns-clause-base c =
     let room = with_items_is c.in_ok-room.room c.list_leaves-count.new.list (c.list_leaves-count.auto.list ∙ c.deref_mut.ensures.len) in
     let unset : c.deref.result.now ≡ replicate c.end.result false = c.deref.ensures.value ∙ c.in_ok-flags.ensures.items_if_clones_equal (λ y h. h) in
-    ap (take c.list_leaves-count.result) room ∙ c.list_leaves-count.ensures.listed
-    ∙ leaves-base c.args.n (is_flagged c.deref.result.now)
+    ap (take c.list_leaves-count.result) room ∙ c.list_leaves-count.ensures.base
     (λ a. subst (λ (l : List Bool). is_flagged l a ≡ false) (sym unset) (flagged-unset c.end.result a))
 
 pub invariant_of-result : goal.invariant_of-result

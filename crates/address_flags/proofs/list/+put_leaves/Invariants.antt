@@ -1,4 +1,4 @@
-use Rattle.least_mesh.proofs.list.+put_leaves.Given as goal
+use Rattle.address_flags.proofs.list.+put_leaves.Given as goal
 
 abbrev pub decreases-put_leaves : goal.decreases-put_leaves
 decreases-put_leaves l = l.levels

@@ -3,7 +3,7 @@ use Rattle.std.proofs.Common.{◌≤◌, ◌≡◌, true, ◌+◌, ◌-◌, ◌*
 use Rattle.mesh_defs.specs.ClosedSet.{leaves_under}
 use Rattle.least_laws.specs.Sweep.{is_flagged}
 use Rattle.closure_laws.proofs.LeafLemmas.{leaves_under-split}
-use Rattle.least_mesh.proofs.list.+put_leaves.Goals as goal
+use Rattle.address_flags.proofs.list.+put_leaves.Goals as goal
 
 pub put_leaves-requires : goal.put_leaves-requires
 put_leaves-requires t c =
