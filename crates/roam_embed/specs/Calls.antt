@@ -1,0 +1,129 @@
+-- What each call does to an engine and to the caller's arrays, and when each answer comes. Where several causes hold, the answer is
+-- the one with the least number, and out of memory comes last; after an answer other than Done all is as before.
+-- All of it is this project's own.
+-- Words: IsOpenAnswer, IsOpened, IsCameraMoved, IsPlaneAdded, ArePlanesCleared, IsBudgetPut, IsHeightPut, IsAreaRaised, IsFrameMade,
+-- AreIndicesTold, AreLeavesTold.
+use Rattle.std.specs.Prelude.{◌≡◌, ◌≢◌, ℕ, ◌+◌, ◌*◌, ◌<◌, ◌≤◌, ◌↔◌, ◌⊎◌, Bool, true, false, List, ◌++◌, length, drop, All, Contains, None, ℤ, unsigned_abs}
+use Rattle.mesh_defs.specs.BoundingBox.{CameraAt, holds_point, point}
+use Rattle.mesh_defs.specs.View.{ViewPlane}
+use Rattle.mesh_defs.specs.State.{start_state, with_camera, with_plane, without_planes, with_budget, with_height, with_raised, move_length, priority_in}
+use Rattle.mesh_defs.specs.Triangle.{corners_of}
+use Rattle.mesh_defs.specs.BestMesh.{IsBestMesh}
+use Rattle.bintree_laws.specs.Areas.{overlaps}
+use Rattle.edge_laws.specs.Slots.{split_set}
+use Rattle.triangle_pool.specs.declared.pool.TheConstants.{MOST_LEAVES}
+use Rattle.wedgie_tree.specs.declared.wedges.TheConstants.{GREATEST_SPACING}
+use Rattle.wedgie_tree.specs.Edits.{area_of}
+use Rattle.cull_marks.specs.Plane.{IsPlane}
+use Rattle.view_priority.specs.Camera.{IsCamera}
+use Rattle.roam_mesh.specs.Mesh.{stamp_of}
+use Rattle.frame_loop.specs.Engine.{EngineState, mesh_seen, IsExpired, IsFrameDone}
+use Rattle.roam_embed.specs.declared.answer.Answer.{Answer}
+use Rattle.roam_embed.specs.declared.answer.Answer.TheVariants.{Done, NoMemory, BadGrid, BadBudget, BadSpacing, BadCamera, BadPlane, TooManyPlanes, OutsideGrid, BadChange, Worn, NoRoom}
+use Rattle.roam_embed.specs.declared.notes.Frame.{Frame}
+use Rattle.roam_embed.specs.declared.view.TheConstants.{LONGEST_WAY, MOST_PLANES}
+use Rattle.roam_embed.specs.declared.ground.TheConstants.{GREATEST_CHANGE}
+use Rattle.roam_embed.specs.declared.frames.TheConstants.{MOST_FRAMES}
+use Rattle.roam_embed.specs.Grid.{HasGrid, IsPointCount, IsPointOf, IsAreaOf}
+use Rattle.roam_embed.specs.Told.{note_of}
+use Rattle.mesh_arrays.specs.Indices.{indices_of}
+
+-- of heights, a budget and a spacing: which of them is refused, and whether the rest is up to memory
+pub record IsOpenAnswer (heights : List ℕ) (budget spacing : ℕ) (answer : Answer) : Type 0 where
+  pub bad_grid : (answer ≡ BadGrid) ↔ (HasGrid (length heights) → ⊥)
+  pub bad_budget : (answer ≡ BadBudget) ↔ (HasGrid (length heights) × ((budget < 2) ⊎ (MOST_LEAVES < budget)))
+  pub bad_spacing : (answer ≡ BadSpacing) ↔ (HasGrid (length heights) × (2 ≤ budget) × (budget ≤ MOST_LEAVES) × ((spacing < 1) ⊎ (GREATEST_SPACING < spacing)))
+  pub others : ((answer ≡ Done) ⊎ (answer ≡ NoMemory)) ↔ (HasGrid (length heights) × (2 ≤ budget) × (budget ≤ MOST_LEAVES) × (1 ≤ spacing) × (spacing ≤ GREATEST_SPACING))
+
+-- an engine of these heights: seen from (0, 0, 0), no plane, the two halves of the square, no stamp, and all counts 0
+pub record IsOpened (heights : List ℕ) (budget spacing : ℕ) (e : EngineState) : Type 0 where
+  pub level : IsPointCount (length heights) e.state.grid.n
+  pub state : e.state ≡ start_state (record { n = e.state.grid.n; maxval = 65535; heights = heights }) spacing budget
+  pub most : e.most ≡ budget
+  pub base : (a : ℕ) → split_set e.mesh.pool.pairs a ≡ false
+  pub stamps : (a : ℕ) → stamp_of e.mesh a ≡ None
+  pub odometer : e.odometer ≡ 0
+  pub frames : e.frames ≡ 0
+  pub evaluations : e.evaluations ≡ 0
+
+-- the camera is put to a place
+pub record IsCameraMoved (before after : EngineState) (place : CameraAt) (answer : Answer) : Type 0 where
+  pub done : (answer ≡ Done) ↔ (IsCamera place × (before.odometer ≤ LONGEST_WAY))
+  pub bad_camera : (answer ≡ BadCamera) ↔ (IsCamera place → ⊥)
+  pub worn : (answer ≡ Worn) ↔ (IsCamera place × (LONGEST_WAY < before.odometer))
+  pub moved : answer ≡ Done → after ≡ record before {
+    state = with_camera place before.state;
+    odometer = before.odometer + move_length before.state.view.camera place;
+  }
+  pub kept : (answer ≡ Done → ⊥) → after ≡ before
+
+-- one plane more is in force, and all stamps are expired
+pub record IsPlaneAdded (before after : EngineState) (plane : ViewPlane) (answer : Answer) : Type 0 where
+  pub done : (answer ≡ Done) ↔ (IsPlane plane × (length before.state.view.planes < MOST_PLANES))
+  pub bad_plane : (answer ≡ BadPlane) ↔ (IsPlane plane → ⊥)
+  pub too_many : (answer ≡ TooManyPlanes) ↔ (IsPlane plane × (MOST_PLANES ≤ length before.state.view.planes))
+  pub added : answer ≡ Done → after ≡ record before { state = with_plane plane before.state; mesh = after.mesh }
+  pub expired : answer ≡ Done → IsExpired before.mesh after.mesh (λ a. true)
+  pub kept : (answer ≡ Done → ⊥) → after ≡ before
+
+-- no plane is in force, and all stamps are expired
+pub record ArePlanesCleared (before after : EngineState) (answer : Answer) : Type 0 where
+  pub done : answer ≡ Done
+  pub cleared : after ≡ record before { state = without_planes before.state; mesh = after.mesh }
+  pub expired : IsExpired before.mesh after.mesh (λ a. true)
+
+-- the budget is replaced
+pub record IsBudgetPut (before after : EngineState) (budget : ℕ) (answer : Answer) : Type 0 where
+  pub done : (answer ≡ Done) ↔ ((2 ≤ budget) × (budget ≤ before.most))
+  pub bad_budget : (answer ≡ BadBudget) ↔ ((budget < 2) ⊎ (before.most < budget))
+  pub put : answer ≡ Done → after ≡ record before { state = with_budget budget before.state }
+  pub kept : (answer ≡ Done → ⊥) → after ≡ before
+
+-- the height of the point (x, y) is replaced, and just the stamps of the triangles that hold it are expired
+pub record IsHeightPut (before after : EngineState) (x y height : ℕ) (answer : Answer) : Type 0 where
+  pub done : (answer ≡ Done) ↔ (IsPointOf before.state.grid.n x y × (height ≤ before.state.grid.maxval))
+  pub outside_grid : (answer ≡ OutsideGrid) ↔ (IsPointOf before.state.grid.n x y → ⊥)
+  pub bad_change : (answer ≡ BadChange) ↔ (IsPointOf before.state.grid.n x y × (before.state.grid.maxval < height))
+  pub put : answer ≡ Done → after ≡ record before { state = with_height x y height before.state; mesh = after.mesh }
+  pub expired : answer ≡ Done → IsExpired before.mesh after.mesh (λ a. holds_point before.state.grid.n a (point x y))
+  pub kept : (answer ≡ Done → ⊥) → after ≡ before
+
+-- each height of the area is raised, and just the stamps of the triangles whose bounding rectangle meets it are expired
+pub record IsAreaRaised (before after : EngineState) (x0 y0 x1 y1 : ℕ) (dz : ℤ) (answer : Answer) : Type 0 where
+  pub done : (answer ≡ Done) ↔ (IsAreaOf before.state.grid.n x0 y0 x1 y1 × (unsigned_abs dz ≤ GREATEST_CHANGE))
+  pub outside_grid : (answer ≡ OutsideGrid) ↔ (IsAreaOf before.state.grid.n x0 y0 x1 y1 → ⊥)
+  pub bad_change : (answer ≡ BadChange) ↔ (IsAreaOf before.state.grid.n x0 y0 x1 y1 × (GREATEST_CHANGE < unsigned_abs dz))
+  pub raised : answer ≡ Done → after ≡ record before { state = with_raised (area_of x0 y0 x1 y1) dz before.state; mesh = after.mesh }
+  pub expired : answer ≡ Done → IsExpired before.mesh after.mesh (λ a. overlaps (corners_of before.state.grid.n a) (area_of x0 y0 x1 y1))
+  pub kept : (answer ≡ Done → ⊥) → after ≡ before
+
+-- the mesh is the best one of the state, and what is told of it
+pub record IsFrameMade (before after : EngineState) (told_before told : Frame) (answer : Answer) : Type 0 where
+  pub done : (answer ≡ Done) ↔ (before.frames < MOST_FRAMES)
+  pub worn : (answer ≡ Worn) ↔ (MOST_FRAMES ≤ before.frames)
+  pub made : answer ≡ Done → IsFrameDone before after (note_of told)
+  pub best : answer ≡ Done → IsBestMesh after.state.grid.n after.state.budget (priority_in after.state) (mesh_seen after)
+  pub triangles : answer ≡ Done → told.triangles ≡ length (mesh_seen after)
+  pub unblocked : answer ≡ Done → ((told.blocking ≡ 0) ↔ All (λ a. priority_in after.state a ≡ 0) (mesh_seen after))
+  pub certificate : answer ≡ Done → told.blocking ≢ 0 → (after.state.budget < told.need)
+      × (priority_in after.state told.blocking ≡ told.worst) × Contains (mesh_seen after) told.blocking
+  pub kept : (answer ≡ Done → ⊥) → after ≡ before
+  pub untold : (answer ≡ Done → ⊥) → told ≡ told_before
+
+-- the indices of the mesh stand in the first places of an array, and how many triangles there are is told
+pub record AreIndicesTold (e : EngineState) (array_before array : List ℕ) (count_before count : ℕ) (answer : Answer) : Type 0 where
+  pub done : (answer ≡ Done) ↔ (3 * length (mesh_seen e) ≤ length array_before)
+  pub no_room : (answer ≡ NoRoom) ↔ (length array_before < 3 * length (mesh_seen e))
+  pub written : answer ≡ Done → array ≡ indices_of e.state.grid.n (mesh_seen e) ++ drop (3 * length (mesh_seen e)) array_before
+  pub counted : answer ≡ Done → count ≡ length (mesh_seen e)
+  pub unwritten : (answer ≡ Done → ⊥) → array ≡ array_before
+  pub uncounted : (answer ≡ Done → ⊥) → count ≡ count_before
+
+-- the same of the addresses of the triangles
+pub record AreLeavesTold (e : EngineState) (array_before array : List ℕ) (count_before count : ℕ) (answer : Answer) : Type 0 where
+  pub done : (answer ≡ Done) ↔ (length (mesh_seen e) ≤ length array_before)
+  pub no_room : (answer ≡ NoRoom) ↔ (length array_before < length (mesh_seen e))
+  pub written : answer ≡ Done → array ≡ mesh_seen e ++ drop (length (mesh_seen e)) array_before
+  pub counted : answer ≡ Done → count ≡ length (mesh_seen e)
+  pub unwritten : (answer ≡ Done → ⊥) → array ≡ array_before
+  pub uncounted : (answer ≡ Done → ⊥) → count ≡ count_before

@@ -1,0 +1,4 @@
+pub mod Answer
+pub mod Grid
+pub mod Told
+pub mod Calls

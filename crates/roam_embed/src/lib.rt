@@ -1,0 +1,23 @@
+//! The engine for callers whom nobody checks: each call tests its arguments, and answers what is wrong with them.
+//!
+//! For programs in other languages, which see it through `roam_c`. No function has a `requires`. What an `Engine` requires of its
+//! caller is tested here; an `Answer` other than `Done` leaves the engine and the caller's arrays as they were. Where several
+//! causes hold, the answer is the one with the least number; out of memory comes last.
+
+#![tactic(auto)]
+
+mod answer;
+mod frames;
+mod ground;
+mod make;
+mod mesh;
+mod notes;
+mod view;
+
+pub use answer::Answer;
+pub use frames::{MOST_FRAMES, make_frame, tell_standing};
+pub use ground::{GREATEST_CHANGE, put_height, raise_area};
+pub use make::open_engine;
+pub use mesh::{tell_indices, tell_leaves};
+pub use notes::{Frame, Standing};
+pub use view::{LONGEST_WAY, MOST_PLANES, add_plane, clear_planes, move_camera, put_budget};

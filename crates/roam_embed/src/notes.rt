@@ -1,0 +1,49 @@
+//! What calls tell, as plain structs of numbers.
+
+/// What a frame did, and what its mesh is.
+#[repr(C)]
+#[derive(Clone, Copy, Debug, PartialEq, Eq)]
+pub struct Frame {
+    /// The greatest priority of a triangle of the mesh.
+    pub worst: u64,
+    /// How many triangles the mesh has.
+    pub triangles: u32,
+    /// How many vertices they have.
+    pub vertices: u32,
+    /// How many triangles were split in this frame.
+    pub splits: u32,
+    /// How many were merged.
+    pub merges: u32,
+    /// The triangle at which the budget ended, or 0 where every triangle has priority 0.
+    pub blocking: u32,
+    /// How many triangles the mesh would have with it, or 0.
+    pub need: u32,
+    /// How many triangles of the mesh are inside all planes.
+    pub inside: u32,
+    /// How many are cut by a plane.
+    pub cut: u32,
+    /// How many are outside a plane.
+    pub outside: u32,
+    /// Always 0.
+    pub spare: u32,
+}
+
+/// How an engine stands.
+#[repr(C)]
+#[derive(Clone, Copy, Debug, PartialEq, Eq)]
+pub struct Standing {
+    /// The number of points of a side.
+    pub side: usize,
+    /// How far the camera has gone: the sum of the ways of its moves along the three axes.
+    pub way: u64,
+    /// How often a priority was evaluated.
+    pub evaluations: u64,
+    /// How many frames were made.
+    pub frames: u32,
+    /// The greatest budget.
+    pub most: u32,
+    /// The budget in force.
+    pub budget: u32,
+    /// How many planes are in force.
+    pub planes: u32,
+}
