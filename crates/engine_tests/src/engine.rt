@@ -9,7 +9,10 @@ use std::alloc::Global;
 use wedgie_tree::Wedges;
 
 /// What a frame tells: triangles, vertices, worst, splits, merges, and what blocks with its need.
-type Told = (u32, u32, u64, u32, u32, Option<(u32, u32)>);
+pub type Told = (u32, u32, u64, u32, u32, Option<(u32, u32)>);
+
+/// How many triangles are inside, cut and outside.
+pub type Marks = (u32, u32, u32);
 
 /// A step of a worked run.
 #[derive(Clone, Copy)]
@@ -92,8 +95,8 @@ fn set_budget(engine: &mut Engine, budget: u32) -> bool {
     engine.budget_in_force() == budget
 }
 
-/// The next frame, if there may be one more and it adds up.
-pub fn frame(engine: &mut Engine) -> Option<FrameNote> {
+/// What the next frame tells, if there may be one more and it adds up.
+pub fn frame(engine: &mut Engine) -> Option<(Told, Marks)> {
     let frames = engine.frames();
     if frames >= 1000000 {
         return None;
@@ -103,22 +106,24 @@ pub fn frame(engine: &mut Engine) -> Option<FrameNote> {
     let after = u64::from(engine.pool().leaf_count());
     let adds_up = before + u64::from(note.splits) == after + u64::from(note.merges);
     if adds_up && engine.frames() == frames + 1 {
-        Some(note)
+        Some(plain(&note))
     } else {
         None
     }
 }
 
-fn told(note: &FrameNote) -> Told {
+/// The numbers of a frame.
+fn plain(note: &FrameNote) -> (Told, Marks) {
     let blocked = note.blocked.map(|b| (b.tri.number(), b.need));
-    (
+    let told = (
         note.triangles,
         note.vertices,
         note.worst,
         note.splits,
         note.merges,
         blocked,
-    )
+    );
+    (told, (note.inside, note.cut, note.outside))
 }
 
 /// Whether the step goes as it says.
@@ -126,10 +131,9 @@ fn goes(engine: &mut Engine, step: Step) -> bool {
     let before = engine.evaluations();
     match step {
         Step::Change(line) => change(engine, line),
-        Step::Frame(wanted) => frame(engine).is_some_and(|note| told(&note) == wanted),
-        Step::Still(inside, cut, outside) => frame(engine).is_some_and(|note| {
-            (note.splits, note.merges) == (0, 0)
-                && (note.inside, note.cut, note.outside) == (inside, cut, outside)
+        Step::Frame(wanted) => frame(engine).is_some_and(|(told, _marks)| told == wanted),
+        Step::Still(inside, cut, outside) => frame(engine).is_some_and(|(told, marks)| {
+            (told.3, told.4) == (0, 0) && marks == (inside, cut, outside)
         }),
         Step::Cheap => frame(engine).is_some() && engine.evaluations().saturating_sub(before) <= 2,
         Step::View(planes, leaves) => {

@@ -65,17 +65,21 @@ type Sums = (u64, u64, u64);
 
 /// The sums after one more line of a generated script.
 fn sums_after(engine: &mut Engine, line: Line, sums: Sums) -> Option<Sums> {
-    if line != Line::Frame {
-        return if change(engine, line) {
-            Some(sums)
-        } else {
-            None
-        };
+    match line {
+        Line::Frame => {
+            let (told, _marks) = frame(engine)?;
+            let triangles = sums.0.saturating_add(u64::from(told.0));
+            let blocked = sums.2.saturating_add(u64::from(told.5.is_some()));
+            Some((triangles, sums.1.max(told.2), blocked))
+        }
+        other => {
+            if change(engine, other) {
+                Some(sums)
+            } else {
+                None
+            }
+        }
     }
-    let note = frame(engine)?;
-    let triangles = sums.0.saturating_add(u64::from(note.triangles));
-    let blocked = sums.2.saturating_add(u64::from(note.blocked.is_some()));
-    Some((triangles, sums.1.max(note.worst), blocked))
 }
 
 /// The sums of the generated script of level 9 and seed 1.

@@ -323,19 +323,24 @@ const FROM_UPPER_RIGHT: [Equal; 13] = [
     (26, 1310720),
 ];
 
-/// What three frames tell, the sets after the first two, all splits and merges, and how often the third asks.
-type ThreeFrames = ([Told; 3], [u64; 2], (u64, u64), u64);
+/// What three frames tell, the sets after the first two, all splits and merges, and whether the third asks at most twice.
+type ThreeFrames = ([Told; 3], [u64; 2], (u64, u64), bool);
 
-fn two_peaks(rt: &impl Abort, alloc: Global) -> Option<ThreeFrames> {
-    let mut run = run_between(alloc, 2, 9, &FROM_LOWER_LEFT, &FROM_LOWER_LEFT)?;
-    let first = next_frame(rt, alloc, &mut run, &FROM_LOWER_LEFT, (0, 9, 0))?;
+fn two_peaks(rt: &impl Abort, alloc: Global, run: &mut Run) -> Option<ThreeFrames> {
+    let first = next_frame(rt, alloc, run, &FROM_LOWER_LEFT, (0, 9, 0))?;
     let set = members(run.mesh.pool());
-    go_on(alloc, &mut run, &FROM_UPPER_RIGHT)?;
-    let second = next_frame(rt, alloc, &mut run, &FROM_UPPER_RIGHT, (0, 9, 8))?;
+    go_on(alloc, run, &FROM_UPPER_RIGHT)?;
+    let second = next_frame(rt, alloc, run, &FROM_UPPER_RIGHT, (0, 9, 8))?;
     let other = members(run.mesh.pool());
-    let third = next_frame(rt, alloc, &mut run, &FROM_UPPER_RIGHT, (0, 9, 8))?;
+    let third = next_frame(rt, alloc, run, &FROM_UPPER_RIGHT, (0, 9, 8))?;
     let counts = (run.mesh.pool().splits(), run.mesh.pool().merges());
-    Some(([first.0, second.0, third.0], [set, other], counts, third.1))
+    let told = [first.0, second.0, third.0];
+    Some((told, [set, other], counts, third.1 <= 2))
+}
+
+fn frames_of_two_peaks(rt: &impl Abort, alloc: Global) -> Option<ThreeFrames> {
+    let mut run = run_between(alloc, 2, 9, &FROM_LOWER_LEFT, &FROM_LOWER_LEFT)?;
+    two_peaks(rt, alloc, &mut run)
 }
 
 /// The second frame merges 17, 8 with 11, 5 and 4, and splits 6, 12 with 15 and 7, and 25. The third stands still.
@@ -350,55 +355,61 @@ fn three_frames_of_two_peaks(rt: HostRuntime) {
         bits(&[2, 3, 4, 5, 8, 11, 17]),
         bits(&[2, 3, 6, 7, 12, 15, 25]),
     ];
-    let found = two_peaks(&rt, rt.alloc());
-    assert_eq!(rt; found.map(|f| (f.0, f.1, f.2)), Some((told, sets, (12, 5))));
-    assert!(rt; found.is_some_and(|f| f.3 <= 2));
+    let wanted = (told, sets, (12, 5), true);
+    assert_eq!(rt; frames_of_two_peaks(&rt, rt.alloc()), Some(wanted));
 }
 
-/// Heights 10 in the middle and else 0, at n = 1, seen from (0, 0, 1000): what three frames tell and how often each asks, the
-/// third after the stamp of 2 has expired.
-fn middle(rt: &impl Abort, alloc: Global) -> Option<[(Told, u64); 3]> {
-    let mut run = run_between(alloc, 1, 4, &[(2, 0), (4, 1176)], &[(2, 0), (4, 1510)])?;
-    let first = next_frame(rt, alloc, &mut run, &[(2, 0), (4, 1322)], (123, 4, 0))?;
-    let second = next_frame(rt, alloc, &mut run, &[(2, 0), (4, 1322)], (123, 4, 0))?;
+/// What three frames tell, the third after the stamp of 2 has expired; whether the second asks nothing, and the third something.
+fn middle(rt: &impl Abort, alloc: Global, run: &mut Run) -> Option<([Told; 3], bool, bool)> {
+    let own = [(2, 0), (4, 1322)];
+    let first = next_frame(rt, alloc, run, &own, (123, 4, 0))?;
+    let second = next_frame(rt, alloc, run, &own, (123, 4, 0))?;
     run.expire(rt, 2);
-    let third = next_frame(rt, alloc, &mut run, &[(2, 0), (4, 1322)], (123, 4, 0))?;
-    Some([first, second, third])
+    let third = next_frame(rt, alloc, run, &own, (123, 4, 0))?;
+    let told = [first.0, second.0, third.0];
+    Some((told, second.1 == 0, third.1 > 0))
+}
+
+/// Heights 10 in the middle and else 0, at n = 1, seen from (0, 0, 1000).
+fn frames_of_the_middle(rt: &impl Abort, alloc: Global) -> Option<([Told; 3], bool, bool)> {
+    let mut run = run_between(alloc, 1, 4, &[(2, 0), (4, 1176)], &[(2, 0), (4, 1510)])?;
+    middle(rt, alloc, &mut run)
 }
 
 #[test]
 fn a_mesh_that_is_right_asks_nothing(rt: HostRuntime) {
-    let frames = middle(&rt, rt.alloc());
     let told = [(2, 0, 0, None), (0, 0, 0, None), (0, 0, 0, None)];
-    assert_eq!(rt; frames.map(|f| [f[0].0, f[1].0, f[2].0]), Some(told));
-    assert_eq!(rt; frames.map(|f| (f[1].1, f[2].1 > 0)), Some((0, true)));
+    assert_eq!(rt;
+        frames_of_the_middle(&rt, rt.alloc()),
+        Some((told, true, true))
+    );
+}
+
+/// What two frames tell, and whether the second asks no more than 32 triangles of diamonds and two steps want.
+fn checkered(rt: &impl Abort, alloc: Global, run: &mut Run) -> Option<([Told; 2], bool)> {
+    let own = [(2, 0), (64, 144), (128, 13)];
+    let first = next_frame(rt, alloc, run, &own, (1248, 64, 0))?;
+    let second = next_frame(rt, alloc, run, &own, (1248, 63, 0))?;
+    Some(([first.0, second.0], second.1 <= 2 * 32 + 6 * 2))
 }
 
 /// Heights 0 where both coordinates are even, 10 where both are odd, and else 1, at n = 3, seen from (4, 4, 10000). No leaf straddles
 /// in the second frame, and 32 triangles of diamonds do.
-fn checkered(rt: &impl Abort, alloc: Global) -> Option<[(Told, u64); 2]> {
+fn checkered_frames(rt: &impl Abort, alloc: Global) -> Option<([Told; 2], bool)> {
     let lower = [(2, 0), (64, 128), (128, 11)];
     let upper = [(2, 0), (64, 164), (128, 14)];
-    let own = [(2, 0), (64, 144), (128, 13)];
     let mut run = run_between(alloc, 3, 64, &lower, &upper)?;
-    let first = next_frame(rt, alloc, &mut run, &own, (1248, 64, 0))?;
-    let second = next_frame(rt, alloc, &mut run, &own, (1248, 63, 0))?;
-    Some([first, second])
+    checkered(rt, alloc, &mut run)
 }
 
 #[test]
 fn above_the_budget_no_leaf_is_asked(rt: HostRuntime) {
-    let frames = checkered(&rt, rt.alloc());
     let told = [(62, 0, 13, Some((64, 66))), (0, 2, 144, Some((60, 64)))];
-    assert_eq!(rt; frames.map(|f| [f[0].0, f[1].0]), Some(told));
-    assert!(rt; frames.is_some_and(|f| f[1].1 <= 2 * 32 + 6 * 2));
+    assert_eq!(rt; checkered_frames(&rt, rt.alloc()), Some((told, true)));
 }
 
-/// Rows of heights 0 3 0, 3 9 5 and 0 3 0 ten units apart, as they are read from (14, 23, 100). They are seen from (14, 23, 100),
-/// (12, 23, 100) and (16, 27, 100): only the last one shows other priorities, by that of 4. What three frames tell, and the set.
-fn three_rows(rt: &impl Abort, alloc: Global) -> Option<([Told; 3], u64)> {
-    let lower = [(2, 0), (3, 15270), (4, 17815), (7, 3817), (8, 6362)];
-    let upper = [(2, 0), (3, 19418), (4, 22654), (7, 4854), (8, 8090)];
+/// What three frames tell, and the set.
+fn three_rows(rt: &impl Abort, alloc: Global, run: &mut Run) -> Option<([Told; 3], u64)> {
     let own = [(2, 0), (3, 17096), (4, 19945), (7, 4274), (8, 7123)];
     let other = [
         (2, 0),
@@ -408,11 +419,20 @@ fn three_rows(rt: &impl Abort, alloc: Global) -> Option<([Told; 3], u64)> {
         (7, 4274),
         (8, 7123),
     ];
+    let first = next_frame(rt, alloc, run, &own, (11, 7, 0))?;
+    let second = next_frame(rt, alloc, run, &own, (11, 7, 2))?;
+    let third = next_frame(rt, alloc, run, &other, (11, 7, 10))?;
+    let told = [first.0, second.0, third.0];
+    Some((told, members(run.mesh.pool())))
+}
+
+/// Rows of heights 0 3 0, 3 9 5 and 0 3 0 ten units apart, as they are read from (14, 23, 100). They are seen from (14, 23, 100),
+/// (12, 23, 100) and (16, 27, 100): only the last one shows other priorities, by that of 4.
+fn frames_of_three_rows(rt: &impl Abort, alloc: Global) -> Option<([Told; 3], u64)> {
+    let lower = [(2, 0), (3, 15270), (4, 17815), (7, 3817), (8, 6362)];
+    let upper = [(2, 0), (3, 19418), (4, 22654), (7, 4854), (8, 8090)];
     let mut run = run_between(alloc, 1, 7, &lower, &upper)?;
-    let first = next_frame(rt, alloc, &mut run, &own, (11, 7, 0))?;
-    let second = next_frame(rt, alloc, &mut run, &own, (11, 7, 2))?;
-    let third = next_frame(rt, alloc, &mut run, &other, (11, 7, 10))?;
-    Some(([first.0, second.0, third.0], members(run.mesh.pool())))
+    three_rows(rt, alloc, &mut run)
 }
 
 #[test]
@@ -423,5 +443,5 @@ fn what_was_asked_is_no_key_in_the_next_frame(rt: HostRuntime) {
         (1, 1, 4228, Some((4, 8))),
     ];
     let wanted = (told, bits(&[2, 3, 5, 6, 7]));
-    assert_eq!(rt; three_rows(&rt, rt.alloc()), Some(wanted));
+    assert_eq!(rt; frames_of_three_rows(&rt, rt.alloc()), Some(wanted));
 }
