@@ -1,0 +1,373 @@
+"""Flies examples/fly in a headless Chromium, and asks its server wrongly: a line 'ok NAME' or 'FAILED NAME: why' a check.
+
+usage: python3 checks/viewer.py GRID PICTURE CHROMIUM       all; the picture of the tenth frame is left in PICTURE
+       python3 checks/viewer.py GRID                        the server alone
+       python3 checks/viewer.py GRID --time FRAMES          prints the server's milliseconds a frame along a path
+
+The browser is driven over its debugging pipe, so nothing but Python's std is wanted.
+"""
+import base64
+import http.client
+import json
+import math
+import os
+import pathlib
+import select
+import signal
+import socket
+import struct
+import subprocess
+import sys
+import tempfile
+import threading
+import time
+import zlib
+
+TOP = pathlib.Path(__file__).resolve().parents[1]
+FRAMES = 10
+
+
+def decide(name, why):
+    """Prints how a check went: `why` has the reasons against it."""
+    print(f"ok {name}" if not why else f"FAILED {name}: {'; '.join(map(str, why))[:600]}", flush=True)
+
+
+class Server:
+    """examples/fly over a grid, on a free port, with the lines that it has printed."""
+
+    def __init__(self, grid, triangles):
+        words = [sys.executable, str(TOP / "examples/fly/fly.py"), grid, "--triangles", str(triangles), "--port", "0", "--quiet", "--report"]
+        self.process = subprocess.Popen(words, stdout=subprocess.PIPE, stderr=subprocess.PIPE, text=True)
+        first = self.process.stdout.readline()
+        if not first.startswith("http://127.0.0.1:"):
+            raise SystemExit(f"FAILED viewer_server_starts: {first}{self.process.stderr.read()}".replace("\n", " "))
+        self.port, self.lines, self.errors = int(first.split("/")[2].split(":")[1]), [], []
+        for stream, kept in ((self.process.stdout, self.lines), (self.process.stderr, self.errors)):
+            threading.Thread(target=lambda s=stream, k=kept: k.extend(iter(s.readline, "")), daemon=True).start()
+
+    def connect(self):
+        return http.client.HTTPConnection("127.0.0.1", self.port, timeout=60)
+
+    def ask(self, path, body=None, link=None, **headers):
+        """The status and the body of one answer."""
+        mine = link or self.connect()
+        if isinstance(body, (list, tuple)):
+            body = struct.pack(f"<{len(body)}q", *body)
+        mine.request("GET" if body is None else "POST", path, body, {name.replace("_", "-"): value for name, value in headers.items()})
+        answer = mine.getresponse()
+        found = answer.status, answer.read()
+        if link is None:
+            mine.close()
+        return found
+
+
+class Browser:
+    """A headless Chromium with one page."""
+
+    def __init__(self, chromium, profile):
+        theirs, self.to = os.pipe()
+        self.of, back = os.pipe()
+        words = ["--headless=new", "--no-sandbox", "--disable-gpu-sandbox", "--use-angle=swiftshader", "--enable-unsafe-swiftshader",
+                 "--no-first-run", "--disable-background-networking", "--disable-component-update", "--disable-sync",
+                 "--window-size=900,600", f"--user-data-dir={profile}", "--remote-debugging-pipe", "about:blank"]
+        self.process = subprocess.Popen(["bash", "-c", f'exec "$@" 3<&{theirs} 4>&{back}', "-", chromium, *words],
+                                        pass_fds=(theirs, back), stdout=subprocess.DEVNULL, stderr=subprocess.DEVNULL)
+        os.close(theirs), os.close(back)
+        self.rest, self.count, self.session, self.said, self.wrong = b"", 0, None, [], []
+        target = self.call("Target.createTarget", url="about:blank")["targetId"]
+        self.session = self.call("Target.attachToTarget", targetId=target, flatten=True)["sessionId"]
+        for part in ("Page", "Runtime", "Log"):
+            self.call(part + ".enable")
+
+    def read(self, until):
+        """The next message, or None at the time `until`."""
+        while b"\0" not in self.rest:
+            if not select.select([self.of], [], [], max(0, until - time.monotonic()))[0]:
+                return None
+            more = os.read(self.of, 1 << 20)
+            if not more:
+                raise SystemExit("FAILED viewer_browser_stays: it went")
+            self.rest += more
+        one, _, self.rest = self.rest.partition(b"\0")
+        message = json.loads(one)
+        method, words = message.get("method"), message.get("params", {})
+        if method == "Runtime.consoleAPICalled":
+            text = " ".join(str(it.get("value", it.get("description"))) for it in words["args"])
+            (self.said if words["type"] == "log" else self.wrong).append(text)
+        elif method == "Runtime.exceptionThrown":
+            self.wrong.append(json.dumps(words["exceptionDetails"])[:300])
+        elif method == "Log.entryAdded" and words["entry"]["level"] == "error":
+            self.wrong.append(words["entry"]["text"])
+        return message
+
+    def call(self, method, **words):
+        self.count += 1
+        message = {"id": self.count, "method": method, "params": words, **({"sessionId": self.session} if self.session else {})}
+        os.write(self.to, json.dumps(message).encode() + b"\0")
+        until = time.monotonic() + 120
+        while (got := self.read(until)) is not None:
+            if got.get("id") == self.count:
+                if "error" in got:
+                    raise SystemExit(f"FAILED viewer_browser_answers: {method}: {got['error']}")
+                return got["result"]
+        raise SystemExit(f"FAILED viewer_browser_answers: {method}: nothing in 120 s")
+
+    def value(self, expression):
+        """What an expression of the page is."""
+        return self.call("Runtime.evaluate", expression=expression, returnByValue=True)["result"].get("value")
+
+    def wait(self, expression, seconds):
+        until = time.monotonic() + seconds
+        while time.monotonic() < until:
+            if self.value(expression):
+                return True
+            self.read(time.monotonic() + 0.3)
+        return False
+
+    def picture(self):
+        return base64.b64decode(self.call("Page.captureScreenshot", format="png")["data"])
+
+    def click(self, x, y):
+        for kind in ("mousePressed", "mouseReleased"):
+            self.call("Input.dispatchMouseEvent", type=kind, x=x, y=y, button="left", clickCount=1)
+
+    def close(self):
+        self.process.terminate()
+        self.process.wait()
+
+
+def pixels(png):
+    """The rows of a PNG file of 8 bits a channel, each a list of (red, green, blue)."""
+    at, data, width, each = 8, b"", 0, 3
+    while at < len(png):
+        size, kind = struct.unpack(">I4s", png[at:at + 8])
+        if kind == b"IHDR":
+            width, _, _, color = struct.unpack(">IIBB", png[at + 8:at + 18])
+            each = {2: 3, 6: 4}[color]
+        if kind == b"IDAT":
+            data += png[at + 8:at + 8 + size]
+        at += size + 12
+    data, rows, above, line = zlib.decompress(data), [], bytes(width * each), width * each + 1
+    for start in range(0, len(data), line):
+        how, row = data[start], bytearray(data[start + 1:start + line])
+        for k in range(len(row)):
+            a, b, c = row[k - each] if k >= each else 0, above[k], above[k - each] if k >= each else 0
+            if how == 4:
+                p = a + b - c
+                c = min((abs(p - a), 0, a), (abs(p - b), 1, b), (abs(p - c), 2, c))[2]
+            row[k] = (row[k] + (0, a, b, (a + b) // 2, c)[how]) & 255
+        rows.append([tuple(row[k:k + 3]) for k in range(0, len(row), each)])
+        above = row
+    return rows
+
+
+def shown(rows):
+    """What is wrong with a picture of a flight: sky above, terrain of many colours in the lower half, and dark edges in it."""
+    sky = (148, 176, 209)
+    part = lambda some, like: sum(map(like, some)) / len(some)
+    is_sky = lambda p: max(abs(v - w) for v, w in zip(p, sky)) < 12
+    low = [p for row in rows[len(rows) // 2:] for p in row[:len(row) // 2]]
+    high = [p for row in rows[:len(rows) // 10] for p in row[len(row) // 3:len(row) * 2 // 3]]
+    why = []
+    if part(low, is_sky) > 0.05:
+        why.append(f"{part(low, is_sky):.2f} of the lower half is sky")
+    if part(high, is_sky) < 0.7:
+        why.append(f"only {part(high, is_sky):.2f} of the top is sky")
+    if len(set(low)) < 500:
+        why.append(f"the lower half has {len(set(low))} colours")
+    if not 0.01 < part(low, lambda p: sum(p) < 160) < 0.7:
+        why.append(f"{part(low, lambda p: sum(p) < 160):.2f} of the lower half is dark as edges are")
+    return why
+
+
+def listens(process):
+    """The addresses that a process listens on, by the system's tables."""
+    own, found = set(), []
+    for link in pathlib.Path(f"/proc/{process}/fd").iterdir():
+        try:
+            own.add(os.readlink(link))
+        except OSError:
+            pass
+    for table in ("tcp", "tcp6"):
+        for line in pathlib.Path(f"/proc/{process}/net/{table}").read_text().splitlines()[1:]:
+            words = line.split()
+            if words[3] == "0A" and f"socket:[{words[9]}]" in own:
+                found.append(words[1].split(":")[0])
+    return found
+
+
+GOOD = [2000, 8000, 8000, 1500, 0, 100_000, 0, -300_000_000]
+
+
+def check_server(server):
+    """The server's calls, right and wrong."""
+    status, ground = server.ask("/ground", [])
+    side, spacing, most, edits = struct.unpack("<4I", ground[:16])
+    decide("viewer_ground", [] if status == 200 and len(ground) == 16 + 2 * side * side and (spacing, most, edits) == (90, 6000, 0)
+           else [status, len(ground), spacing, most, edits])
+
+    def frame(link=None):
+        """The same frame as ever: what is wrong with its answer."""
+        status, body = server.ask("/frame", GOOD, link)
+        if status != 200:
+            return [f"status {status}: {body[:80]}"]
+        count = struct.unpack("<I", body[8:12])[0]
+        corners = struct.unpack(f"<{3 * count}I", body[64:64 + 12 * count])
+        names = struct.unpack(f"<{count}I", body[64 + 12 * count:])
+        inside, cut, outside = struct.unpack("<3I", body[32:44])
+        return [text for text, wrong in {"more than the budget": count > 2000, "a corner beyond the grid": max(corners) >= side * side,
+                                         "a name twice": len(set(names)) != count,
+                                         "parts do not add up": inside + cut + outside != count}.items() if wrong]
+
+    decide("viewer_frame", frame())
+    pages = {path: server.ask(path) for path in ("/", "/fly.js")}
+    decide("viewer_pages", [f"{path}: {status}" for path, (status, body) in pages.items() if status != 200 or len(body) < 500])
+    far, good = 1 << 31, tuple(GOOD)
+    wrong = {
+        "a budget of 1": ("/frame", (1,) + good[1:], 400), "a budget above the opened one": ("/frame", (6001,) + good[1:], 400),
+        "a camera out of range": ("/frame", (2000, far, 0, 0), 400), "a steep plane": ("/frame", good[:4] + (far, 0, 0, 0), 400),
+        "seven planes": ("/frame", good[:4] + 7 * good[4:], 413), "no numbers": ("/frame", (), 400), "five numbers": ("/frame", good[:5], 400),
+        "garbage": ("/frame", b"\xff\x00garbage", 400), "garbage of whole numbers": ("/frame", bytes(range(200, 256)) + bytes(8), 400),
+        "long garbage": ("/frame", bytes(100_000), 413), "a point out of the grid": ("/raise", (side, 0, 4, 10), 400),
+        "a radius of 0": ("/raise", (5, 5, 0, 10), 400), "a great change": ("/raise", (5, 5, 4, 1 << 40), 400),
+        "no such call": ("/none", (1,), 404), "no such page": ("/../README.md", None, 404), "a file beside": ("/fly.py", None, 404),
+    }
+    why = []
+    for name, (path, body, status) in wrong.items():
+        got = server.ask(path, body)
+        if got[0] != status or not got[1]:
+            why.append(f"{name}: {got[0]} {got[1][:60]}")
+        why += [f"after {name}: {it}" for it in frame()]
+    for name, headers in {"another host": {"Host": "evil.example"}, "another origin": {"Origin": "http://evil.example"}}.items():
+        got = server.ask("/frame", GOOD, **headers)[0]
+        if got != 403:
+            why.append(f"{name}: {got}")
+    decide("viewer_wrong_requests_are_answered_and_hurt_nothing", why)
+
+    why, threads = [], []
+    for _ in range(10):
+        threads.append(threading.Thread(target=lambda: why.extend(frame())))
+        threads[-1].start()
+    for thread in threads:
+        thread.join()
+    decide("viewer_ten_requests_at_once", why)
+
+    for raw in (b"", b"POST /frame HTTP/1.1\r\nHost: 127.0.0.1:%d\r\nContent-Length: 64\r\n\r\nhalf" % server.port,
+                b"POST /frame HTTP/1.1\r\nHost: 127.0.0.1:%d\r\nContent-Length: 64\r\n\r\n" % server.port + struct.pack("<8q", *GOOD),
+                b"\x16\x03\x01 no HTTP\r\n\r\n", b"POST /frame HTTP/1.1\r\nContent-Length: -4\r\n\r\n", b"GET /" + b"a" * 70_000):
+        with socket.create_connection(("127.0.0.1", server.port)) as link:
+            link.setsockopt(socket.SOL_SOCKET, socket.SO_LINGER, struct.pack("ii", 1, 0))
+            try:
+                link.sendall(raw)
+            except ConnectionError:
+                pass
+    link = server.connect()
+    decide("viewer_closed_connections_hurt_nothing", frame(link) + frame(link))
+    link.close()
+    found = listens(server.process.pid)
+    decide("viewer_listens_on_127_0_0_1_alone", [] if found == ["0100007F"] else [f"listens on {found}"])
+
+
+def check_lift(server):
+    """Ground is raised in the engine and in what the page gets, the same: a new server over the new ground makes the same mesh."""
+    before = server.ask("/ground", [])[1]
+    why = [] if server.ask("/raise", [100, 90, 8, 3000])[0] == 200 == server.ask("/raise", [3, 250, 20, -5000])[0] else ["refused"]
+    after = server.ask("/ground", [])[1]
+    side, _, _, edits, earlier = struct.unpack("<4I", after[:16]) + struct.unpack("<I", before[12:16])
+    numbers, old = (struct.unpack(f"<{side * side}H", it[16:]) for it in (after, before))
+    place = (side - 1 - 90) * side + 100
+    why += [] if edits == earlier + 2 and numbers[place] == old[place] + 3000 else [f"{edits} edits, {old[place]} to {numbers[place]}"]
+    with tempfile.NamedTemporaryFile(suffix=".pgm") as file:
+        file.write(f"P5\n{side} {side}\n65535\n".encode() + struct.pack(f">{side * side}H", *numbers))
+        file.flush()
+        other = Server(file.name, 6000)
+        mine, theirs = server.ask("/frame", GOOD)[1], other.ask("/frame", GOOD)[1]
+        other.process.terminate()
+        other.process.wait()
+    # The head tells splits, merges and times, too: worst, and blocking to outside are compared.
+    if mine[:8] + mine[24:44] != theirs[:8] + theirs[24:44]:
+        why.append("a new engine over the ground makes another mesh")
+    decide("viewer_raised_ground_is_the_engines", why)
+
+
+def check_browser(server, picture, chromium):
+    """Ten frames of the recorded path, and a click."""
+    with tempfile.TemporaryDirectory(ignore_cleanup_errors=True) as profile:
+        browser = Browser(chromium, profile)
+        try:
+            printed = len(server.lines)
+            browser.call("Page.navigate", url=f"http://127.0.0.1:{server.port}/?frames={FRAMES}&triangles=3000")
+            done = browser.wait('document.title === "done"', 240)
+            told, lines = browser.said, [line.split(" ", 2)[2].strip() for line in server.lines[printed:]]
+            decide("viewer_ten_frames_are_drawn", [] if done and len(told) == FRAMES else [f"{len(told)} frames", *browser.wrong])
+            decide("viewer_no_error_in_the_console", browser.wrong)
+            decide("viewer_each_frame_is_the_servers", [f"drawn: {mine}; of the server: {theirs}" for mine, theirs in zip(told, lines)
+                   if mine.split(" ", 2)[2] != theirs] + ([] if len(lines) >= FRAMES else ["frames are missing"])
+                   + ([] if len(set(lines)) > FRAMES // 2 else ["the frames are the same"]))
+            png = browser.picture()
+            pathlib.Path(picture).write_bytes(png)
+            decide("viewer_picture_has_terrain_below_and_sky_above", shown(pixels(png)))
+            before = struct.unpack("<4I", server.ask("/ground", [])[1][:16])[3]
+            browser.click(400, 420)
+            ground = b""
+            for _ in range(50):
+                ground = server.ask("/ground", [])[1]
+                if struct.unpack("<4I", ground[:16])[3] != before:
+                    break
+                time.sleep(0.1)
+            decide("viewer_a_click_raises_the_ground", [] if struct.unpack("<4I", ground[:16])[3] == before + 1 else ["no edit came"])
+        finally:
+            browser.close()
+
+
+def measure(server, frames):
+    """Milliseconds a frame along a path of 30 units a frame: the server's processor time, and by the clock."""
+    def processor():
+        words = pathlib.Path(f"/proc/{server.process.pid}/stat").read_text().rpartition(")")[2].split()
+        return 1000 * (int(words[11]) + int(words[12])) / os.sysconf("SC_CLK_TCK")
+
+    side, spacing, most, _ = struct.unpack("<4I", server.ask("/ground", [])[1][:16])
+    for name, planes in {"no planes": False, "four planes anew": True}.items():
+        link, spent, engine, start = server.connect(), [], [], 0.0
+        for k in range(frames):
+            if k == 10:  # the first frames make the whole mesh
+                start = processor()
+            x, y, turn = spacing * side / 3 + 30 * k, spacing * side / 3, 0.002 * k
+            more = []
+            for angle in (turn + 0.6, turn - 0.6 + math.pi):
+                a, b = round(1e5 * math.cos(angle)), round(1e5 * math.sin(angle))
+                more += [a, b, 0, -round(a * x + b * y)]
+                more += [a // 2, b // 2, 80_000, -round(a // 2 * x + b // 2 * y - 4e8)]
+            began = time.perf_counter()
+            status, body = server.ask("/frame", [most, round(x), round(y), 2000, *(more if planes else [])], link)
+            spent.append(1000 * (time.perf_counter() - began))
+            engine.append(sum(struct.unpack("<2I", body[44:52])) / 1000)
+            assert status == 200, body
+        link.close()
+        own, spent, engine = (processor() - start) / (frames - 10), sorted(spent[10:]), sorted(engine[10:])
+        print(f"side {side}, {most} triangles, {name}: processor {own:.2f} ms a frame; by the clock engine and lists "
+              f"least {engine[0]:.2f}, median {engine[len(engine) // 2]:.2f} ms, request least {spent[0]:.2f}, "
+              f"median {spent[len(spent) // 2]:.2f} ms")
+
+
+def main():
+    words = sys.argv[1:]
+    signal.signal(signal.SIGTERM, lambda *_: sys.exit("FAILED viewer_checks_come_to_their_end: they were stopped"))
+    timed = len(words) == 3 and words[1] == "--time"
+    server = Server(words[0], 20_000 if timed else 6000)
+    try:
+        if timed:
+            measure(server, int(words[2]))
+            return
+        check_server(server)
+        if len(words) == 3:
+            check_browser(server, words[1], words[2])
+        check_lift(server)
+        decide("viewer_server_stays_and_says_nothing_wrong", [it.strip() for it in server.errors] + ([] if server.process.poll() is None else ["it ended"]))
+    finally:
+        server.process.terminate()
+        server.process.wait()
+
+
+if __name__ == "__main__":
+    main()

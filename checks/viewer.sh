@@ -1,0 +1,33 @@
+# shellcheck shell=bash disable=SC2154
+# The viewer of examples/fly: its server under right and wrong requests, and its page in a headless Chromium where that is
+# there. The library is the one that library.sh takes; ROAM_ARCHIVE names another archive. Sourced by checks/run.
+
+archive=${ROAM_ARCHIVE:-$top/crates/roam_c/out/libroam_c.a}
+if [ ! -f "$archive" ]; then
+  wrong the_library_of_the_viewer_is_built "there is no crates/roam_c/out/libroam_c.a; run 'lib/build' or 'rt ci' first"
+  return
+fi
+mkdir -- "$room/viewer" || exit 1
+if ! "$top/lib/build" "$room/viewer/prefix" "$archive" >"$room/viewer/said" 2>&1; then
+  wrong the_library_of_the_viewer_is_built "$(tail -n 5 "$room/viewer/said" | tr '\n' '/')"
+  return
+fi
+
+chromium=$(command -v chromium || command -v chromium-browser || command -v google-chrome) || chromium=
+words=("$top/examples/jacksboro/grid.pgm")
+if [ -n "$chromium" ]; then
+  words+=("$room/viewer/picture.png" "$chromium")
+else
+  skip viewer_page 'no Chromium is there (Debian: apt-get install chromium)'
+fi
+before=$((passed + failed))
+while IFS= read -r line; do
+  case $line in
+  'ok '*) ok "${line#ok }" ;;
+  'FAILED '*) wrong "$(expr "$line" : 'FAILED \([^:]*\)')" "${line#*: }" ;;
+  *) wrong viewer_checks_come_to_their_end "$line" ;;
+  esac
+done < <(ROAM_LIBRARY=$room/viewer/prefix/lib/libroam.so timeout 900 python3 "$top/checks/viewer.py" "${words[@]}" 2>&1)
+# Nine checks are the server's, five the page's.
+expected=$((${#words[@]} == 3 ? 14 : 9))
+[ $((passed + failed - before)) -ge $expected ] || wrong viewer_checks_come_to_their_end "only $((passed + failed - before)) of $expected"

@@ -1,0 +1,333 @@
+// The page of a flight: asks the server for each frame's mesh, draws it, and moves the camera. WebGL 2 alone.
+//
+// The heights are on the card once; a frame sends three places a triangle and its name. The next frame is asked while
+// this one is drawn, so a mesh is drawn with the camera that it was asked for.
+
+const WORDS = ["triangles", "vertices", "splits", "merges", "blocking", "need", "inside", "cut", "outside", "frameUs", "listUs", "edits"];
+const HEAD = 64, SKY = [0.58, 0.69, 0.82], NEAR = 0.35, REACH = 700; // nearest and farthest that is drawn, in grid steps
+const $ = (id) => document.getElementById(id);
+const asked = new URLSearchParams(location.search), STOP = +(asked.get("frames") ?? 0); // ?frames=10 stops after ten
+
+const VERTEX = `#version 300 es
+  precision highp float; precision highp int;
+  in uvec3 corners; in float fresh;
+  uniform highp usampler2D ground; uniform mat4 view; uniform vec4 planes[4];
+  uniform int side, count; uniform float spacing, lift;
+  out vec3 here, rim; flat out vec3 normal; flat out float changed; flat out int kind;
+  vec3 place(uint p) {
+    ivec2 at = ivec2(int(p) % side, int(p) / side);
+    return vec3(float(at.x) * spacing, float(side - 1 - at.y) * spacing, float(texelFetch(ground, at, 0).r) * lift);
+  }
+  void main() {
+    vec3 at[3] = vec3[3](place(corners.x), place(corners.y), place(corners.z));
+    kind = 0; // 0 inside all planes, 1 cut, 2 outside of one
+    for (int k = 0; k < count; k++) {
+      int behind = 0;
+      for (int c = 0; c < 3; c++) if (dot(planes[k].xyz, at[c]) + planes[k].w < 0.0) behind++;
+      kind = max(kind, behind == 3 ? 2 : behind > 0 ? 1 : 0);
+    }
+    normal = normalize(cross(at[1] - at[0], at[2] - at[0]));
+    here = at[gl_VertexID]; rim = vec3(gl_VertexID == 0, gl_VertexID == 1, gl_VertexID == 2); changed = fresh;
+    gl_Position = view * vec4(here, 1.0);
+  }`;
+const FRAGMENT = `#version 300 es
+  precision highp float; precision highp int;
+  in vec3 here, rim; flat in vec3 normal; flat in float changed; flat in int kind;
+  uniform vec3 eye, sky; uniform vec2 span; uniform float far; uniform bool edges, showChanged, mark; out vec4 color;
+  void main() {
+    float h = clamp((here.z - span.x) / (span.y - span.x), 0.0, 1.0), flatness = abs(normal.z);
+    vec3 low = mix(vec3(0.20, 0.38, 0.18), vec3(0.47, 0.50, 0.27), smoothstep(0.0, 0.45, h));
+    vec3 high = mix(vec3(0.55, 0.48, 0.38), vec3(0.93, 0.93, 0.95), smoothstep(0.75, 0.95, h));
+    vec3 ground = mix(vec3(0.42, 0.37, 0.33), mix(low, high, smoothstep(0.4, 0.7, h)), smoothstep(0.45, 0.85, flatness));
+    if (mark) ground = kind == 0 ? vec3(0.40, 0.80, 0.40) : kind == 1 ? vec3(1.0, 0.83, 0.27) : vec3(0.53, 0.60, 0.67);
+    vec3 lit = ground * (0.38 + 0.62 * max(dot(normal, normalize(vec3(0.5, 0.35, 0.75))), 0.0));
+    if (showChanged && changed > 0.0) lit = mix(lit, vec3(1.0, 0.5, 0.0), 0.75);
+    if (edges) {
+      vec3 step = fwidth(rim), wide = rim / step; // the rim in pixels; small triangles get pale edges
+      float strong = clamp(0.09 / max(step.x, max(step.y, step.z)), 0.12, 0.8);
+      lit = mix(lit, vec3(0.07, 0.09, 0.12), strong * clamp(1.2 - min(wide.x, min(wide.y, wide.z)), 0.0, 1.0));
+    }
+    float haze = clamp(distance(here, eye) / far, 0.0, 1.0);
+    color = vec4(mix(lit, sky, far > 0.0 ? haze * haze * 0.9 : 0.0), 1.0);
+  }`;
+
+// Calls of the server: whole numbers of 64 bits go there, bytes come back, or an error with what it says.
+async function call(name, numbers) {
+  const reply = await fetch(name, { method: "POST", body: BigInt64Array.from(numbers, (v) => BigInt(Math.round(v))) });
+  if (!reply.ok) throw new Error(await reply.text());
+  return reply.arrayBuffer();
+}
+
+const canvas = $("view"), gl = canvas.getContext("webgl2", { antialias: true, preserveDrawingBuffer: STOP > 0 });
+if (!gl) throw ($("told").textContent = "this browser has no WebGL 2");
+
+function shader(kind, text) {
+  const it = gl.createShader(kind);
+  gl.shaderSource(it, text);
+  gl.compileShader(it);
+  if (!gl.getShaderParameter(it, gl.COMPILE_STATUS)) throw new Error(gl.getShaderInfoLog(it));
+  return it;
+}
+const program = gl.createProgram();
+gl.attachShader(program, shader(gl.VERTEX_SHADER, VERTEX));
+gl.attachShader(program, shader(gl.FRAGMENT_SHADER, FRAGMENT));
+gl.linkProgram(program);
+if (!gl.getProgramParameter(program, gl.LINK_STATUS)) throw new Error(gl.getProgramInfoLog(program));
+gl.useProgram(program);
+const uniform = new Proxy({}, { get: (kept, name) => (kept[name] ??= gl.getUniformLocation(program, name)) });
+
+// The ground, as the server has it now. The page draws it, walks above it and finds what a click meets.
+let side, spacing, most, edits, heights, wide, span;
+async function fetchGround() {
+  const bytes = await call("ground", []), head = new Uint32Array(bytes, 0, 4);
+  [side, spacing, most, edits] = head;
+  heights = new Uint16Array(bytes, 16);
+  wide = (side - 1) * spacing;
+  span ??= heights.reduce(([low, high], h) => [Math.min(low, h), Math.max(high, h)], [65535, 1]);
+  gl.pixelStorei(gl.UNPACK_ALIGNMENT, 1);
+  gl.texImage2D(gl.TEXTURE_2D, 0, gl.R16UI, side, side, 0, gl.RED_INTEGER, gl.UNSIGNED_SHORT, heights);
+}
+gl.bindTexture(gl.TEXTURE_2D, gl.createTexture());
+for (const what of [gl.TEXTURE_MIN_FILTER, gl.TEXTURE_MAG_FILTER]) gl.texParameteri(gl.TEXTURE_2D, what, gl.NEAREST);
+await fetchGround();
+const clamped = (v, low, high) => Math.min(high, Math.max(low, v));
+function groundAt(x, y) { // drawn height of the nearest grid point
+  const at = (v) => clamped(Math.round(v / spacing), 0, side - 1);
+  return heights[(side - 1 - at(y)) * side + at(x)] * +$("lift").value;
+}
+
+$("budget").max = most;
+$("budget").value = +(asked.get("triangles") ?? most);
+
+const corners = gl.createBuffer(), marks = gl.createBuffer(), fresh = new Uint8Array(most);
+for (const [buffer, bytes, name] of [[corners, 12 * most, "corners"], [marks, most, "fresh"]]) {
+  const at = gl.getAttribLocation(program, name);
+  gl.bindBuffer(gl.ARRAY_BUFFER, buffer);
+  gl.bufferData(gl.ARRAY_BUFFER, bytes, gl.DYNAMIC_DRAW);
+  gl.enableVertexAttribArray(at);
+  gl.vertexAttribDivisor(at, 1);
+  if (name === "corners") gl.vertexAttribIPointer(at, 3, gl.UNSIGNED_INT, 0, 0);
+  else gl.vertexAttribPointer(at, 1, gl.UNSIGNED_BYTE, false, 0, 0);
+}
+gl.enable(gl.DEPTH_TEST);
+
+// A pose is x, y, z as drawn, the way that it looks (0 is north) and how far down it looks, in radians.
+const ahead = (p) => [Math.sin(p.turn) * Math.cos(p.dip), Math.cos(p.turn) * Math.cos(p.dip), -Math.sin(p.dip)];
+const dot = (a, b) => a.reduce((sum, v, k) => sum + v * b[k], 0);
+const matrix = (rows) => Float32Array.from({ length: 16 }, (_, k) => rows[k % 4][k >> 2]);
+
+// The rows of a view's matrix, its four sides as planes of whole numbers over the ground as drawn, and its corners' rays.
+const HALF = 0.5, WIDER = 0.62, BACK = 6; // half the view's height in radians; planes are of a wider view, so many steps behind
+function looking(p, ratio, half = HALF) {
+  const f = ahead(p), r = [Math.cos(p.turn), -Math.sin(p.turn), 0], t = 1 / Math.tan(half);
+  const u = [r[1] * f[2] - r[2] * f[1], r[2] * f[0] - r[0] * f[2], r[0] * f[1] - r[1] * f[0]];
+  const row = (v, by) => [...v, -dot(v, [p.x, p.y, p.z])].map((w) => w * by);
+  const near = NEAR * spacing, far = REACH * spacing, deep = row(f, (far + near) / (far - near));
+  deep[3] -= (2 * far * near) / (far - near);
+  const rows = [row(r, t / ratio), row(u, t), deep, row(f, 1)];
+  const planes = [[0, 1], [0, -1], [1, 1], [1, -1]].map(([k, sign]) => {
+    const plane = rows[3].map((v, j) => v + sign * rows[k][j]), long = Math.hypot(...plane.slice(0, 3));
+    return plane.map((v) => Math.round((v / long) * 100000));
+  });
+  const ray = (h, v) => f.map((c, k) => c + (h * ratio * r[k] + v * u[k]) / t);
+  return { rows, planes, ray };
+}
+
+// The planes for a view. Each change of planes costs the engine about as much as ten frames, so they stay while they hold it.
+let held = null;
+function planesFor(p, view, ratio) {
+  const at = [p.x, p.y, p.z], f = ahead(p), corners = [[-1, -1], [-1, 1], [1, -1], [1, 1]].map((c) => view.ray(...c));
+  const holds = (plane) => dot(plane, [...at, 1]) >= 0 && corners.every((ray) => dot(plane.slice(0, 3), ray) >= 0);
+  const near = held && Math.hypot(...at.map((v, k) => v - held.at[k])) < 3 * BACK * spacing;
+  if (held && ($("hold").checked || (near && held.planes.every(holds)))) return held.planes;
+  const [x, y, z] = at.map((v, k) => v - BACK * spacing * f[k]);
+  held = { at, planes: looking({ ...p, x, y, z }, ratio, WIDER).planes };
+  return held.planes;
+}
+
+// The recorded path: places in parts of the side, heights above the ground in grid steps. It closes.
+const PATH = [[0.12, 0.15, 9], [0.34, 0.30, 6], [0.52, 0.46, 4], [0.70, 0.44, 6], [0.82, 0.62, 9], [0.62, 0.80, 12], [0.36, 0.72, 7], [0.18, 0.46, 12]];
+const STEPS = 150; // frames of 1/60 s from one place of the path to the next
+let recorded = null, recording = false, clock = 0;
+function onPath(time) {
+  if (recorded?.length && !recording) return { ...recorded[Math.floor(time) % recorded.length] };
+  const curve = (s) => { // a spline through four neighbours
+    const k = Math.floor(s), t = s - k, [a, b, c, d] = [-1, 0, 1, 2].map((j) => PATH[(((k + j) % PATH.length) + PATH.length) % PATH.length]);
+    return b.map((v, i) => v + 0.5 * t * (c[i] - a[i] + t * (2 * a[i] - 5 * v + 4 * c[i] - d[i] + t * (3 * (v - c[i]) + d[i] - a[i]))));
+  };
+  const s = time / STEPS, at = curve(s), next = curve(s + 0.35);
+  const level = [-0.3, -0.15, 0, 0.15, 0.3].map((d) => curve(s + d)).reduce((sum, p) => sum + groundAt(p[0] * wide, p[1] * wide), 0) / 5;
+  const x = at[0] * wide, y = at[1] * wide, z = Math.max(level, groundAt(x, y)) + at[2] * spacing * Math.sqrt((side - 1) / 256);
+  return { x, y, z, turn: Math.atan2(next[0] - at[0], next[1] - at[1]), dip: 0.22 };
+}
+
+let pose = onPath(0);
+const keys = new Set(), fingers = new Map();
+function fly(seconds) {
+  if ($("play").checked) {
+    clock += STOP ? 1 : seconds * 60;
+    pose = onPath(clock);
+    return;
+  }
+  const has = (...names) => names.some((name) => keys.has(name)), f = ahead(pose);
+  const pace = (has("ShiftLeft", "ShiftRight") ? 90 : 25) * spacing * seconds;
+  const on = has("KeyW", "ArrowUp") - has("KeyS", "ArrowDown") + (fingers.size > 1), across = has("KeyD", "ArrowRight") - has("KeyA", "ArrowLeft");
+  pose.x = clamped(pose.x + pace * (on * f[0] + across * Math.cos(pose.turn)), -wide, 2 * wide);
+  pose.y = clamped(pose.y + pace * (on * f[1] - across * Math.sin(pose.turn)), -wide, 2 * wide);
+  pose.z = clamped(pose.z + pace * (on * f[2] + has("KeyE") - has("KeyQ")), groundAt(pose.x, pose.y) + spacing / 2, 4 * wide + 65535 * 8);
+  if (recording) recorded.push({ ...pose });
+}
+
+// The grid point that a click meets: along the line of sight until it is under the ground.
+function met(event) {
+  const way = looking(pose, innerWidth / innerHeight).ray((2 * event.clientX) / innerWidth - 1, 1 - (2 * event.clientY) / innerHeight);
+  for (let far = spacing; far < 3 * wide; far += spacing / 4) {
+    const [x, y, z] = [pose.x + far * way[0], pose.y + far * way[1], pose.z + far * way[2]];
+    if (x >= 0 && y >= 0 && x <= wide && y <= wide && z < groundAt(x, y)) return [x / spacing, y / spacing].map(Math.round);
+  }
+  return null;
+}
+const worry = (why) => console.error(($("told").textContent = String(why?.message ?? why)));
+function click(event) {
+  const point = met(event), down = $("lower").checked !== event.shiftKey;
+  if (point) call("raise", [...point, 8, (down ? -1 : 1) * clamped((span[1] - span[0]) / 6, 8, 4000)]).catch(worry);
+}
+
+let dragged = 0;
+canvas.onpointerdown = (e) => { canvas.setPointerCapture(e.pointerId); fingers.set(e.pointerId, [e.clientX, e.clientY]); dragged = 0; };
+canvas.onpointermove = (e) => {
+  const last = fingers.get(e.pointerId);
+  if (!last) return;
+  const [dx, dy] = [e.clientX - last[0], e.clientY - last[1]];
+  if ((dragged += Math.abs(dx) + Math.abs(dy)) < 5) return;
+  $("play").checked = false;
+  pose.turn -= dx * 0.003;
+  pose.dip = clamped(pose.dip - dy * 0.003, -1.5, 1.5);
+  fingers.set(e.pointerId, [e.clientX, e.clientY]);
+};
+canvas.onpointerup = (e) => { if (fingers.delete(e.pointerId) && dragged < 5 && fingers.size === 0) click(e); };
+canvas.onpointercancel = (e) => fingers.delete(e.pointerId);
+canvas.onwheel = (e) => { $("play").checked = false; const f = ahead(pose); ["x", "y", "z"].forEach((k, i) => { pose[k] -= f[i] * e.deltaY * spacing * 0.02; }); };
+addEventListener("blur", () => keys.clear());
+addEventListener("keyup", (e) => keys.delete(e.code));
+addEventListener("keydown", (e) => {
+  if (e.ctrlKey || e.metaKey || e.altKey || e.target.type === "range") return;
+  keys.add(e.code);
+  if (/^(Key[WASDQE]|Arrow)/.test(e.code)) { $("play").checked = false; e.preventDefault(); }
+  if (e.code === "KeyP" && !e.repeat) $("play").checked = !$("play").checked;
+  if (e.code === "KeyR" && !e.repeat) {
+    recording = !recording;
+    if (recording) recorded = [];
+    else clock = 0;
+    $("play").checked = !recording;
+  }
+});
+
+// Asks for the mesh of a pose. Heights are drawn `lift` times as high: the engine's camera and planes are over the true ones.
+let requestMs = 0;
+if (!STOP) new PerformanceObserver((list) => list.getEntries().forEach((e) => { if (e.name.endsWith("/frame")) requestMs = e.duration; })).observe({ type: "resource" });
+async function ask(p) {
+  const lift = +$("lift").value, budget = +$("budget").value, ratio = innerWidth / innerHeight, view = looking(p, ratio);
+  const planes = $("planes").checked ? planesFor(p, view, ratio) : [];
+  const bytes = await call("frame", [budget, p.x, p.y, p.z / lift, ...planes.flatMap(([a, b, c, d]) => [a, b, c * lift, d])]);
+  const words = new Uint32Array(bytes, 0, HEAD / 4), note = { worst: words[0] + words[1] * 2 ** 32 };
+  WORDS.forEach((name, k) => { note[name] = words[2 + k]; });
+  return { p, lift, budget, planes, note, rows: view.rows, bytes, count: (bytes.byteLength - HEAD) / 16 };
+}
+
+// Which triangles were not in the last mesh that was drawn: `seen` has the frame of each name.
+const seen = new Uint32Array(4 * (side - 1) ** 2);
+function upload(f, frame) {
+  const names = new Uint32Array(f.bytes, HEAD + 12 * f.count, f.count);
+  let changed = 0;
+  names.forEach((name, k) => {
+    changed += fresh[k] = +(frame > 1 && seen[name] !== frame - 1);
+    seen[name] = frame;
+  });
+  gl.bindBuffer(gl.ARRAY_BUFFER, corners);
+  gl.bufferSubData(gl.ARRAY_BUFFER, 0, new Uint32Array(f.bytes, HEAD, 3 * f.count));
+  gl.bindBuffer(gl.ARRAY_BUFFER, marks);
+  gl.bufferSubData(gl.ARRAY_BUFFER, 0, fresh, 0, f.count);
+  return changed;
+}
+
+function paint(f, rows, far, mark) {
+  const { p, lift } = f;
+  gl.uniformMatrix4fv(uniform.view, false, matrix(rows));
+  gl.uniform3f(uniform.eye, p.x, p.y, p.z);
+  gl.uniform1f(uniform.far, far);
+  gl.uniform1f(uniform.lift, lift);
+  gl.uniform2f(uniform.span, span[0] * lift, span[1] * lift);
+  gl.uniform1i(uniform.count, f.planes.length);
+  if (f.planes.length) gl.uniform4fv(uniform.planes, new Float32Array(f.planes.flat()));
+  for (const [name, on] of [["mark", mark], ["edges", $("edges").checked], ["showChanged", $("changed").checked]]) gl.uniform1i(uniform[name], +on);
+  gl.drawArraysInstanced(gl.TRIANGLES, 0, 3, f.count);
+}
+
+// Both views: the flight over the whole canvas, and the map from above in its corner.
+function draw(f) {
+  const dense = Math.min(devicePixelRatio, 2), [w, h] = [innerWidth, innerHeight].map((v) => Math.round(v * dense));
+  if (canvas.width !== w || canvas.height !== h) [canvas.width, canvas.height] = [w, h];
+  gl.uniform1i(uniform.side, side);
+  gl.uniform1f(uniform.spacing, spacing);
+  gl.uniform3f(uniform.sky, ...SKY);
+  gl.clearColor(...SKY, 1);
+  gl.viewport(0, 0, w, h);
+  gl.clear(gl.COLOR_BUFFER_BIT | gl.DEPTH_BUFFER_BIT);
+  paint(f, f.rows, 1.3 * wide, $("mark").checked);
+  if (!$("map").checked) return;
+  const room = Math.round(Math.min(w, h) * 0.4), gap = Math.round(10 * dense), at = [w - room - gap, gap, room, room];
+  gl.enable(gl.SCISSOR_TEST);
+  gl.scissor(...at);
+  gl.viewport(...at);
+  gl.clear(gl.COLOR_BUFFER_BIT | gl.DEPTH_BUFFER_BIT);
+  const by = 2 / wide, deep = 2 / (65535 * f.lift);
+  paint(f, [[by, 0, 0, -1], [0, by, 0, -1], [0, 0, -deep, 1], [0, 0, 0, 1]], 0, true);
+  const [x, y] = [f.p.x, f.p.y].map((v, k) => at[k] + (v / wide) * room), dotted = 4 * dense;
+  gl.scissor(clamped(x - dotted, at[0], w - gap - dotted), clamped(y - dotted, gap, gap + room - dotted), 2 * dotted, 2 * dotted);
+  gl.clearColor(0.9, 0.1, 0.2, 1);
+  gl.clear(gl.COLOR_BUFFER_BIT);
+  gl.disable(gl.SCISSOR_TEST);
+}
+
+const pixel = new Uint8Array(4), whole = (n) => n.toLocaleString("en"), ms = (v) => v.toFixed(1).padStart(5);
+let rate = 0, drawMs = 0;
+function tell({ note, budget }, changed) {
+  const blocked = note.blocking ? `blocking ${note.blocking} needs ${whole(note.need)}` : "nothing blocks: each priority is 0";
+  $("told").textContent = [
+    `${whole(note.triangles)} triangles of ${whole(budget)}, ${whole(note.vertices)} vertices`,
+    `worst ${whole(note.worst)}; ${blocked}`,
+    `splits ${note.splits}, merges ${note.merges}, changed ${whole(changed)}`,
+    `inside ${whole(note.inside)}, cut ${whole(note.cut)}, outside ${whole(note.outside)}`,
+    `engine   ${ms(note.frameUs / 1000)} ms, lists ${ms(note.listUs / 1000)} ms`,
+    `transfer ${ms(Math.max(0, requestMs - (note.frameUs + note.listUs) / 1000))} ms`,
+    `drawing  ${ms(drawMs)} ms`,
+    `${rate.toFixed(0).padStart(3)} frames a second${recording ? ", recording" : ""}`,
+  ].join("\n");
+}
+
+let last = performance.now(), frame = 0, pending = ask(pose);
+async function turn() {
+  try {
+    const f = await pending, now = performance.now(), seconds = Math.min(0.1, (now - last) / 1000);
+    last = now;
+    rate += 0.1 * (1 / Math.max(seconds, 0.001) - rate);
+    fly(seconds);
+    if (f.note.edits !== edits) await fetchGround();
+    pending = ask(pose);
+    const changed = upload(f, ++frame);
+    draw(f);
+    gl.readPixels(0, 0, 1, 1, gl.RGBA, gl.UNSIGNED_BYTE, pixel); // waits until all is drawn
+    drawMs = performance.now() - now;
+    tell(f, changed);
+    if (STOP) console.log(`frame ${frame} triangles ${f.count} vertices ${f.note.vertices} worst ${f.note.worst}`);
+    if (frame === STOP) { await pending; document.title = "done"; return; }
+  } catch (why) {
+    worry(why);
+    await new Promise((go) => setTimeout(go, 1000));
+    pending = ask(pose);
+    pending.catch(() => {});
+  }
+  requestAnimationFrame(turn);
+}
+turn();
