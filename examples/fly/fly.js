@@ -36,11 +36,11 @@ const FRAGMENT = `#version 300 es
   uniform vec3 eye, sky; uniform vec2 span; uniform float far; uniform bool edges, showChanged, mark; out vec4 color;
   void main() {
     float h = clamp((here.z - span.x) / (span.y - span.x), 0.0, 1.0), flatness = abs(normal.z);
-    vec3 low = mix(vec3(0.20, 0.38, 0.18), vec3(0.47, 0.50, 0.27), smoothstep(0.0, 0.45, h));
-    vec3 high = mix(vec3(0.55, 0.48, 0.38), vec3(0.93, 0.93, 0.95), smoothstep(0.75, 0.95, h));
-    vec3 ground = mix(vec3(0.42, 0.37, 0.33), mix(low, high, smoothstep(0.4, 0.7, h)), smoothstep(0.45, 0.85, flatness));
+    vec3 low = mix(vec3(0.27, 0.46, 0.24), vec3(0.56, 0.58, 0.34), smoothstep(0.0, 0.45, h));
+    vec3 high = mix(vec3(0.62, 0.55, 0.44), vec3(0.93, 0.93, 0.95), smoothstep(0.75, 0.95, h));
+    vec3 ground = mix(vec3(0.50, 0.45, 0.40), mix(low, high, smoothstep(0.4, 0.7, h)), smoothstep(0.45, 0.85, flatness));
     if (mark) ground = kind == 0 ? vec3(0.40, 0.80, 0.40) : kind == 1 ? vec3(1.0, 0.83, 0.27) : vec3(0.53, 0.60, 0.67);
-    vec3 lit = ground * (0.38 + 0.62 * max(dot(normal, normalize(vec3(0.5, 0.35, 0.75))), 0.0));
+    vec3 lit = ground * (0.40 + 0.65 * max(dot(normal, normalize(vec3(0.5, 0.35, 0.75))), 0.0));
     if (showChanged && changed > 0.0) lit = mix(lit, vec3(1.0, 0.5, 0.0), 0.75);
     if (edges) {
       vec3 step = fwidth(rim), wide = rim / step; // the rim in pixels; small triangles get pale edges
@@ -146,7 +146,7 @@ function planesFor(p, view, ratio) {
 }
 
 // The recorded path: places in parts of the side, heights above the ground in grid steps. It closes.
-const PATH = [[0.12, 0.15, 9], [0.34, 0.30, 6], [0.52, 0.46, 4], [0.70, 0.44, 6], [0.82, 0.62, 9], [0.62, 0.80, 12], [0.36, 0.72, 7], [0.18, 0.46, 12]];
+const PATH = [[0.12, 0.15, 12], [0.34, 0.30, 8], [0.52, 0.46, 8], [0.70, 0.44, 9], [0.82, 0.62, 12], [0.62, 0.80, 15], [0.36, 0.72, 10], [0.18, 0.46, 14]];
 const STEPS = 150; // frames of 1/60 s from one place of the path to the next
 let recorded = null, recording = false, clock = 0;
 function onPath(time) {
@@ -224,8 +224,10 @@ addEventListener("keydown", (e) => {
 });
 
 // Asks for the mesh of a pose. Heights are drawn `lift` times as high: the engine's camera and planes are over the true ones.
-let requestMs = 0;
-if (!STOP) new PerformanceObserver((list) => list.getEntries().forEach((e) => { if (e.name.endsWith("/frame")) requestMs = e.duration; })).observe({ type: "resource" });
+let transferMs = 0; // a request's time without the server's own part
+new PerformanceObserver((list) => list.getEntriesByType("resource").forEach((e) => {
+  if (e.name.endsWith("/frame")) transferMs = e.duration - (e.serverTiming[0]?.duration ?? 0);
+})).observe({ type: "resource" });
 async function ask(p) {
   const lift = +$("lift").value, budget = +$("budget").value, ratio = innerWidth / innerHeight, view = looking(p, ratio);
   const planes = $("planes").checked ? planesFor(p, view, ratio) : [];
@@ -300,7 +302,7 @@ function tell({ note, budget }, changed) {
     `splits ${note.splits}, merges ${note.merges}, changed ${whole(changed)}`,
     `inside ${whole(note.inside)}, cut ${whole(note.cut)}, outside ${whole(note.outside)}`,
     `engine   ${ms(note.frameUs / 1000)} ms, lists ${ms(note.listUs / 1000)} ms`,
-    `transfer ${ms(Math.max(0, requestMs - (note.frameUs + note.listUs) / 1000))} ms`,
+    `transfer ${ms(transferMs)} ms`,
     `drawing  ${ms(drawMs)} ms`,
     `${rate.toFixed(0).padStart(3)} frames a second${recording ? ", recording" : ""}`,
   ].join("\n");
@@ -309,10 +311,10 @@ function tell({ note, budget }, changed) {
 let last = performance.now(), frame = 0, pending = ask(pose);
 async function turn() {
   try {
-    const f = await pending, now = performance.now(), seconds = Math.min(0.1, (now - last) / 1000);
+    const f = await pending, now = performance.now(), seconds = Math.max(0.001, (now - last) / 1000);
     last = now;
-    rate += 0.1 * (1 / Math.max(seconds, 0.001) - rate);
-    fly(seconds);
+    rate += 0.1 * (1 / seconds - rate);
+    fly(Math.min(0.1, seconds));
     if (f.note.edits !== edits) await fetchGround();
     pending = ask(pose);
     const changed = upload(f, ++frame);

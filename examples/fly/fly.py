@@ -109,9 +109,10 @@ class Handler(http.server.BaseHTTPRequestHandler):
     protocol_version, disable_nagle_algorithm, timeout = "HTTP/1.1", True, 60
     flight = worker = None
 
-    def answer(self, status, body, kind="text/plain; charset=utf-8"):
+    def answer(self, status, body, kind="text/plain; charset=utf-8", spent=0.0):
         self.send_response(status)
-        for name, value in {"Content-Type": kind, "Content-Length": len(body), "Cache-Control": "no-store"}.items():
+        for name, value in {"Content-Type": kind, "Content-Length": len(body), "Cache-Control": "no-store",
+                            "Server-Timing": f"engine;dur={1000 * spent:.3f}"}.items():
             self.send_header(name, str(value))
         self.end_headers()
         self.wfile.write(body)
@@ -145,7 +146,8 @@ class Handler(http.server.BaseHTTPRequestHandler):
             if len(body) % 8:
                 raise ValueError(f"the body has {len(body)} bytes, and has to be whole numbers of 8 bytes each")
             numbers = struct.unpack(f"<{len(body) // 8}q", body)
-            self.answer(200, self.worker.submit(calls[self.path], numbers).result(), "application/octet-stream")
+            began, found = time.perf_counter(), self.worker.submit(calls[self.path], numbers).result()
+            self.answer(200, found, "application/octet-stream", time.perf_counter() - began)
         except ValueError as why:
             self.answer(400, f"{why}\n".encode())
 
