@@ -96,6 +96,7 @@ function groundAt(x, y) { // drawn height of the nearest grid point
   return heights[(side - 1 - at(y)) * side + at(x)] * +$("lift").value;
 }
 
+$("set").open = innerWidth > 700;
 $("budget").max = most;
 $("budget").value = +(asked.get("triangles") ?? most);
 
@@ -193,8 +194,8 @@ function click(event) {
   if (point) call("raise", [...point, 8, (down ? -1 : 1) * clamped((span[1] - span[0]) / 6, 8, 4000)]).catch(worry);
 }
 
-let dragged = 0;
-canvas.onpointerdown = (e) => { canvas.setPointerCapture(e.pointerId); fingers.set(e.pointerId, [e.clientX, e.clientY]); dragged = 0; };
+let dragged = 0; // how far, in pixels; two fingers are no click
+canvas.onpointerdown = (e) => { canvas.setPointerCapture(e.pointerId); fingers.set(e.pointerId, [e.clientX, e.clientY]); dragged = fingers.size > 1 ? 5 : 0; };
 canvas.onpointermove = (e) => {
   const last = fingers.get(e.pointerId);
   if (!last) return;
