@@ -182,7 +182,7 @@ def main():
             Handler.flight = worker.submit(Flight, Engine, side, heights, words.triangles, words.spacing, words.report).result()
             Handler.worker = worker
             server = Server(("127.0.0.1", words.port), Handler)
-        except (ValueError, OSError, MemoryError) as why:
+        except (ValueError, OSError, OverflowError, MemoryError) as why:
             sys.exit(f"fly.py: {why}")
         where = f"http://127.0.0.1:{server.server_port}/"
         print(f"{where} (Ctrl-C ends it)", flush=True)
