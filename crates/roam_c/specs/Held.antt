@@ -1,0 +1,29 @@
+-- What a handle owns.
+-- All of it is this project's own.
+-- Words: Kept, token, held, held_if.
+use Rattle.std.specs.Prelude.{Bool, true, false, Option, Some, None}
+use mir.Syntax.{Ty}
+use base.Fml.{Fml, ftrue, ffalse}
+use denote.RawPtr.{Ptr}
+use Rattle.std.specs.contracts.impls.GlobalAllocator.TheImpl.{ghosts}
+use Rattle.std.specs.Box.Ownership.{box_owns}
+use Rattle.frame_loop.specs.contracts.engine.Engine as engine
+
+-- an engine, as contracts see it
+abbrev pub Kept : Type 0
+Kept = (engine.the_row).Denot
+
+-- the right to free a block of `Global`
+abbrev pub token : Ty → Ptr → Fml
+token = ghosts.dealloc_token (record { memory = record { seal = tt } })
+
+-- the engine on the heap, and the right to free it
+abbrev pub held : Ptr → Kept → Fml
+held at value = box_owns token engine.the_row at value
+
+-- the same where the handle is full, and nothing where it is empty
+abbrev pub held_if : Bool → Ptr → Option Kept → Fml
+held_if true at (Some x) = held at x
+held_if true at None = ffalse
+held_if false at (Some x) = ffalse
+held_if false at None = ftrue

@@ -1,0 +1,128 @@
+//! Calls that change what an engine shows.
+
+ghost use Rattle.std.specs.Prelude.{◌≡◌, ⊤};
+ghost use Rattle.roam_embed.specs.Calls.{IsCameraMoved, IsPlaneAdded, ArePlanesCleared, IsBudgetPut, IsHeightPut, IsAreaRaised};
+ghost use Rattle.roam_c.specs.Handle.{OnFull, OnEmpty};
+
+use crate::handle::{Handle, put, take};
+use roam_embed::{
+    Answer, add_plane, clear_planes, move_camera, put_budget, put_height, raise_area,
+};
+use std::alloc::Global;
+
+/// Puts the camera to a place, in world units.
+#[unsafe(no_mangle)]
+pub extern "C" fn roam_camera(alloc: Global, h: &mut Handle, x: i64, y: i64, z: i64) -> i32
+    ensures full { OnFull h.old.value h.new.value result (λ was now answer.
+        IsCameraMoved was now (record { x = x; y = y; z = z }) answer) }
+    ensures empty { OnEmpty h.old.value h.new.value result ⊤ }
+{
+    match take(h, alloc) {
+        Some(mut engine) => {
+            let answer = move_camera(&mut engine, x, y, z);
+            put(h, engine, alloc);
+            answer.number()
+        }
+        None => Answer::IsEmpty.number(),
+    }
+}
+
+/// Takes all planes away.
+#[unsafe(no_mangle)]
+pub extern "C" fn roam_clear_planes(alloc: Global, h: &mut Handle) -> i32
+    ensures full { OnFull h.old.value h.new.value result (λ was now answer.
+        ArePlanesCleared was now answer) }
+    ensures empty { OnEmpty h.old.value h.new.value result ⊤ }
+{
+    match take(h, alloc) {
+        Some(mut engine) => {
+            let answer = clear_planes(&mut engine);
+            put(h, engine, alloc);
+            answer.number()
+        }
+        None => Answer::IsEmpty.number(),
+    }
+}
+
+/// Puts one plane more in force. Its inside is where a x + b y + c z + d is at least 0.
+#[unsafe(no_mangle)]
+pub extern "C" fn roam_add_plane(
+    alloc: Global,
+    h: &mut Handle,
+    a: i64,
+    b: i64,
+    c: i64,
+    d: i64,
+) -> i32
+    ensures full { OnFull h.old.value h.new.value result (λ was now answer.
+        IsPlaneAdded was now (record { a = a; b = b; c = c; d = d }) answer) }
+    ensures empty { OnEmpty h.old.value h.new.value result ⊤ }
+{
+    match take(h, alloc) {
+        Some(mut engine) => {
+            let answer = add_plane(&mut engine, a, b, c, d);
+            put(h, engine, alloc);
+            answer.number()
+        }
+        None => Answer::IsEmpty.number(),
+    }
+}
+
+/// Puts another budget in force.
+#[unsafe(no_mangle)]
+pub extern "C" fn roam_budget(alloc: Global, h: &mut Handle, triangles: u32) -> i32
+    ensures full { OnFull h.old.value h.new.value result (λ was now answer.
+        IsBudgetPut was now triangles answer) }
+    ensures empty { OnEmpty h.old.value h.new.value result ⊤ }
+{
+    match take(h, alloc) {
+        Some(mut engine) => {
+            let answer = put_budget(&mut engine, triangles);
+            put(h, engine, alloc);
+            answer.number()
+        }
+        None => Answer::IsEmpty.number(),
+    }
+}
+
+/// Sets the height of the grid point (x, y).
+#[unsafe(no_mangle)]
+pub extern "C" fn roam_set(alloc: Global, h: &mut Handle, x: u32, y: u32, height: u16) -> i32
+    ensures full { OnFull h.old.value h.new.value result (λ was now answer.
+        IsHeightPut was now x y height answer) }
+    ensures empty { OnEmpty h.old.value h.new.value result ⊤ }
+{
+    match take(h, alloc) {
+        Some(mut engine) => {
+            let answer = put_height(&mut engine, x, y, height);
+            put(h, engine, alloc);
+            answer.number()
+        }
+        None => Answer::IsEmpty.number(),
+    }
+}
+
+/// Raises the heights of the columns x0 to x1 and the rows y0 to y1 by dz.
+#[unsafe(no_mangle)]
+pub extern "C" fn roam_raise(
+    alloc: Global,
+    h: &mut Handle,
+    x0: u32,
+    y0: u32,
+    x1: u32,
+    y1: u32,
+    dz: i32,
+) -> i32
+    ensures full { OnFull h.old.value h.new.value result (λ was now answer.
+        IsAreaRaised was now x0 y0 x1 y1 dz answer) }
+    ensures empty { OnEmpty h.old.value h.new.value result ⊤ }
+{
+    match take(h, alloc) {
+        Some(mut engine) => {
+            let answer = raise_area(&mut engine, x0, y0, x1, y1, dz);
+            put(h, engine, alloc);
+            answer.number()
+        }
+        None => Answer::IsEmpty.number(),
+    }
+}
