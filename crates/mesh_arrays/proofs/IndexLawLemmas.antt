@@ -1,14 +1,13 @@
 -- Indices, read back as triangles, are the triangles that they were written of.
-use Rattle.std.proofs.Common.{◌≡◌, ℕ, ◌+◌, ◌-◌, ◌*◌, ◌/◌, ◌%◌, ◌^◌, ◌<◌, ◌≤◌, Bool, List, [], ◌∷◌, map, refl, sym, ap, ◌∙◌, subst, cond, arith}
+use Rattle.std.proofs.Common.{◌≡◌, ℕ, ◌+◌, ◌-◌, ◌/◌, ◌%◌, ◌^◌, ◌<◌, ◌≤◌, Bool, List, [], ◌∷◌, map, refl, sym, ap, ◌∙◌, subst, cond, arith}
 use Rattle.std.specs.List.{All, count_by}
 use Rattle.std.proofs.lemmas.Nat.{div-mul-add, mod-mul-add}
 use Rattle.std.proofs.lemmas.List.Elements.{All-map, All-weaker}
 use Rattle.std.proofs.lemmas.List.Folds.{fold-map}
 use Rattle.mesh_defs.specs.declared.point.Point.{Point}
-use Rattle.mesh_defs.specs.declared.point.Corners.{Corners}
 use Rattle.mesh_defs.specs.HeightField.{side_of}
 use Rattle.mesh_defs.specs.Triangle.{corners_of, IsAddress}
-use Rattle.mesh_defs.specs.Tiling.{IsSample, is_within, IsConforming}
+use Rattle.mesh_defs.specs.Tiling.{is_within, IsConforming}
 use Rattle.bintree_laws.specs.Corners.{IsWithin, IsCounterclockwise}
 use Rattle.bintree_laws.proofs.CornerLemmas.{IsWithin-corners_of}
 use Rattle.tiling_laws.proofs.OrientationLemmas.{counterclockwise}

@@ -1,4 +1,3 @@
-use Rattle.std.proofs.Common.{ap, ◌∙◌}
 use Rattle.mesh_arrays.proofs.IndexLemmas.{written_three}
 use Rattle.mesh_arrays.proofs.indices.write_corners.Goals as goal
 

@@ -1,4 +1,4 @@
-use Rattle.std.proofs.Common.{◌≡◌, ◌∙◌, ap, take, drop, arith, ◌+◌, ◌++◌}
+use Rattle.std.proofs.Common.{◌∙◌, ap, take, drop, arith, ◌+◌, ◌++◌}
 use Rattle.mesh_arrays.specs.Indices.{indices_at}
 use Rattle.mesh_arrays.proofs.IndexLemmas.{written_more}
 use Rattle.mesh_arrays.proofs.indices.write_indices.Goals as goal
