@@ -1,0 +1,260 @@
+-- What a turn of refinement leaves, and what its end is.
+use Rattle.std.proofs.Common.{◌≡◌, ℕ, ◌+◌, ◌-◌, ◌*◌, ◌/◌, ◌^◌, ◌<◌, ◌≤◌, ◌⊎◌, Bool, false, max, List, [], ◌∷◌, ◌++◌, length, take, Contains, refl, sym, ◌∙◌, ap, ap₂, subst, arith, ⊎_elim, length-append}
+use Rattle.std.proofs.Math.Seq.{take-length}
+use Rattle.std.proofs.Math.Pow.{pow_mono}
+use Rattle.std.proofs.lemmas.List.{take-append-le}
+use Rattle.std.proofs.lemmas.List.Elements.{All-contains}
+use Rattle.std.proofs.lemmas.Bool.{cases_lt, cases_Bool, false≢true, both_ways}
+use Rattle.std.specs.BinaryHeap.{IsHeap}
+use Rattle.mesh_defs.specs.Triangle.{IsAddress, IsSplittable}
+use Rattle.mesh_defs.specs.ClosedSet.{IsClosed, IsLeastClosed, leaves_of, among}
+use Rattle.mesh_defs.specs.Greedy.{with_triangle}
+use Rattle.mesh_defs.specs.Priority.{worst_of}
+use Rattle.mesh_defs.proofs.ListLemmas.{among-in, Contains-in}
+use Rattle.mesh_defs.proofs.WorstLemmas.{worst-le, le-worst}
+use Rattle.closure_laws.proofs.ClosureLemmas.{IsOuter, leaf-outer, leaves_of-same, nothing_closed}
+use Rattle.closure_laws.proofs.SizeLemmas.{length-leaves_once}
+use Rattle.closure_laws.proofs.LeafLemmas.{leaves_under-whole, leaves-most}
+use Rattle.least_laws.specs.Sweep.{is_flagged}
+use Rattle.fit_laws.specs.Settled.{IsNeeded, IsLeastSettled}
+use Rattle.fit_laws.specs.Budget.{IsBudgetMesh}
+use Rattle.fit_laws.proofs.SettledLemmas.{needed-step, needed-lower}
+use Rattle.fit_laws.specs.Error.{IsExactAtFinest}
+use Rattle.fit_laws.proofs.FitLemmas.{closed-same, step-grown, splittable-error}
+use Rattle.fit_laws.proofs.BudgetLemmas.{budget_end}
+use Rattle.fit_mesh.specs.Log.{Extends, IsGrown}
+use Rattle.fit_mesh.specs.Waiting.{pair_cmp, IsEntry, AreKept, AreLeft, IsFirst, IsWaiting}
+use Rattle.fit_mesh.specs.Grown.{IsNeededBelow, IsBest}
+use Rattle.fit_mesh.specs.Found.{IsFound}
+use Rattle.fit_mesh.proofs.PendingLemmas.{outer-of}
+
+-- there are two leaves more than entries of the log
+pub counted : (n : ℕ) (flags : List Bool) (log : List ℕ) → IsGrown n flags log → length (leaves_of n (is_flagged flags)) ≡ length log + 2
+counted n flags log g =
+    ap (λ (l : List ℕ). length l) (leaves_of-same n (is_flagged flags) (among log) g.logged.same)
+    ∙ length-leaves_once n log (λ a h. g.logged.once a (among-in a log h)) (closed-same n (is_flagged flags) (among log) g.logged.same g.closed)
+
+-- the first waiting leaf
+
+module _ (n : ℕ) (p : ℕ → ℕ) (flags : List Bool) (log : List ℕ) (items : List (ℕ × ℕ)) (g : IsGrown n flags log)
+    (w : IsWaiting n p (is_flagged flags) items) where
+  -- it is a leaf
+  pub first-outer : (r : ℕ × ℕ) → IsFirst (is_flagged flags) items r → IsOuter n (is_flagged flags) r.1
+  first-outer r f =
+      let e = w.entries r f.entry in
+      record { address = e.address; outside = λ is. both_ways (is_flagged flags r.1) f.leaf is; parent = e.parent }
+
+  -- and the worst of them
+  pub first-worst : (r : ℕ × ℕ) → IsFirst (is_flagged flags) items r → worst_of p (leaves_of n (is_flagged flags)) ≡ r.0
+  first-worst r f =
+      let most : worst_of p (leaves_of n (is_flagged flags)) ≤ r.0 = worst-le p r.0 (leaves_of n (is_flagged flags)) (λ a leaf. ⊎_elim
+      (λ some. All-contains (λ (s : ℕ × ℕ). s.0 ≤ r.0) items (p a, a) f.greatest (w.leaves a (Contains-in a (leaves_of n (is_flagged flags)) leaf) some))
+      (λ none. omega arith)
+      (cases_lt 0 (p a))) in
+      let least = le-worst p r.1 (leaves_of n (is_flagged flags)) (leaf-outer n (is_flagged flags) r.1 g.closed (first-outer r f)) in
+      let same = (w.entries r f.entry).value in
+      omega arith
+
+  -- where none waits there is no error
+  pub none-worst : items ≡ [] → worst_of p (leaves_of n (is_flagged flags)) ≡ 0
+  none-worst empty =
+      let most : worst_of p (leaves_of n (is_flagged flags)) ≤ 0 = worst-le p 0 (leaves_of n (is_flagged flags)) (λ a leaf. ⊎_elim
+      (λ some.
+      let there : Contains [] (p a, a) = subst (λ (l : List (ℕ × ℕ)). Contains l (p a, a)) empty (w.leaves a (Contains-in a (leaves_of n (is_flagged flags)) leaf) some) in
+      absurd (let none : there.0 < 0 = there.1 in omega arith))
+      (λ none. omega arith)
+      (cases_lt 0 (p a))) in
+      omega arith
+
+  -- what is left waits
+  pub waiting-left : (new : List (ℕ × ℕ)) → IsHeap pair_cmp new → AreLeft (is_flagged flags) items new → AreKept new items →
+      IsWaiting n p (is_flagged flags) new
+  waiting-left new ordered left only = record {
+    ordered = ordered;
+    entries = λ r h. w.entries r (only r h);
+    leaves = λ a leaf some. left (p a, a) (w.leaves a leaf some) (⊎_elim
+        (λ is. absurd ((outer-of n (is_flagged flags) a g.closed leaf).outside is))
+        (λ (lacks : is_flagged flags a ≡ false). lacks)
+        (cases_Bool (is_flagged flags a)));
+  }
+
+-- the first leaf has an error, so it can be split
+module _ (n : ℕ) (p : ℕ → ℕ) (exact : IsExactAtFinest n p) (flags : List Bool) (items : List (ℕ × ℕ)) (w : IsWaiting n p (is_flagged flags) items) where
+  pub first-splittable : (r : ℕ × ℕ) → IsFirst (is_flagged flags) items r → IsSplittable n r.1
+  first-splittable r f =
+      let e = w.entries r f.entry in
+      let some : 0 < r.0 = e.some in
+      let same : r.0 ≡ p r.1 = e.value in splittable-error n p exact r.1 e.address (omega arith)
+
+-- marks
+
+-- a new one
+pub best-mark : (n : ℕ) (p : ℕ → ℕ) (tolerance budget low least : ℕ) (flags : List Bool) (log : List ℕ) (mark : ℕ) → mark ≡ length log → IsGrown n flags log →
+    IsNeededBelow n p low (is_flagged flags) → least < low → tolerance < low → worst_of p (leaves_of n (is_flagged flags)) ≡ least →
+    length log + 2 ≤ budget → IsBest n p tolerance budget least log mark
+best-mark n p tolerance budget low least flags log mark at g needed less above worst few =
+    let all : take mark log ≡ log = ap (λ k. take k log) at ∙ take-length log in
+    let same : (a : ℕ) → is_flagged flags a ≡ among (take mark log) a = λ a. g.logged.same a ∙ ap (λ (l : List ℕ). among l a) (sym all) in
+    let leaves : leaves_of n (is_flagged flags) ≡ leaves_of n (among (take mark log)) = leaves_of-same n (is_flagged flags) (among (take mark log)) same in
+    let count = counted n flags log g in
+    let longer : length (leaves_of n (is_flagged flags)) ≤ budget = omega arith in
+    record {
+      place = omega arith;
+      closed = closed-same n (is_flagged flags) (among (take mark log)) same g.closed;
+      worst = sym (ap (λ (l : List ℕ). worst_of p l) leaves) ∙ worst;
+      needed = λ other s a h. needed (max least tolerance) (omega arith) other s a (same a ∙ h);
+      within = subst (λ (l : List ℕ). length l ≤ budget) leaves longer;
+    }
+
+-- an old one in a longer log
+pub best-kept : (n : ℕ) (p : ℕ → ℕ) (tolerance budget low : ℕ) (log next : List ℕ) (mark : ℕ) → Extends log next → IsBest n p tolerance budget low log mark →
+    IsBest n p tolerance budget low next mark
+best-kept n p tolerance budget low log next mark extends b =
+    let same : take mark log ≡ take mark next = sym (ap (take mark) extends.1 ∙ take-append-le mark log extends.0 b.place) in
+    let longer : length next ≡ length (log ++ extends.0) = ap (λ (l : List ℕ). length l) extends.1 in
+    record {
+      place = (let place = b.place in let sum = length-append log extends.0 in omega arith);
+      closed = subst (λ (l : List ℕ). IsClosed n (among l)) same b.closed;
+      worst = subst (λ (l : List ℕ). worst_of p (leaves_of n (among l)) ≡ low) same b.worst;
+      needed = subst (λ (l : List ℕ). IsNeeded n (max low tolerance) p (among l)) same b.needed;
+      within = subst (λ (l : List ℕ). length (leaves_of n (among l)) ≤ budget) same b.within;
+    }
+
+-- the split of the first leaf
+
+pub below-step : (n : ℕ) (p : ℕ → ℕ) (low : ℕ) (has next : ℕ → Bool) (t : ℕ) → IsNeededBelow n p low has → IsOuter n has t → low ≤ p t →
+    IsLeastClosed n (with_triangle has t) next → IsNeededBelow n p low next
+below-step n p low has next t needed outer above least k less = needed-step n k p has next t (needed k less) outer (omega arith) least
+
+-- it makes the log longer, and there is an end to that
+pub longer-step : (n : ℕ) (flags next : List Bool) (log more : List ℕ) (t : ℕ) → IsGrown n flags log → IsGrown n next more → IsOuter n (is_flagged flags) t →
+    IsLeastClosed n (with_triangle (is_flagged flags) t) (is_flagged next) → (length log < length more) × (length more + 2 ≤ 2 * 4 ^ n)
+longer-step n flags next log more t g h outer least =
+    let one = counted n flags log g in
+    let two = counted n next more h in
+    let grown = step-grown n (is_flagged flags) (is_flagged next) t g.closed outer least in
+    let most = leaves-most n (is_flagged next) in
+    (omega arith, omega arith)
+
+-- the beginning
+
+-- the empty set has the two halves of the square as leaves
+base_leaves : (n : ℕ) → leaves_of n (among []) ≡ 2 ∷ (3 ∷ [])
+unfolding leaves_of
+base_leaves n = ap₂ (λ (x y : List ℕ). x ++ y) (leaves_under-whole (2 * n) (among []) 2 refl) (leaves_under-whole (2 * n) (among []) 3 refl)
+
+-- addresses are small
+pub address-small : (n a : ℕ) → n ≤ 11 → IsAddress n a → (2 ≤ a) × (a < 2 ^ 24)
+address-small n a high address =
+    let few : 2 * n + 2 ≤ 24 = omega arith in
+    let most : 2 ^ (2 * n + 2) ≤ 2 ^ 24 = pow_mono few in
+    (address.low, (let h = address.high in omega arith))
+
+module _ (n : ℕ) (p : ℕ → ℕ) (flags : List Bool) (empty : (a : ℕ) → is_flagged flags a ≡ false) where
+  pub start-grown : length flags ≡ 2 ^ (2 * n + 1) → IsGrown n flags []
+  start-grown room = record {
+    room = room;
+    logged = record { same = empty; once = λ a h. absurd (false≢true h) };
+    closed = closed-same n (λ a. false) (is_flagged flags) (λ a. sym (empty a)) (nothing_closed n);
+  }
+
+  pub start-needed : (low : ℕ) → IsNeededBelow n p low (is_flagged flags)
+  start-needed low k less other s a h = absurd (both_ways (is_flagged flags a) (empty a) h)
+
+  -- the two halves of the square
+  pub start-best : (tolerance budget low : ℕ) → low ≡ max (p 2) (p 3) → 2 ≤ budget → IsBest n p tolerance budget low [] 0
+  start-best tolerance budget low is some =
+      let two : leaves_of n (among []) ≡ 2 ∷ (3 ∷ []) = base_leaves n in
+      record {
+        place = omega arith;
+        closed = nothing_closed n;
+        worst = ap (λ (l : List ℕ). worst_of p l) two ∙ omega arith;
+        needed = λ other s a h. absurd (false≢true h);
+        within = (let count : length (leaves_of n (among [])) ≡ 2 = ap (λ (l : List ℕ). length l) two in omega arith);
+      }
+
+  pub start-waiting : (none one two : List (ℕ × ℕ)) → none ≡ [] → 1 ≤ n → IsAddress n 2 → IsAddress n 3 → IsHeap pair_cmp two → AreKept one two →
+      (0 < p 2 → Contains one (p 2, 2)) → (0 < p 3 → Contains two (p 3, 3)) →
+      ((r : ℕ × ℕ) → Contains one r → Contains none r ⊎ ((r ≡ (p 2, 2)) × (0 < p 2))) →
+      ((r : ℕ × ℕ) → Contains two r → Contains one r ⊎ ((r ≡ (p 3, 3)) × (0 < p 3))) →
+      IsWaiting n p (is_flagged flags) two
+  start-waiting none one two nothing low lower upper ordered kept first second only_one only_two = record {
+    ordered = ordered;
+    entries = λ r h. ⊎_elim
+        (λ early. ⊎_elim
+        (λ (older : Contains none r). absurd (no_entry r (subst (λ (l : List (ℕ × ℕ)). Contains l r) nothing older)))
+        (λ new. subst (λ (z : ℕ × ℕ). IsEntry n p (is_flagged flags) z) (sym new.0)
+        record { address = lower; parent = λ big. absurd (omega arith); value = refl; some = new.1 })
+        (only_one r early))
+        (λ new. subst (λ (z : ℕ × ℕ). IsEntry n p (is_flagged flags) z) (sym new.0)
+        record { address = upper; parent = λ big. absurd (omega arith); value = refl; some = new.1 })
+        (only_two r h);
+    leaves = λ a leaf some.
+        let closed : IsClosed n (is_flagged flags) = closed-same n (λ a. false) (is_flagged flags) (λ a. sym (empty a)) (nothing_closed n) in
+        let outer : IsOuter n (is_flagged flags) a = outer-of n (is_flagged flags) a closed leaf in
+        ⊎_elim
+        (λ (small : a < 4). ⊎_elim
+        (λ (less : a < 3).
+        let same : 2 ≡ a = (let l = outer.address.low in omega arith) in
+        subst (λ z. 0 < p z → Contains two (p z, z)) same (λ some. kept (p 2, 2) (first some)) some)
+        (λ (more : 3 ≤ a).
+        let same : 3 ≡ a = omega arith in
+        subst (λ z. 0 < p z → Contains two (p z, z)) same second some)
+        (cases_lt a 3))
+        (λ big. absurd (both_ways (is_flagged flags (a / 2)) (empty (a / 2)) (outer.parent big)))
+        (cases_lt a 4);
+  }
+    where
+      no_entry : (r : ℕ × ℕ) → Contains [] r → ⊥
+      no_entry r (k, below, is) = omega arith
+
+-- the end
+
+module _ (n : ℕ) (p : ℕ → ℕ) (tolerance budget low : ℕ) (log : List ℕ) (mark : ℕ) (flags : List Bool) (b : IsBest n p tolerance budget low log mark)
+    (same : (a : ℕ) → is_flagged flags a ≡ among (take mark log) a) where
+  back : (a : ℕ) → among (take mark log) a ≡ is_flagged flags a
+  back a = sym (same a)
+
+  end-leaves : leaves_of n (is_flagged flags) ≡ leaves_of n (among (take mark log))
+  end-leaves = leaves_of-same n (is_flagged flags) (among (take mark log)) same
+
+  pub end-worst : low ≡ worst_of p (leaves_of n (is_flagged flags))
+  end-worst = sym (ap (λ (l : List ℕ). worst_of p l) end-leaves ∙ b.worst)
+
+  pub end-within : length (leaves_of n (is_flagged flags)) ≤ budget
+  end-within = subst (λ (l : List ℕ). length l ≤ budget) (sym end-leaves) b.within
+
+  -- the set fits each tolerance between its own greatest error and what it is needed at
+  pub end-fit : (k : ℕ) → low ≤ k → k ≤ max low tolerance → IsLeastSettled n k p (is_flagged flags)
+  end-fit k above below = record {
+    settled = record {
+      closed = closed-same n (among (take mark log)) (is_flagged flags) back b.closed;
+      within = (let w = end-worst in omega arith);
+    };
+    needed = λ other s a h. needed-lower n (max low tolerance) p (among (take mark log)) k below b.needed other s a (back a ∙ h);
+  }
+
+  -- where the budget was exceeded, it is a mesh of the budget
+  pub end-best : (over : ℕ → Bool) → tolerance < low → IsNeededBelow n p low over → budget < length (leaves_of n over) →
+      IsBudgetMesh n budget p (leaves_of n (is_flagged flags))
+  end-best over above needed many =
+      budget_end n budget p (is_flagged flags) over
+      (subst (λ k. IsLeastSettled n k p (is_flagged flags)) end-worst (end-fit low (omega arith) (omega arith))) end-within (low - 1)
+      (let w = end-worst in omega arith) (needed (low - 1) (omega arith)) many
+
+-- what refinement finds
+pub end-found : (n : ℕ) (p : ℕ → ℕ) (tolerance budget low : ℕ) (log : List ℕ) (mark : ℕ) (flags : List Bool) (over : ℕ → Bool) →
+    IsBest n p tolerance budget low log mark → ((a : ℕ) → is_flagged flags a ≡ among (take mark log) a) →
+    (low ≤ tolerance) ⊎ (IsNeededBelow n p low over × (budget < length (leaves_of n over))) → IsFound n tolerance budget p (is_flagged flags)
+end-found n p tolerance budget low log mark flags over b same end =
+    let worst : low ≡ worst_of p (leaves_of n (is_flagged flags)) = end-worst n p tolerance budget low log mark flags b same in
+    record {
+      fit = subst (λ k. IsLeastSettled n k p (is_flagged flags)) worst
+          (end-fit n p tolerance budget low log mark flags b same low (omega arith) (omega arith));
+      within = end-within n p tolerance budget low log mark flags b same;
+      fewest = λ le. end-fit n p tolerance budget low log mark flags b same tolerance (omega arith) (omega arith);
+      best = λ above. ⊎_elim
+          (λ fits. absurd (omega arith))
+          (λ many. end-best n p tolerance budget low log mark flags b same over (omega arith) many.0 many.1)
+          end;
+    }

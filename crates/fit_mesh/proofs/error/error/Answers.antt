@@ -1,0 +1,6 @@
+use Rattle.std.proofs.Common.{◌∙◌}
+use Rattle.fit_mesh.proofs.ErrorLemmas.{error-greatest}
+use Rattle.fit_mesh.proofs.error.error.Goals as goal
+
+pub returns : goal.returns
+returns c = c.off_triangle.ensures ∙ error-greatest c.args.grid.now.n c.args.grid.now.heights c.args.t

@@ -1,0 +1,21 @@
+use Rattle.std.proofs.Common.{◌+◌, ◌-◌, ◌*◌, ◌^◌, ◌≡◌, ◌≤◌, length, take}
+use Rattle.least_laws.specs.Sweep.{is_flagged}
+use Rattle.fit_laws.specs.Error.{error_of}
+use Rattle.fit_laws.specs.Settled.{IsNeeded}
+use Rattle.fit_mesh.specs.Log.{IsGrown}
+use Rattle.fit_mesh.specs.Grown.{AreSettled}
+use Rattle.fit_mesh.proofs.settle.settle.Given as goal
+
+abbrev pub invariant-loop-next : goal.invariant-loop-next
+invariant-loop-next l = record {
+  flags : length l.flags ≡ length l.fn.flags;
+  room : length l.room ≡ 2 ^ (2 * l.grid.n + 1);
+  count : l.count ≤ length l.room;
+  place : l.next ≤ l.count;
+  grown : IsGrown l.grid.n l.flags (take l.count l.room);
+  needed : IsNeeded l.grid.n l.tolerance (error_of l.grid.n l.grid.heights) (is_flagged l.flags);
+  asked : AreSettled l.grid.n (error_of l.grid.n l.grid.heights) l.tolerance (is_flagged l.flags) (take l.next (take l.count l.room));
+}
+
+abbrev pub decreases-loop-next : goal.decreases-loop-next
+decreases-loop-next l = length l.room - l.next

@@ -1,0 +1,5 @@
+pub mod Grown
+pub mod Kept
+pub mod Log
+pub mod Found
+pub mod Waiting

@@ -1,0 +1,173 @@
+//! The mesh, and the room that it is made in.
+
+ghost use Rattle.std.specs.Prelude.{◌≡◌, ◌+◌, ◌*◌, ◌^◌, ◌<◌, ◌≤◌, ◌∷◌, [], IfOk, length};
+ghost use Rattle.mesh_defs.specs.Tiling.{IsConforming};
+ghost use Rattle.mesh_defs.specs.MeshText.{vertices_of};
+ghost use Rattle.mesh_defs.specs.declared.level.TheConstants.{GREATEST_LEVEL};
+ghost use Rattle.deviation_laws.specs.PlaneHeight.{deviation_of};
+ghost use Rattle.least_laws.specs.Least.{IsLeastMesh};
+ghost use Rattle.obj_write.specs.Numbers.{numbers_of};
+ghost use Rattle.fit_laws.specs.Error.{error_of};
+ghost use Rattle.fit_laws.specs.Budget.{IsBudgetMesh};
+
+use crate::find::find_mesh;
+use address_flags::{end, list_leaves};
+use bintree_addr::Tri;
+use closure_laws::base_mesh;
+use obj_write::number_vertices;
+use pgm_grid::{Grid, side_for};
+use roam_edge::NoMemory;
+use std::alloc::Global;
+use std::collections::BinaryHeap;
+use std::marker::Model;
+
+/// The mesh of the last frame, in room for every mesh of its grid.
+///
+/// At n = 11 it takes less than 60 MB: a byte for each splittable triangle, and four for each finest triangle
+/// and each grid point; and, where the budget is below all finest triangles, 16 bytes for each of its triangles.
+#[derive(Drop)]
+pub struct Fit {
+    n: u32,
+    /// The most triangles of a mesh.
+    budget: u32,
+    /// For each address below the finest level, whether it is split.
+    flags: Vec<bool>,
+    /// Room for all finest triangles; the first `count` are the mesh.
+    room: Vec<Tri>,
+    count: usize,
+    numbers: Vec<u32>,
+    /// Room for the leaves that wait for a split.
+    heap: BinaryHeap<(u32, u32)>,
+}
+
+impl Model for Fit {
+    ghost use Rattle.std.specs.Prelude.{take};
+    ghost use Rattle.std.specs.BinaryHeap.{heap_capacity};
+    ghost use Rattle.fit_mesh.specs.Kept.{FitMesh, IsKept};
+
+    ghost Value = { FitMesh };
+
+    ghost view = { λ f. record { n = f.n; budget = f.budget; leaves = take f.count f.room.items } };
+
+    ghost invariant = { λ f. IsKept f.n f.budget f.flags.items f.room.items f.count f.numbers.items
+        (heap_capacity f.heap) };
+}
+
+/// What a frame tells of its mesh.
+#[derive(Clone, Copy, Debug, PartialEq, Eq)]
+pub struct FitNote {
+    /// How many triangles the mesh has.
+    pub triangles: u32,
+    /// How many vertices it has.
+    pub vertices: u32,
+    /// How far the surface is from the mesh at a grid point, at most, in units of height, times 2^n.
+    pub deviation: u32,
+}
+
+impl Fit {
+    /// Room for meshes of the grid of side 2^n, of at most `budget` triangles each; the mesh is the two halves
+    /// of the square.
+    ///
+    /// A budget of 2 * 4^n, the number of finest triangles, or more is no bound.
+    pub fn make(alloc: Global, n: u32, budget: u32) -> Result<Fit, NoMemory>
+        requires in_grid { (1 ≤ n) × (n ≤ GREATEST_LEVEL) }
+        requires some { 2 ≤ budget }
+        ensures n { IfOk result (λ f. f.n ≡ n) }
+        ensures budget { IfOk result (λ f. f.budget ≡ budget) }
+        ensures base { IfOk result (λ f. f.leaves ≡ 2 ∷ (3 ∷ [])) }
+    {
+        base_mesh(n);
+        let flags = vec![in alloc; false; end(n) as usize]?;
+        let mut room = vec![in alloc; Tri::LOWER; end(n) as usize]?;
+        let count = list_leaves(&flags, n, &mut room);
+        let mut numbers = vec![in alloc; 0; side_for(n) * side_for(n)]?;
+        number_vertices(&room[..count], n, &mut numbers);
+        let heap = BinaryHeap::with_capacity(alloc, waiting_room(n, budget))?;
+        Ok(Fit {
+            n,
+            budget,
+            flags,
+            room,
+            count,
+            numbers,
+            heap,
+        })
+    }
+
+    /// The best mesh of a height field for a tolerance, in units of height, times 2^n, becomes the mesh: no
+    /// triangle has an error above the tolerance, and there are as few as can be; or, where these are more than
+    /// the budget, the greatest error is the least that a mesh of the budget can have, and for that there are as
+    /// few as can be. Takes no memory.
+    ///
+    /// With a tolerance of 0 it is the mesh of the budget with the least error; with a budget that is no
+    /// bound, the mesh of the fewest triangles for the tolerance.
+    /// Cost (not proved): the error of each triangle that is split, and of its children; for a budget a few
+    /// steps for each doubling of the number of leaves that wait; the cost of `number_vertices`.
+    pub fn frame(&mut self, grid: &Grid, tolerance: u32) -> FitNote
+        requires grid { grid.now.n ≡ self.old.n }
+        ensures n { self.new.n ≡ self.old.n }
+        ensures budget { self.new.budget ≡ self.old.budget }
+
+        // Conforming, no triangle above the deviation; each such list splits all that is split here, has at
+        // least as many triangles, and each of them lies in one of these.
+        ensures least { let e = error_of grid.now.n grid.now.heights in
+            IsLeastMesh grid.now.n result.deviation e self.new.leaves }
+
+        // The same for the tolerance, where the mesh is within it.
+        ensures fewest { let e = error_of grid.now.n grid.now.heights in
+            result.deviation ≤ tolerance → IsLeastMesh grid.now.n tolerance e self.new.leaves }
+
+        // Or else no conforming list within the budget has a lower greatest error.
+        ensures best { let e = error_of grid.now.n grid.now.heights in
+            tolerance < result.deviation →
+            IsBudgetMesh grid.now.n self.old.budget e self.new.leaves }
+        ensures deviation { result.deviation
+            ≡ deviation_of grid.now.n grid.now.heights self.new.leaves }
+        ensures triangles { result.triangles ≡ length self.new.leaves }
+        ensures vertices { result.vertices ≡ length (vertices_of grid.now.n self.new.leaves) }
+        ensures within { length self.new.leaves ≤ self.old.budget }
+    {
+        let counts = find_mesh(
+            grid,
+            tolerance,
+            self.budget,
+            &mut self.heap,
+            &mut self.flags,
+            &mut self.room,
+            &mut self.numbers,
+        );
+        self.count = counts.triangles;
+        FitNote {
+            triangles: counts.triangles as u32,
+            vertices: counts.vertices,
+            deviation: counts.deviation,
+        }
+    }
+
+    /// The triangles of the mesh, depth first: 2 before 3, and left child before right child.
+    pub fn leaves(&self) -> &[Tri]
+        ensures value { result.now ≡ self.now.leaves }
+        ensures conforming { IsConforming self.now.n self.now.leaves }
+    {
+        &self.room[..self.count]
+    }
+
+    /// The numbers of the vertices of the mesh, as `number_vertices` of `obj_write` gives them.
+    pub fn numbers(&self) -> &[u32]
+        ensures value { result.now ≡ numbers_of self.now.n self.now.leaves }
+    {
+        &self.numbers
+    }
+}
+
+/// How many leaves may wait at a time; none where the budget is no bound.
+fn waiting_room(n: u32, budget: u32) -> usize
+    requires in_grid { (1 ≤ n) × (n ≤ GREATEST_LEVEL) }
+    ensures { budget < 2 ^ (2 * n + 1) → result ≡ 2 * budget }
+{
+    if budget < end(n) {
+        2 * budget as usize
+    } else {
+        0
+    }
+}
