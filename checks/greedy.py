@@ -3,14 +3,14 @@
 
 usage: checks/greedy.py WORD ..    the words of the program
 
-Slow and plain: it looks at every triangle, every diamond and every point (terrain.py, frames.py, strips.py, certificates.py).
+Slow and plain: it looks at every triangle, every diamond and every point (terrain.py, frames.py, strips.py, certifying.py).
 Exit statuses are those of the program: 2 where the words are no command, 4 where a line of a script is refused, 5 where a
 file cannot be read, 6 where a mesh cannot be written, 7 where a certificate is rejected. Grids are raw PGM files
 without comments; no grid is refused. `certify make` writes a sound certificate, of which there are many."""
 import re
 import sys
 
-import certificates
+import certifying
 import generated
 from frames import View, frame_of, least_split, leaves_of, mesh_text, run_of_steps, vertices_of
 from scripts import Refused, frames_of, is_signed
@@ -131,17 +131,17 @@ def certify_make(grid, x, y, z, budget, spacing):
     camera, budget, spacing = (coordinate(x), coordinate(y), coordinate(z)), budget_word(budget), spacing_word(spacing)
     terrain = Terrain(read_grid(grid), spacing, budget)
     terrain.camera = camera
-    print(certificates.made(terrain), end="")
+    print(certifying.made(terrain), end="")
 
 
 def certify_check(grid, mesh_name, certificate, budget, spacing):
     budget, spacing = budget_word(budget), spacing_word(spacing)
     terrain = Terrain(read_grid(grid), spacing, budget)
     try:
-        terrain.camera, leaves, reasons = certificates.read(read(certificate), terrain)
-        worst = certificates.check(terrain, leaves, reasons)
-        certificates.compare(terrain, leaves, read(mesh_name))
-    except certificates.Rejected as why:
+        terrain.camera, leaves, reasons = certifying.read(read(certificate), terrain)
+        worst = certifying.check(terrain, leaves, reasons)
+        certifying.compare(terrain, leaves, read(mesh_name))
+    except certifying.Rejected as why:
         print(f"rejected: {why}")
         return 7
     print("certified camera %d %d %d" % terrain.camera, f"triangles {len(leaves)} worst {worst}")

@@ -1,0 +1,68 @@
+# shellcheck shell=bash disable=SC2154
+# Certificates, good and damaged, before a checker that has nothing of the program: certificates.py, copied into an empty
+# folder and run by Python without the folder's modules. Its line and status are the wanted ones, and the program's own.
+# Sourced by checks/run.
+
+mkdir -- "$room/certificates" "$room/certificates/alone" && cd -- "$room/certificates" || exit 1
+cp -- "$checks/certificates.py" alone/
+jacksboro=$top/examples/jacksboro
+
+# judged NAME STATUS LINE GRID MESH CERT BUDGET SPACING: one check, of both. LINE may end with `*`.
+judged() {
+  local name=$1 status=$2 line=$3 why=() told
+  shift 3
+  told=$(cd alone && exec python3 -I certificates.py "$@" 2>/dev/null)
+  [ $? -eq "$status" ] || why+=("the checker's status is not $status")
+  # shellcheck disable=SC2053
+  [[ $told == $line ]] || why+=("the checker says '$told', not '$line'")
+  [ "$("$program" certify check "$@" 2>/dev/null)" = "$told" ] || why+=("the program says something else than '$told'")
+  decide "$name" ${why[0]+"${why[@]}"}
+}
+
+cp -- "$jacksboro/grid.pgm" grid.pgm
+cp -- "$jacksboro/expected/out000001.obj" mesh.obj
+cp -- "$top/examples/certificate/cert" cert
+certified='certified camera 0 0 0 triangles 1998 worst 2790'
+
+# NAME|STATUS|LINE|BUDGET|how the file is damaged: FILE and an edit by sed
+while IFS='|' read -r name status line budget file edit; do
+  for kept in grid.pgm mesh.obj cert; do
+    if [ "$kept" = "$file" ]; then sed "$edit" "$kept"; else cat -- "$kept"; fi >"damaged_$kept"
+  done
+  if [ -n "$file" ] && cmp -s -- "$file" "damaged_$file"; then
+    wrong "certificate_$name" "the edit changes nothing"
+    continue
+  fi
+  judged "certificate_$name" "$status" "$line" "$PWD/damaged_grid.pgm" "$PWD/damaged_mesh.obj" "$PWD/damaged_cert" "$budget" 90
+done <<TABLE
+that_is_sound|0|$certified|2000||
+with_other_blanks_and_line_ends|0|$certified|2000|cert|s/ /\t /; s/\$/ \r/
+of_a_lesser_budget|7|rejected: over budget|1997||
+of_a_greater_budget|7|rejected: too few reasons|2002||
+that_ends_before_its_last_two_reasons|7|rejected: too few reasons|2000|cert|3998,\$d
+without_a_camera|7|rejected: bad line 1|2000|cert|1d
+with_an_empty_line|7|rejected: bad line 11|2000|cert|10a\\\\
+with_a_leaf_behind_a_reason|7|rejected: bad line 2001|2000|cert|2000a leaf 4096
+with_a_leaf_that_is_no_triangle|7|rejected: bad line 2|2000|cert|2s/.*/leaf 262144/
+without_a_leaf|7|rejected: not conforming|2000|cert|2d
+with_a_leaf_twice|7|rejected: not conforming|2000|cert|2p
+with_a_leaf_for_its_two_halves|7|rejected: not conforming|2000|cert|2s/4096/2048/; 3d
+seen_from_elsewhere|7|rejected: bad reason *|2000|cert|1s/0 0 0/0 0 90000/
+with_a_reason_twice|7|rejected: bad reason 3|2000|cert|2001p
+with_a_reason_of_another_kind|7|rejected: bad reason 2|2000|cert|2001s/mate/parent/
+with_a_triangle_that_nothing_forces|7|rejected: bad reason 1|2000|cert|2000s/.*/want 131071/
+of_a_mesh_with_another_height|7|rejected: mesh differs at *|2000|mesh.obj|1s/.\$/x/
+of_a_mesh_with_a_face_less|7|rejected: mesh differs at *|2000|mesh.obj|\$d
+of_a_mesh_with_a_line_more|7|rejected: mesh differs at *|2000|mesh.obj|\$a # made elsewhere
+TABLE
+
+# The program's own certificate, of another camera and budget and over a plain grid with a comment.
+{ printf 'P2\n# nine points and more\n5 5\n99\n'; printf '%s ' 0 3 99 4 0 7 1 2 88 5 1 0 40 0 60 9 9 9 2 50 6 50 4 3 1; } >plain.pgm
+printf 'camera -7 5 30\nframe\n' >script
+"$program" mesh plain.pgm script small 12 3 >/dev/null
+"$program" certify make plain.pgm -7 5 30 12 3 >small.cert
+judged a_certificate_of_the_programs_own 0 'certified camera -7 5 30 triangles 1* worst *' "$PWD/plain.pgm" "$PWD/small000001.obj" "$PWD/small.cert" 12 3
+sed 's/88/87/' plain.pgm >other.pgm
+judged a_certificate_of_another_grid 7 'rejected: *' "$PWD/other.pgm" "$PWD/small000001.obj" "$PWD/small.cert" 12 3
+
+cd -- "$top" || exit 1
