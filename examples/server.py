@@ -1,7 +1,5 @@
-"""Asks `roam` for one mesh after the other: where the script is a pipe, it answers each `frame` line at once.
-
-  python3 server.py ROAM GRID BUDGET SPACING X,Y,Z ..     a mesh for each camera, and its report line
-"""
+"""python3 server.py ROAM GRID BUDGET SPACING X,Y,Z ..: asks `roam` for a mesh from each of these cameras, one after the
+other. Where its script is a pipe, it answers each `frame` line at once."""
 import subprocess
 import sys
 import tempfile
@@ -9,7 +7,6 @@ import tempfile
 
 class Meshes:
     """A run of `roam mesh` that waits for lines of a script."""
-
     def __init__(self, roam, grid, budget, spacing):
         self.folder, self.frames = tempfile.TemporaryDirectory(), 0
         words = [roam, 'mesh', grid, '/dev/stdin', f'{self.folder.name}/out', budget, spacing]
