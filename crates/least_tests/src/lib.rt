@@ -1,4 +1,4 @@
-//! Tests of the crates over one mesh that no engine follows: least meshes, certificates and strips.
+//! Tests of the crates over one mesh that no engine follows: least meshes, meshes by their error, certificates and strips.
 //!
 //! For whoever changes one of them. They stand here, above those crates, so that each of those is proved without tests, and once. A test
 //! calls what is public, and shows what no clause says: that the definitions mean what numbers worked by hand say, and that a call
@@ -8,6 +8,8 @@
 
 #[cfg(test)]
 mod certificates;
+#[cfg(test)]
+mod fit;
 #[cfg(test)]
 mod hill;
 #[cfg(test)]
