@@ -168,6 +168,19 @@ else
   skip library_sanitized 'no compiler with the sanitizers of addresses and undefined behaviour is there'
 fi
 
+# ThreadSanitizer sees the C++ and the heap, not what the library reads and writes; helgrind, below, sees that too.
+racing=
+for cc in clang++ g++; do
+  "$cc" -g -O1 -fsanitize=thread -x c++ -o empty empty.c >said 2>&1 && ./empty && racing=$cc && break
+done
+if [ -n "$racing" ]; then
+  if builds library_threads_without_races "$racing" -std=c++17 -g -O1 -fsanitize=thread -pthread -o threads_racing "$uses/threads.cpp" "${static[@]}"; then
+    runs library_threads_without_races 'one after the other' ./threads_racing
+  fi
+else
+  skip library_threads_without_races 'no compiler with the sanitizer of threads is there'
+fi
+
 if has library_fuzzed clang; then
   if clang -g -O1 -std=c99 -DFUZZER -fsanitize=fuzzer,address,undefined -fno-sanitize-recover=all -o fuzzed "$tests/calls.c" "${static[@]}" >said 2>&1; then
     runs library_fuzzed 'Done 20000 runs' ./fuzzed -seed=1 -runs=20000 -max_len=4096 -len_control=0
@@ -187,6 +200,7 @@ if has library_in_valgrind valgrind cc; then
   if has library_threads_in_valgrind c++ &&
     builds library_threads_in_valgrind c++ -std=c++17 -g -O1 -pthread -o threads_watched "$uses/threads.cpp" "${static[@]}"; then
     runs library_threads_in_valgrind 'one after the other' "${watched[@]}" ./threads_watched
+    runs library_threads_in_helgrind 'one after the other' valgrind -q --tool=helgrind --error-exitcode=9 ./threads_watched 20
   fi
 fi
 
@@ -207,6 +221,7 @@ if has library_python python3; then
     runs "library_python_doctest_$kind" '' "${python[@]}" -m doctest "$prefix/lib/python/roam.py"
     runs "library_python_jacksboro_$kind" 'outside 193' "${python[@]}" "$uses/jacksboro.py"
     runs "library_python_refusals_$kind" '' "${python[@]}" "$tests/refusals.py"
+    runs "library_python_threads_$kind" 'threads of Python' "${python[@]}" "$tests/threads.py"
     { echo 'heights, path = [7] * 81, [(1, 2, 3.5)] * 3'; block python; echo 'print(note.triangles)'; } >loop.py
     runs "library_python_loop_of_the_docs_$kind" 2 "${python[@]}" loop.py
     runs "library_python_sessions_$kind" '100 sessions' "${python[@]}" "$tests/sessions.py" 1 100

@@ -6,9 +6,10 @@
  * 3. One call at a time uses a handle. Different handles share nothing.
  * 4. A pointer is valid for what its type and its count say, and is never null, not even where the count is 0.
  * 5. What a call writes overlaps nothing else that the call is given.
- * 6. A handle stays on the thread that opened it.
+ * 6. A handle may move from one thread to another, in an order that the two threads agree on (a join, a lock).
  * 7. No call comes from a signal handler, or from the forked child of a process with threads.
- * 8. The three functions of heap.c come from one allocator, and align blocks as malloc does.
+ * 8. The three functions of heap.c come from one allocator, align blocks as malloc does, and take blocks back on any thread
+ *    that a handle moves to.
  */
 #ifndef ROAM_H
 #define ROAM_H
@@ -38,7 +39,7 @@ enum roam_answer {
 
 /* Owns an engine, or is empty. The fields are the library's. */
 typedef struct roam_handle {
-    uint64_t head;
+    uint8_t full;
     void *at;
 } roam_handle;
 #define ROAM_EMPTY { 0, NULL }
@@ -73,7 +74,7 @@ typedef struct roam_state_note {
  * memory is taken here; no other call takes any. A full handle lets go of its engine, unless the call fails. */
 int32_t roam_open(roam_handle *h, const uint16_t *heights, size_t count, uint32_t budget, uint32_t spacing);
 
-/* Lets go of the engine; the handle is empty then. */
+/* Lets go of the engine; the handle is empty then. Answers ROAM_OK, or ROAM_IS_EMPTY if it was empty before. */
 int32_t roam_close(roam_handle *h);
 
 /* Puts the camera to a place, in world units: x and y are `spacing` to a grid step, z is one to a unit of height; the near

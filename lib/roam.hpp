@@ -2,7 +2,7 @@
 //
 // A call that is refused throws roam::error, which says the call and the answer. With ROAM_ANSWERS defined nothing is
 // thrown: each call gives its roam_answer, and what it finds goes out through its last parameter.
-// What roam.h asks of C is kept by the class but for points 3, 6 and 7: one call at a time, on one thread, no signal handler.
+// What roam.h asks of C is kept by the class but for points 3, 6 and 7: one call at a time, an order of threads, no signal handler.
 #ifndef ROAM_HPP
 #define ROAM_HPP
 #include "roam.h"

@@ -1,4 +1,5 @@
-// Roam.cs over a hill of nine points: a frame found by hand, its indices, what is refused, and use after Dispose.
+// Roam.cs over a hill of nine points: a frame found by hand, its indices, what is refused, an engine that goes from thread to
+// thread, and use after Dispose.
 using System;
 using System.Threading;
 using Roam;
@@ -30,15 +31,18 @@ static class Frames {
         Must(AnswerOf(() => new Engine(new ushort[0], 8, 10)) == Answer.BadGrid, "an empty grid");
         Must(AnswerOf(() => engine.Indices(new uint[0])) == Answer.NoRoom, "no room");
         Must(AnswerOf(() => engine.Camera(1L << 31, 0, 0)) == Answer.BadCamera, "a far camera");
-        bool isRefused = false;
+        Note there = note;
         var beside = new Thread(() => {
-            try { engine.Frame(); } catch (InvalidOperationException) { isRefused = true; }
+            there = engine.Frame();
             using (var own = new Engine(hill, 8, 10)) own.Frame();
         });
         beside.Start();
         beside.Join();
-        Must(isRefused && engine.State().Frames == 2, "a frame on another thread");
-        engine.Dispose();
+        Must(there.Triangles == note.Triangles && there.Worst == note.Worst && there.Splits == 0 && engine.State().Frames == 3, "a frame on another thread");
+        engine.AddPlane(0, 0, 1, 1);
+        var last = new Thread(() => engine.Dispose());
+        last.Start();
+        last.Join();
         Must(AnswerOf(() => engine.Frame()) == Answer.IsEmpty, "a frame of none");
         Console.WriteLine("frames of C#");
     }

@@ -4,7 +4,6 @@
 usage: refusals.py      with roam.py on PYTHONPATH"""
 import array
 import sys
-import threading
 
 import roam
 
@@ -54,20 +53,6 @@ def refused(kind, text, call):
     return f"no error, not '{text}'"
 
 
-def beside(wrong):
-    """A thread with an engine of its own, on which the one of the main thread is refused."""
-    room = array.array("I", bytes(4 * 24))
-    for call in (engine.frame, engine.state, engine.close, engine.indices):
-        wrong += filter(None, [refused(RuntimeError, "the engine was made on another thread", call)])
-    with roam.Engine(HILL, 8, 10) as own:
-        for k in range(300):
-            own.camera(k, k / 2, 50)
-            own.frame()
-            own.indices(room)
-        if own.state().frames != 300:
-            wrong.append("frames of a thread are lost")
-
-
 def main():
     before = engine.state()
     wrong = [why for why in (refused(*case) for case in CASES) if why]
@@ -76,13 +61,8 @@ def main():
     for _ in range(6):
         engine.add_plane(0, 0, 1, 0)
     wrong += filter(None, [refused(ValueError, "six planes are in force", lambda: engine.add_plane(0, 0, 1, 0))])
-    threads = [threading.Thread(target=beside, args=[wrong]) for _ in range(3)]
-    for thread in threads:
-        thread.start()
-    for thread in threads:
-        thread.join()
     if engine.state() != before._replace(planes=6):
-        wrong.append("a call of another thread has changed the engine")
+        wrong.append("a seventh plane has changed the engine")
     engine.close()
     engine.close()
     if wrong:

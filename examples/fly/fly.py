@@ -39,7 +39,7 @@ def read_pgm(path):
 
 
 class Flight:
-    """One engine, its ground and its last planes. All methods run on the one thread that opened it."""
+    """One engine, its ground and its last planes. One method at a time runs."""
 
     def __init__(self, engine_of, side, heights, most, spacing, report):
         self.engine_of, self.side, self.heights, self.spacing, self.most = engine_of, side, heights, spacing, most
@@ -176,7 +176,7 @@ def main():
         from roam import Engine
     except (ImportError, OSError) as why:
         sys.exit(f"fly.py: the library is not there: {why}\nBuild it by lib/build, or name it in ROAM_LIBRARY.")
-    with ThreadPoolExecutor(1) as worker:  # the engine stays on one thread
+    with ThreadPoolExecutor(1) as worker:  # one call at a time uses the engine
         try:
             side, heights = read_pgm(words.grid)
             Handler.flight = worker.submit(Flight, Engine, side, heights, words.triangles, words.spacing, words.report).result()

@@ -1,9 +1,12 @@
 // What a C++ program may lean on: each allocation failing in turn leaves nothing behind and keeps the engine that was there;
-// no call but `open` takes memory; two engines on two threads do what they do one after the other; nothing is left at the end.
+// no call but `open` takes memory; an engine that goes from thread to thread does what it does on one; two engines on two
+// threads do what they do one after the other; nothing is left at the end.
+// usage: threads [FRAMES]      of a flight, 150 if not given
 #include "roam.hpp"
 #include <atomic>
 #include <cstdio>
 #include <cstdlib>
+#include <mutex>
 #include <thread>
 
 // An allocator of the program's own, in place of that of heap.c: it counts blocks, and fails where it is told to.
@@ -41,11 +44,12 @@ static std::vector<uint16_t> hills(unsigned n, uint32_t seed) {
     return heights;
 }
 
-static uint64_t flight(uint32_t seed) {
-    roam::engine first(hills(6, seed), 900, 30), terrain = std::move(first);
+static int frames = 150;
+
+// The frames from `k` up to `end`, summed up.
+static uint64_t fly(roam::engine &terrain, int k, int end, uint64_t sum) {
     std::vector<uint32_t> indices;
-    uint64_t sum = 0;
-    for (int k = 0; k < 150; k++) {
+    for (; k < end; k++) {
         terrain.camera(12 * k, 9 * k, 300);
         if (k % 40 == 7) terrain.raise(3, 3, 20, 11, k);
         const roam_frame_note note = terrain.frame();
@@ -56,7 +60,51 @@ static uint64_t flight(uint32_t seed) {
     return sum;
 }
 
-int main() {
+static uint64_t flight(uint32_t seed) {
+    roam::engine first(hills(6, seed), 900, 30), terrain = std::move(first);
+    return fly(terrain, 0, frames, 0);
+}
+
+// The same, opened on one thread, flown on by this one, and closed on a third: each begins when the one before has ended.
+static uint64_t flight_by_joins(uint32_t seed) {
+    roam::engine terrain;
+    uint64_t sum = 0;
+    std::thread opens([&] {
+        terrain.open(hills(6, seed), 900, 30);
+        sum = fly(terrain, 0, frames / 3, sum);
+    });
+    opens.join();
+    sum = fly(terrain, frames / 3, frames / 2, sum);
+    std::thread closes([&sum, own = std::move(terrain)]() mutable {
+        sum = fly(own, frames / 2, frames, sum);
+        own.close();
+    });
+    closes.join();
+    return sum;
+}
+
+// The same by two threads, a frame each time that one has the lock. The first that finds all frames flown closes the engine.
+static uint64_t flight_by_a_lock(uint32_t seed) {
+    roam::engine terrain(hills(6, seed), 900, 30);
+    std::mutex turn;
+    uint64_t sum = 0;
+    int flown = 0;
+    const auto fly_on = [&] {
+        for (;;) {
+            std::lock_guard<std::mutex> mine(turn);
+            if (flown == frames) return terrain.close();
+            sum = fly(terrain, flown, flown + 1, sum);
+            flown++;
+        }
+    };
+    std::thread s(fly_on), t(fly_on);
+    s.join();
+    t.join();
+    return sum;
+}
+
+int main(int argc, char **argv) {
+    if (argc > 1) frames = std::atoi(argv[1]);
     const auto heights = hills(5, 1);
     long fails = 0;
     for (;; fails++) {
@@ -111,7 +159,9 @@ int main() {
     s.join();
     t.join();
     must(one == beside_one && two == beside_two, "two threads do not do what they do one after the other");
+    must(flight_by_joins(1) == one, "an engine that goes from thread to thread does not do what it does on one");
+    must(flight_by_a_lock(2) == two, "two threads that take turns do not do what one does");
     must(blocks == 0, "a flight has left memory behind");
-    std::printf("two engines on two threads as one after the other\n");
+    std::printf("an engine that goes from thread to thread as on one, two engines on two threads as one after the other\n");
     return 0;
 }

@@ -1,9 +1,8 @@
 // The engine of roam.h for C#, by P/Invoke: libroam.so has to be where the loader finds it. Coordinates, units and ranges are
-// those of roam.h; a refused call throws a RoamException with its answer, and has changed nothing. An engine is used, and
-// disposed of, on the thread that made it; one that is not disposed of keeps its memory.
+// those of roam.h; a refused call throws a RoamException with its answer, and has changed nothing. An engine is used by
+// one thread at a time, whichever it is: a lock, where one is wanted, is the caller's. One that is not disposed of keeps its memory.
 using System;
 using System.Runtime.InteropServices;
-using System.Threading;
 
 namespace Roam {
     public enum Answer {
@@ -30,9 +29,8 @@ namespace Roam {
 
     public sealed class Engine : IDisposable {
         [StructLayout(LayoutKind.Sequential)]
-        struct Handle { ulong head; IntPtr at; }
+        struct Handle { byte full; IntPtr at; }
         Handle h;
-        readonly Thread thread = Thread.CurrentThread;
 
         static class C {
             const string Library = "libroam.so.1";
@@ -60,28 +58,27 @@ namespace Roam {
         public Engine(ushort[] heights, uint budget, uint spacing) {
             Must(C.roam_open(ref h, There(heights, "heights"), (UIntPtr)heights.Length, budget, spacing));
         }
-        public void Dispose() { Stay(); C.roam_close(ref h); }
-        void Stay() { if (Thread.CurrentThread != thread) throw new InvalidOperationException("the engine was made on another thread, and stays there"); }
+        public void Dispose() { C.roam_close(ref h); }
 
-        public void Camera(long x, long y, long z) { Stay(); Must(C.roam_camera(ref h, x, y, z)); }
-        public void AddPlane(long a, long b, long c, long d) { Stay(); Must(C.roam_add_plane(ref h, a, b, c, d)); }
-        public void ClearPlanes() { Stay(); Must(C.roam_clear_planes(ref h)); }
-        public void Budget(uint triangles) { Stay(); Must(C.roam_budget(ref h, triangles)); }
-        public void Set(uint x, uint y, ushort height) { Stay(); Must(C.roam_set(ref h, x, y, height)); }
-        public void Raise(uint x0, uint y0, uint x1, uint y1, int dz) { Stay(); Must(C.roam_raise(ref h, x0, y0, x1, y1, dz)); }
-        public Note Frame() { Note note; Stay(); Must(C.roam_frame(ref h, out note)); return note; }
-        public State State() { State state; Stay(); Must(C.roam_state(ref h, out state)); return state; }
+        public void Camera(long x, long y, long z) { Must(C.roam_camera(ref h, x, y, z)); }
+        public void AddPlane(long a, long b, long c, long d) { Must(C.roam_add_plane(ref h, a, b, c, d)); }
+        public void ClearPlanes() { Must(C.roam_clear_planes(ref h)); }
+        public void Budget(uint triangles) { Must(C.roam_budget(ref h, triangles)); }
+        public void Set(uint x, uint y, ushort height) { Must(C.roam_set(ref h, x, y, height)); }
+        public void Raise(uint x0, uint y0, uint x1, uint y1, int dz) { Must(C.roam_raise(ref h, x0, y0, x1, y1, dz)); }
+        public Note Frame() { Note note; Must(C.roam_frame(ref h, out note)); return note; }
+        public State State() { State state; Must(C.roam_state(ref h, out state)); return state; }
 
         /// Writes three places in the heights for each triangle, and answers how many triangles there are.
         public int Indices(uint[] to) {
             UIntPtr triangles;
-            Stay(); Must(C.roam_indices(ref h, There(to, "to"), (UIntPtr)to.Length, out triangles));
+            Must(C.roam_indices(ref h, There(to, "to"), (UIntPtr)to.Length, out triangles));
             return (int)triangles;
         }
         /// Writes the addresses of the triangles, in the same order.
         public int Leaves(uint[] to) {
             UIntPtr triangles;
-            Stay(); Must(C.roam_leaves(ref h, There(to, "to"), (UIntPtr)to.Length, out triangles));
+            Must(C.roam_leaves(ref h, There(to, "to"), (UIntPtr)to.Length, out triangles));
             return (int)triangles;
         }
     }

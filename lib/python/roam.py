@@ -19,8 +19,9 @@ point (0, 0), z counts units of height.
 Traceback (most recent call last):
 ValueError: budget is 1, and has to be from 2 to 1048576
 
-With numpy heights go in without a copy, and indices come out as one array of shape (triangles, 3). An engine is used on the
-thread that made it; engines share nothing, and those of several threads run side by side.
+With numpy heights go in without a copy, and indices come out as one array of shape (triangles, 3). An engine is used by one
+thread at a time, whichever it is: a lock, where one is wanted, is the caller's. Engines share nothing, and those of several
+threads run side by side.
 """
 from __future__ import annotations
 
@@ -28,8 +29,7 @@ import array
 import ctypes
 import operator
 import os
-import threading
-from ctypes import POINTER, byref, c_int32, c_int64, c_size_t, c_uint16, c_uint32, c_uint64
+from ctypes import POINTER, byref, c_int32, c_int64, c_size_t, c_uint8, c_uint16, c_uint32, c_uint64
 from typing import Any, NamedTuple, Optional, Sequence
 
 try:
@@ -80,7 +80,7 @@ class Changes(NamedTuple):
 
 
 class _Handle(ctypes.Structure):
-    _fields_ = [("head", c_uint64), ("at", ctypes.c_void_p)]
+    _fields_ = [("full", c_uint8), ("at", ctypes.c_void_p)]
 
 
 class _Note(ctypes.Structure):
@@ -185,7 +185,7 @@ class Engine:
     """
 
     def __init__(self, heights: Any, budget: int, spacing: int = 1) -> None:
-        self._handle, self._thread = _Handle(), threading.get_ident()
+        self._handle = _Handle()
         budget = _whole("budget", budget, 2, MOST_TRIANGLES)
         spacing = _whole("spacing", spacing, 1, MOST_SPACING)
         heights = _heights(heights)
@@ -193,14 +193,8 @@ class Engine:
         self._call("open", _pointer(heights, c_uint16), count, budget, spacing)
         self._most, self._side, self._triangles = budget, SIDES[[s * s for s in SIDES].index(count)], 2
 
-    def _stay(self) -> None:
-        """roam.h asks that a handle stays on its thread."""
-        if threading.get_ident() != self._thread:
-            raise RuntimeError("the engine was made on another thread, and stays there")
-
     def _call(self, name: str, *words: Any) -> None:
         """One call, and the answer as an exception."""
-        self._stay()
         answer = getattr(_library, "roam_" + name)(byref(self._handle), *words)
         if answer == 1:
             raise MemoryError("out of memory")
@@ -215,7 +209,6 @@ class Engine:
 
     def close(self) -> None:
         """Lets go of the engine and its memory; closing twice does nothing."""
-        self._stay()
         _library.roam_close(byref(self._handle))
 
     def __enter__(self) -> Engine:
@@ -224,9 +217,8 @@ class Engine:
     def __exit__(self, *_: object) -> None:
         self.close()
 
-    def __del__(self, close: Any = _library.roam_close, byref: Any = byref, thread: Any = threading.get_ident) -> None:
-        # On another thread, its memory stays taken.
-        if getattr(self, "_thread", None) == thread():
+    def __del__(self, close: Any = _library.roam_close, byref: Any = byref) -> None:
+        if hasattr(self, "_handle"):  # not where the arguments were too few
             close(byref(self._handle))
 
     def camera(self, x: float, y: float, z: float) -> None:
