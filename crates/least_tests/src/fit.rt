@@ -204,6 +204,15 @@ fn wanted(sizes: &[MeshSize], tolerance: u32, budget: u32) -> MeshSize {
     }
 }
 
+/// Sets a height of the grid.
+fn put(grid: &mut Grid, x: u32, y: u32, h: u16) -> Result<(), Fail> {
+    if x as usize >= grid.side() || y as usize >= grid.side() || h > grid.maxval() {
+        return Err("a point of the grid and a height".into());
+    }
+    grid.put(x, y, h);
+    Ok(())
+}
+
 /// A grid of heights without order, some of them 0.
 fn rough(alloc: Global, n: u32, seed: u32) -> Result<Wedges, Fail>
     requires in_grid { (1 ≤ n) × (n ≤ GREATEST_LEVEL) }
@@ -213,12 +222,26 @@ fn rough(alloc: Global, n: u32, seed: u32) -> Result<Wedges, Fail>
     let mut state = seed;
     for place in 0..side * side {
         state = state.wrapping_mul(1_664_525).wrapping_add(1_013_904_223);
-        let h = (state >> 8) % 65_536;
-        if state % 4 != 0 && grid.maxval() == 65_535 {
-            grid.put(place % side, place / side, h as u16);
+        if state % 4 != 0 {
+            let h = (state >> 8) % 65_536;
+            put(&mut grid, place % side, place / side, h as u16)?;
         }
     }
     Ok(Wedges::build(alloc, grid)?)
+}
+
+/// The size of the mesh for a tolerance and a budget, in room that had another mesh before.
+fn found(alloc: Global, w: &Wedges, tolerance: u32, budget: u32) -> Result<MeshSize, Fail>
+    requires { 2 ≤ budget }
+{
+    let grid = w.grid();
+    let mut fit = Fit::make(alloc, grid.n(), budget)?;
+    let _before = fit.frame(grid, tolerance / 2);
+    let note = fit.frame(grid, tolerance);
+    Ok(MeshSize {
+        worst: note.deviation,
+        triangles: note.triangles,
+    })
 }
 
 /// Fails unless the mesh for each tolerance and each of these budgets is the one by brute force.
@@ -229,26 +252,17 @@ fn compare(
     sets: &[u32],
     budgets: &[u32],
 ) -> Result<(), Fail> {
-    let n = w.grid().n();
     let errors = errors(w)?;
-    let sizes = sizes(alloc, sets, n, &errors)?;
+    let sizes = sizes(alloc, sets, w.grid().n(), &errors)?;
     for budget in budgets {
         if *budget < 2 {
-            continue;
+            return Err("a budget".into());
         }
-        let mut fit = Fit::make(alloc, n, *budget)?;
         for error in errors {
             for tolerance in [0, error, error.saturating_sub(1)] {
-                if w.grid().n() != n {
-                    return Err("a grid that stays".into());
-                }
-                let note = fit.frame(w.grid(), tolerance);
-                let found = MeshSize {
-                    worst: note.deviation,
-                    triangles: note.triangles,
-                };
+                let mesh = found(alloc, w, tolerance, *budget)?;
                 let want = wanted(&sizes, tolerance, *budget);
-                assert_eq!(rt; found, want, "{tolerance} {budget}");
+                assert_eq!(rt; mesh, want, "{tolerance} {budget}");
             }
         }
     }
@@ -277,7 +291,13 @@ fn meshes_of_side_4_are_those_by_brute_force(rt: HostRuntime) -> Result<(), Fail
     let sets = closed_sets(rt.alloc(), 2)?;
     for seed in 0..2 {
         let w = rough(rt.alloc(), 2, seed)?;
-        compare(&rt, rt.alloc(), &w, &sets, &[2, 3, 5, 9, 14, 20, 31, NO_BOUND])?;
+        compare(
+            &rt,
+            rt.alloc(),
+            &w,
+            &sets,
+            &[2, 3, 5, 9, 14, 20, 31, NO_BOUND],
+        )?;
     }
     Ok(())
 }
