@@ -78,8 +78,9 @@ expect() {
 
 # --- Examples: the one line of `command`, run where the example's files lie, gives what is in expected/. ---
 
-# The files of all examples lie side by side, since one may name a grid of another.
+# The runs of the program among the examples: their files lie side by side, since one may name a grid of another.
 for example in "$top"/examples/*/; do
+  [ -f "${example}command" ] || continue
   mkdir -p -- "$room/examples/$(basename -- "$example")"
   cp -- "$example"* "$room/examples/$(basename -- "$example")" 2>/dev/null
   # The mesh of one example is what another one checks.
@@ -88,6 +89,7 @@ done
 
 # Of the meshes out*.obj, as many are wanted as the report has lines of frames; expected/ has some of them, or all.
 for example in "$top"/examples/*/; do
+  [ -f "${example}command" ] || continue
   name=example_$(basename -- "$example" | tr - _)
   cd -- "$room/examples/$(basename -- "$example")" || exit 1
   read -r _ words <./command
