@@ -24,7 +24,7 @@ use Rattle.closure_laws.proofs.DiamondLemmas.{without_diamond}
 use Rattle.frame_steps.proofs.NextLemmas.{last_lead_or_none, some_lead}
 use Rattle.closure_laws.proofs.OrderLemmas.{no_later_from, no_later-le, no_later_trans}
 use Rattle.frame_steps.proofs.StraddleLemmas.{asked_leaf, asked_diamond, asked_over}
-use Rattle.frame_steps.proofs.KeyLemmas.{lead_no_later_key}
+use Rattle.frame_steps.proofs.KeyLemmas.{lead_no_later_key, IsAddress-entry}
 use Rattle.deferred_loop.specs.Choice.{IsFirstRank}
 use Rattle.deferred_loop.specs.Kept.{IsSettled, IsOldLeaf, IsOldMember, IsCharged, IsMet, IsAllowed}
 use Rattle.deferred_loop.specs.declared.queued.Head.{Head}
@@ -167,7 +167,7 @@ module _ (w : DeferredFrame) (is : IsDeferredFrame w) (s : SeenMesh) (settled : 
     old_lower : (t b : ℕ) (asked : List ℕ) → IsInDiamond w.n h.rank.tri t → IsOldMember w s asked t → IsInDiamond w.n t b → w.lower b ≤ worst_key s b
     old_lower t b asked inside old i =
         let can = can_merge_with w.n (among s.set.members) t b grid_set.closed (last_key w is s settled h last t inside).mergeable i in
-        worst_key-above w s b (w.lower b) (settled.keys b (member can)) (is.below b) (old.lower b i)
+        worst_key-above w s b (w.lower b) (settled.keys b (member can)) (is.below b (IsAddress-entry w.n s.set.members b grid_set (member can))) (old.lower b i)
 
     -- a triangle of the diamond has no better key
     better : (t b : ℕ) → IsInDiamond w.n h.rank.tri t → IsInDiamond w.n t b → IsNoLater ((lower_key (present w s) (sure s)) h.rank.tri) h.rank.tri ((lower_key (present w s) (sure s)) b) b

@@ -6,6 +6,7 @@ use Rattle.mesh_defs.specs.ClosedSet.{among}
 use Rattle.deferred_loop.specs.Seen.{PoolSet, SeenMesh, IsEntered, upper_of, lower_of}
 use Rattle.frame_steps.specs.Deferred.{DeferredFrame, IsEntry}
 use Rattle.frame_steps.specs.Stamps.{Stamp, Readings, stamp_now, ReadingsHold}
+use Rattle.frame_steps.proofs.KeyLemmas.{IsAddress-entry}
 use Rattle.deferred_loop.specs.Kept.{IsSound, IsCaughtUp}
 use Rattle.deferred_loop.specs.declared.gauge.Reading.{Reading}
 
@@ -77,15 +78,17 @@ module _ (w : DeferredFrame) (r : Readings) (odometer : ℕ) (now after : SeenMe
   other_stamp a other = entered.stamp a ∙ cond-false (eqb t a) (Some (stamp_of reading odometer)) (now.stamps a) other
 
   -- the keys after it is entered
-  entered_sound : ReadingsHold w.priority odometer r → ((a : ℕ) → IsTrue (among now.fresh a) → now.known a ≡ false) → IsSound w now → IsSound w after
+  entered_sound : ReadingsHold w.n w.priority odometer r → ((a : ℕ) → IsTrue (among now.fresh a) → now.known a ≡ false) → IsSound w now → IsSound w after
   entered_sound hold unknown s = record {
     grid = ap (λ (z : PoolSet). z.n) entered.set ∙ s.grid;
     valid = subst (λ (z : PoolSet). IsGridSet w.n z.members) (sym entered.set) s.valid;
     keys = λ a entry out. ⊎_elim
-        (λ (own : eqb t a ≡ true). record {
+        (λ (own : eqb t a ≡ true).
+        let address = IsAddress-entry w.n now.set.members a s.valid (subst (λ (z : PoolSet). IsEntry w.n (among z.members) a) entered.set entry) in
+        record {
           exact = λ told. absurd (both_ways (after.known a) (entered.known a ∙ unknown a (own_there a own)) told);
-          upper = λ new. subst (λ (z : Option Stamp). w.priority a ≤ upper_of z) (sym (own_stamp a own)) (hold a).above;
-          lower = λ new. subst (λ (z : Option Stamp). lower_of z ≤ w.priority a) (sym (own_stamp a own)) (hold a).below;
+          upper = λ new. subst (λ (z : Option Stamp). w.priority a ≤ upper_of z) (sym (own_stamp a own)) (hold a address).above;
+          lower = λ new. subst (λ (z : Option Stamp). lower_of z ≤ w.priority a) (sym (own_stamp a own)) (hold a address).below;
         })
         (λ (other : eqb t a ≡ false).
         let key = s.keys a (subst (λ (z : PoolSet). IsEntry w.n (among z.members) a) entered.set entry) (apart a other out) in
@@ -98,7 +101,7 @@ module _ (w : DeferredFrame) (r : Readings) (odometer : ℕ) (now after : SeenMe
   }
 
   -- one that is entered
-  pub entering_next : (before : SeenMesh) (count more last : ℕ) → ReadingsHold w.priority odometer r → ((a : ℕ) → IsTrue (among before.fresh a) → before.known a ≡ false) →
+  pub entering_next : (before : SeenMesh) (count more last : ℕ) → ReadingsHold w.n w.priority odometer r → ((a : ℕ) → IsTrue (among before.fresh a) → before.known a ≡ false) →
       IsEntering w r odometer before now count more → more ≤ last → last ≤ more + 1 → (last < 2 ^ 64 - 1 → last ≡ more + 1) →
       IsEntering w r odometer before after count last
   entering_next before count more last hold unknown e rises most counted = record {

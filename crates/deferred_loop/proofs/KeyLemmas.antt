@@ -27,8 +27,8 @@ present_is w s is = record {
   closure = is.closure;
   low = is.low;
   set = is.set;
-  above = λ a. cond_both (leb (w.priority a) (upper_of (s.stamps a))) (upper_of (s.stamps a)) (w.priority a) (λ z. w.priority a ≤ z) (λ more. leb-true (w.priority a) (upper_of (s.stamps a)) more) (λ none. omega arith);
-  below = λ a. cond_both (leb (lower_of (s.stamps a)) (w.priority a)) (lower_of (s.stamps a)) (w.priority a) (λ z. z ≤ w.priority a) (λ more. leb-true (lower_of (s.stamps a)) (w.priority a) more) (λ none. omega arith);
+  above = λ a _. cond_both (leb (w.priority a) (upper_of (s.stamps a))) (upper_of (s.stamps a)) (w.priority a) (λ z. w.priority a ≤ z) (λ more. leb-true (w.priority a) (upper_of (s.stamps a)) more) (λ none. omega arith);
+  below = λ a _. cond_both (leb (lower_of (s.stamps a)) (w.priority a)) (lower_of (s.stamps a)) (w.priority a) (λ z. z ≤ w.priority a) (λ more. leb-true (lower_of (s.stamps a)) (w.priority a) more) (λ none. omega arith);
 }
 
 -- where the priority is known the keys are it

@@ -49,7 +49,7 @@ module _ (told : Priorities) (r : Readings) (odometer : ℕ) (s : SeenMesh) (bud
     falling_here = subst (λ z. IsFalling z told.of) grid falls
 
     -- each priority lies between its bounds
-    pub picked_frame : StampsHold told.of odometer s.stamps → ReadingsHold told.of odometer r → IsDeferredFrame (frame_now told r odometer s budget)
+    pub picked_frame : StampsHold told.of odometer s.stamps → ReadingsHold s.set.n told.of odometer r → IsDeferredFrame (frame_now told r odometer s budget)
     picked_frame hold now = stamped_frame (frame_now told r odometer s budget) r odometer s.stamps (IsRanking-of s.set.n told.of) falling_here
         (aim_is s.set.n budget told.of low) low valid (picked_of).stamps hold now
 

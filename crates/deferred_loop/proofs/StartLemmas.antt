@@ -44,9 +44,9 @@ module _ (w : DeferredFrame) (is : IsDeferredFrame w) (r : Readings) (odometer :
         record {
           exact = λ told. absurd (both_ways (mid.known a) (begun.known a) told);
           upper = λ new. subst (λ z. w.priority a ≤ z) (of.stamps.upper a ∙ (counted_undue r odometer s.stamps a undue).0
-              ∙ sym (ap upper_of (begun.stamp a))) (is.above a);
+              ∙ sym (ap upper_of (begun.stamp a))) (is.above a (IsAddress-entry w.n mid.set.members a valid entry));
           lower = λ new. subst (λ z. z ≤ w.priority a) (of.stamps.lower a ∙ (counted_undue r odometer s.stamps a undue).1
-              ∙ sym (ap lower_of (begun.stamp a))) (is.below a);
+              ∙ sym (ap lower_of (begun.stamp a))) (is.below a (IsAddress-entry w.n mid.set.members a valid entry));
         };
   }
 

@@ -15,7 +15,7 @@ use crate::queued::QueuedMesh;
 pub fn enter_fresh<M: QueuedMesh, G: Gauge>(mesh: &mut M, gauge: &mut G, odometer: u64)
     ghost w: { DeferredFrame }
     requires told { G.told gauge.old ≡ told_of w }
-    requires hold { ReadingsHold w.priority odometer (G.readings gauge.old) }
+    requires hold { ReadingsHold w.n w.priority odometer (G.readings gauge.old) }
     requires sound { IsSound w (M.seen mesh.old) }
     requires unknown { (a : ℕ) → IsTrue (among (M.seen mesh.old).fresh a) → (M.seen mesh.old).known a ≡ false }
     requires addresses { (a : ℕ) → IsTrue (among (M.seen mesh.old).fresh a) → IsAddress w.n a }
@@ -41,7 +41,7 @@ pub fn begin_frame<M: QueuedMesh, G: Gauge>(mesh: &mut M, gauge: &mut G, odomete
     requires frame { IsDeferredFrame w }
     requires told { G.told gauge.old ≡ told_of w }
     requires of { IsFrameOf w (G.readings gauge.old) odometer (M.seen mesh.old) }
-    requires hold { ReadingsHold w.priority odometer (G.readings gauge.old) }
+    requires hold { ReadingsHold w.n w.priority odometer (G.readings gauge.old) }
     requires quiet { IsQuiet (M.seen mesh.old) }
     requires far { odometer ≤ 2 ^ 62 }
     ensures told { G.told gauge.new ≡ G.told gauge.old }

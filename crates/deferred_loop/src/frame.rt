@@ -45,7 +45,7 @@ fn advance_over<M: QueuedMesh, G: Gauge>(
     requires frame { IsDeferredFrame w }
     requires told { G.told gauge.old ≡ told_of w }
     requires of { IsFrameOf w (G.readings gauge.old) odometer (M.seen mesh.old) }
-    requires hold { ReadingsHold w.priority odometer (G.readings gauge.old) }
+    requires hold { ReadingsHold w.n w.priority odometer (G.readings gauge.old) }
     requires quiet { IsQuiet (M.seen mesh.old) }
     requires budget { budget ≡ w.budget }
     requires far { odometer ≤ 2 ^ 62 }
@@ -101,7 +101,8 @@ pub fn advance<M: QueuedMesh, G: Gauge>(
     requires room { HasRoom (M.seen mesh.old).set.n (M.seen mesh.old).set.most budget }
     requires counters { ((M.seen mesh.old).set.splits < 2 ^ 61) × ((M.seen mesh.old).set.merges < 2 ^ 61) }
     requires falls { IsFalling (G.told gauge.old).n (G.told gauge.old).of }
-    requires readings { ReadingsHold (G.told gauge.old).of odometer (G.readings gauge.old) }
+    requires readings { ReadingsHold (G.told gauge.old).n (G.told gauge.old).of
+        odometer (G.readings gauge.old) }
     requires stamps { StampsHold (G.told gauge.old).of odometer (M.seen mesh.old).stamps }
     requires valid { IsGridSet (M.seen mesh.old).set.n (M.seen mesh.old).set.members }
     requires quiet { IsQuiet (M.seen mesh.old) }

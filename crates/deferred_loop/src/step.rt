@@ -26,7 +26,7 @@ pub fn split_at<M: QueuedMesh, G: Gauge>(
     requires told { G.told gauge.old ≡ told_of w }
     requires settled { IsSettled w (M.seen mesh.old) }
     requires next { IsNextSplit w.n w.budget w.priority (M.seen mesh.old).set.members t }
-    requires hold { ReadingsHold w.priority odometer (G.readings gauge.old) }
+    requires hold { ReadingsHold w.n w.priority odometer (G.readings gauge.old) }
     requires far { odometer ≤ 2 ^ 62 }
     requires small { splits.old ≤ 2 ^ 30 }
     requires counter { (M.seen mesh.old).set.splits + 48 < 2 ^ 62 }
@@ -63,7 +63,7 @@ pub fn merge_at<M: QueuedMesh, G: Gauge>(
     requires told { G.told gauge.old ≡ told_of w }
     requires settled { IsSettled w (M.seen mesh.old) }
     requires next { IsNextMerge w.n w.budget w.priority (M.seen mesh.old).set.members t }
-    requires hold { ReadingsHold w.priority odometer (G.readings gauge.old) }
+    requires hold { ReadingsHold w.n w.priority odometer (G.readings gauge.old) }
     requires far { odometer ≤ 2 ^ 62 }
     requires small { merges.old ≤ 2 ^ 30 }
     requires counter { (M.seen mesh.old).set.merges < 2 ^ 62 }

@@ -10,12 +10,17 @@ use Rattle.mesh_defs.proofs.ListLemmas.{Contains-in}
 use Rattle.mesh_defs.specs.GridSet.{IsGridSet}
 use Rattle.tiling_laws.proofs.DescentLemmas.{IsAddress-leaves_of, IsAddress-splittable}
 use Rattle.closure_laws.specs.Order.{IsNoLater}
+use Rattle.closure_laws.proofs.DiamondLemmas.{diamond_closed}
 use Rattle.closure_laws.proofs.OrderLemmas.{no_later-le, no_later_from, no_later_trans, no_later_before, no_later_other}
 use Rattle.closure_laws.proofs.SetListLemmas.{All-in}
 use Rattle.frame_steps.specs.Lead.{IsLead}
 use Rattle.frame_steps.specs.Deferred.{DeferredFrame, IsDeferredFrame, IsEntry, leaf as of_leaf, member as of_member}
 use Rattle.frame_steps.specs.Keys.{upper_key, lower_key, IsLastKey}
 use Rattle.frame_steps.proofs.LeadLemmas.{lead_first}
+
+-- a leaf is a triangle of the grid
+IsAddress-leaf : (n : ℕ) (members : List ℕ) (a : ℕ) → Contains (leaves_of n (among members)) a → IsAddress n a
+IsAddress-leaf n members a h = All-contains (IsAddress n) (leaves_of n (among members)) a (IsAddress-leaves_of n (among members)) h
 
 module _ (w : DeferredFrame) (is : IsDeferredFrame w) where
   -- keys
@@ -37,16 +42,16 @@ module _ (w : DeferredFrame) (is : IsDeferredFrame w) where
   lower_key-unknown known a not_known = cond-false (known a) (w.priority a) (w.lower a) not_known
 
   -- the priority lies between the keys
-  upper_key-above : (known : ℕ → Bool) (a : ℕ) → w.priority a ≤ upper_key w known a
-  upper_key-above known a = ⊎_elim
+  upper_key-above : (known : ℕ → Bool) (a : ℕ) → IsAddress w.n a → w.priority a ≤ upper_key w known a
+  upper_key-above known a address = ⊎_elim
       (λ is_known. omega (arith, upper_key-known known a is_known))
-      (λ not_known. omega (arith, upper_key-unknown known a not_known, is.above a))
+      (λ not_known. omega (arith, upper_key-unknown known a not_known, is.above a address))
       (cases_Bool (known a))
 
-  lower_key-below : (known : ℕ → Bool) (a : ℕ) → lower_key w known a ≤ w.priority a
-  lower_key-below known a = ⊎_elim
+  lower_key-below : (known : ℕ → Bool) (a : ℕ) → IsAddress w.n a → lower_key w known a ≤ w.priority a
+  lower_key-below known a address = ⊎_elim
       (λ is_known. omega (arith, lower_key-known known a is_known))
-      (λ not_known. omega (arith, lower_key-unknown known a not_known, is.below a))
+      (λ not_known. omega (arith, lower_key-unknown known a not_known, is.below a address))
       (cases_Bool (known a))
 
   -- the head of the split queue
@@ -59,7 +64,7 @@ module _ (w : DeferredFrame) (is : IsDeferredFrame w) where
     leaf = leaf;
     positive = some;
     first = λ a listed more other.
-        let no_later : IsNoLater (upper_key w known f) f (w.priority a) a = no_later_trans (first a listed) (no_later_from (upper_key-above known a) (omega arith)) in
+        let no_later : IsNoLater (upper_key w known f) f (w.priority a) a = no_later_trans (first a listed) (no_later_from (upper_key-above known a (IsAddress-leaf w.n members a listed)) (omega arith)) in
         no_later_other (subst (λ z. IsNoLater z f (w.priority a) a) (upper_key-known known f is_known) no_later) (λ e. other (sym e));
   }
 
@@ -68,8 +73,9 @@ module _ (w : DeferredFrame) (is : IsDeferredFrame w) where
       ((l : ℕ) → Contains (leaves_of w.n (among members)) l → IsNoLater (upper_key w known f) f (upper_key w known l) l) →
       All (λ a. w.priority a ≡ 0) (leaves_of w.n (among members))
   zero_head members known f none first = All-in (λ a. w.priority a ≡ 0) (leaves_of w.n (among members)) (λ a i.
-      let key = no_later-le (first a (Contains-in a (leaves_of w.n (among members)) i)) in
-      let above = upper_key-above known a in omega arith)
+      let leaf = Contains-in a (leaves_of w.n (among members)) i in
+      let key = no_later-le (first a leaf) in
+      let above = upper_key-above known a (IsAddress-leaf w.n members a leaf) in omega arith)
 
   -- the last key
 
@@ -78,8 +84,9 @@ module _ (w : DeferredFrame) (is : IsDeferredFrame w) where
       (d : ℕ) → IsLead w.n w.priority (among members) d → IsNoLater (w.priority d) d (lower_key w known c) c
   lead_no_later_key members known a c set l d lead =
       let q = l.last d lead in
+      let address = IsAddress-splittable w.n q.0 (set.closed.splittable q.0 (diamond_closed w.n (among members) d q.0 set.closed lead.mergeable.member q.1)) in
       no_later_trans (lead_first w.n w.priority (among members) set.closed d q.0 lead q.1)
-      (no_later_trans (no_later_from (lower_key-below known q.0) (omega arith)) q.2)
+      (no_later_trans (no_later_from (lower_key-below known q.0 address) (omega arith)) q.2)
 
   -- where it comes before f, each lead ranks before f
   pub all_before : (members : List ℕ) (known : ℕ → Bool) (a c f : ℕ) → IsGridSet w.n members → IsLastKey w members known a c →
@@ -93,5 +100,5 @@ module _ (w : DeferredFrame) (is : IsDeferredFrame w) where
 
 -- an entry is a triangle of the grid
 pub IsAddress-entry : (n : ℕ) (members : List ℕ) (a : ℕ) → IsGridSet n members → IsEntry n (among members) a → IsAddress n a
-IsAddress-entry n members a set (of_leaf h) = All-contains (IsAddress n) (leaves_of n (among members)) a (IsAddress-leaves_of n (among members)) h
+IsAddress-entry n members a set (of_leaf h) = IsAddress-leaf n members a h
 IsAddress-entry n members a set (of_member h) = IsAddress-splittable n a (set.closed.splittable a h.member)

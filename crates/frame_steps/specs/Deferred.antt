@@ -3,6 +3,7 @@
 -- straddles is this project's own.
 -- Words: IsEntry, IsMergedInRun, LeafStraddles, DiamondStraddles, DeferredFrame, IsDeferredFrame, IsOpen.
 use Rattle.std.specs.Prelude.{◌≡◌, ℕ, ◌<◌, ◌≤◌, Bool, true, false, List, Contains, None, Some, slice_get}
+use Rattle.mesh_defs.specs.Triangle.{IsAddress}
 use Rattle.mesh_defs.specs.ClosedSet.{leaves_of, among}
 use Rattle.mesh_defs.specs.Ranking.{IsRanking, IsRankClosure, IsBefore}
 use Rattle.mesh_defs.specs.Greedy.{IsFirstLeaf}
@@ -54,15 +55,15 @@ pub record DeferredFrame : Type 0 where
   pub upper : ℕ → ℕ
   pub lower : ℕ → ℕ
 
--- each priority lies between its bounds
+-- the priority of each address of the grid lies between its bounds
 pub record IsDeferredFrame (w : DeferredFrame) : Type 0 where
   pub ranked : IsRanking w.n w.priority w.ranking
   pub falling : IsFalling w.n w.priority
   pub closure : IsRankClosure w.n w.budget w.ranking w.chosen w.best
   pub low : 2 ≤ w.budget
   pub set : IsGridSet w.n w.start
-  pub above : (a : ℕ) → w.priority a ≤ w.upper a
-  pub below : (a : ℕ) → w.lower a ≤ w.priority a
+  pub above : (a : ℕ) → IsAddress w.n a → w.priority a ≤ w.upper a
+  pub below : (a : ℕ) → IsAddress w.n a → w.lower a ≤ w.priority a
 
 -- an entry of the start that is due, or straddles
 pub data IsOpen (w : DeferredFrame) (a : ℕ) : Type 0 where

@@ -4,6 +4,7 @@
 -- Words: Stamp, Readings, is_due, stamp_now, counted_stamp, HasStamps, IsBetween, StampsHold,
 -- ReadingsHold.
 use Rattle.std.specs.Prelude.{◌≡◌, ℕ, ◌+◌, ◌≤◌, Bool, true, false, ◌||◌, nat_lt, Option, None, Some}
+use Rattle.mesh_defs.specs.Triangle.{IsAddress}
 use Rattle.frame_steps.specs.Deferred.{DeferredFrame}
 
 -- What an entry keeps: the odometer at which it was read, the way for which it holds from there, its upper and lower rank,
@@ -55,6 +56,7 @@ abbrev pub StampsHold : (ℕ → ℕ) → ℕ → (ℕ → Option Stamp) → Typ
 StampsHold priority odometer stamps =
     (a : ℕ) (stamp : Stamp) → stamps a ≡ Some stamp → is_due odometer (stamps a) ≡ false → IsBetween stamp (priority a)
 
--- and so does each stamp that is taken now
-abbrev pub ReadingsHold : (ℕ → ℕ) → ℕ → Readings → Type 0
-ReadingsHold priority odometer readings = (a : ℕ) → IsBetween (stamp_now readings odometer a) (priority a)
+-- and so does each stamp that is taken now, of an address of this grid
+abbrev pub ReadingsHold : ℕ → (ℕ → ℕ) → ℕ → Readings → Type 0
+ReadingsHold n priority odometer readings =
+    (a : ℕ) → IsAddress n a → IsBetween (stamp_now readings odometer a) (priority a)

@@ -142,11 +142,12 @@ pub fn queue_laws()
 {}
 
 /// From stamps to the bounds of a frame: where each stamp that is not due has the priority between its ranks, and so has
-/// each one that would be taken now, the frame that counts what is due by the latter is one over bounds.
+/// each one of an address of the grid that would be taken now, the frame that counts what is due by the latter is one over
+/// bounds.
 pub fn stamp_laws()
     ensures { (w : DeferredFrame) (readings : Readings) (odometer : ℕ) (stamps : ℕ → Option Stamp) →
         IsRanking w.n w.priority w.ranking → IsFalling w.n w.priority →
         IsRankClosure w.n w.budget w.ranking w.chosen w.best → 2 ≤ w.budget → IsGridSet w.n w.start →
         HasStamps w readings odometer stamps → StampsHold w.priority odometer stamps →
-        ReadingsHold w.priority odometer readings → IsDeferredFrame w }
+        ReadingsHold w.n w.priority odometer readings → IsDeferredFrame w }
 {}

@@ -74,7 +74,7 @@ impl<'a> Gauge for ViewGauge<'a> {
 pub fn gauge_laws()
     ensures falls { (n : ℕ) (heights : List ℕ) (camera : CameraAt) → IsFalling n (told_from n heights camera).of }
     ensures hold { (n : ℕ) (heights : List ℕ) (camera : CameraAt) (odometer : ℕ) →
-        ReadingsHold (told_from n heights camera).of odometer (readings_from n heights camera) }
+        ReadingsHold n (told_from n heights camera).of odometer (readings_from n heights camera) }
     ensures stamps { (n : ℕ) (heights : List ℕ) (from to : CameraAt) (odometer later : ℕ) (before after : SeenMesh) →
         odometer + move_length from to ≤ later →
         ((a : ℕ) → before.stamps a ≡ None) →

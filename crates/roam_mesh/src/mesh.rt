@@ -93,7 +93,8 @@ impl Mesh {
         requires room { HasRoom self.old.pool.n self.old.pool.most budget }
         requires counters { (self.old.pool.splits < 2 ^ 61) × (self.old.pool.merges < 2 ^ 61) }
         requires falls { IsFalling (G.told gauge.old).n (G.told gauge.old).of }
-        requires readings { ReadingsHold (G.told gauge.old).of odometer (G.readings gauge.old) }
+        requires readings { ReadingsHold (G.told gauge.old).n (G.told gauge.old).of
+            odometer (G.readings gauge.old) }
         requires stamps { StampsHold (G.told gauge.old).of odometer (stamp_of self.old) }
         ensures told { G.told gauge.new ≡ G.told gauge.old }
         ensures readings { G.readings gauge.new ≡ G.readings gauge.old }

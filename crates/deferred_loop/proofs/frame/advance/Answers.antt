@@ -1,13 +1,15 @@
-use Rattle.std.proofs.Common.{◌+◌, refl}
+use Rattle.std.proofs.Common.{◌+◌, refl, subst}
+use Rattle.frame_steps.specs.Stamps.{ReadingsHold}
 use Rattle.deferred_loop.proofs.PickLemmas.{picked_told, picked_of, picked_frame, end_sparing, end_at_most, end_at_least, end_stamps}
 use Rattle.deferred_loop.proofs.frame.advance.Goals as goal
 
 pub advance_over-requires : goal.advance_over-requires
 advance_over-requires g c κs within =
     let told = g.G.Gauge.told c.args.gauge.now in let readings = g.G.Gauge.readings c.args.gauge.now in let s = g.M.QueuedMesh.seen c.args.mesh.now in
+    let hold = subst (λ n. ReadingsHold n told.of c.args.odometer readings) c.requires.grid c.requires.readings in
     let frame = picked_frame told readings c.args.odometer s c.args.budget c.requires.grid c.requires.budget c.requires.falls c.requires.valid
-    c.requires.stamps c.requires.readings in
-    (within.0, (within.1, (frame, (picked_told told readings c.args.odometer s c.args.budget c.requires.grid, (picked_of told readings c.args.odometer s c.args.budget c.requires.grid, (c.requires.readings, (c.requires.quiet, (refl, (c.requires.far, (c.requires.counted, (c.requires.room, c.requires.counters)))))))))))
+    c.requires.stamps hold in
+    (within.0, (within.1, (frame, (picked_told told readings c.args.odometer s c.args.budget c.requires.grid, (picked_of told readings c.args.odometer s c.args.budget c.requires.grid, (hold, (c.requires.quiet, (refl, (c.requires.far, (c.requires.counted, (c.requires.room, c.requires.counters)))))))))))
 
 pub returns-clause-sparing : goal.returns-clause-sparing
 returns-clause-sparing g c =

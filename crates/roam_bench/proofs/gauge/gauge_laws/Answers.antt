@@ -11,7 +11,7 @@ returns-clause-falls c n heights camera = record {
 }
 
 pub returns-clause-hold : goal.returns-clause-hold
-returns-clause-hold c n heights camera odometer a = between-near n heights camera camera odometer a (omega arith) (omega arith)
+returns-clause-hold c n heights camera odometer a _ = between-near n heights camera camera odometer a (omega arith) (omega arith)
 
 pub returns-clause-stamps : goal.returns-clause-stamps
 returns-clause-stamps c n heights from to odometer later before after =
