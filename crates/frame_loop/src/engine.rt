@@ -4,7 +4,7 @@ ghost use Rattle.std.specs.Prelude.{◌≡◌, ℕ, ◌+◌, ◌-◌, ◌*◌, �
 ghost use Rattle.mesh_defs.specs.View.{start_view};
 ghost use Rattle.mesh_defs.specs.State.{start_state, with_camera, with_budget, move_length};
 ghost use Rattle.mesh_defs.specs.Triangle.{level_of};
-ghost use Rattle.mesh_defs.specs.ClosedSet.{leaves_of, among};
+ghost use Rattle.mesh_defs.specs.ClosedSet.{leaves_of, among, IsClosed};
 ghost use Rattle.edge_laws.specs.Slots.{split_set};
 ghost use Rattle.triangle_pool.specs.declared.pool.TheConstants.{MOST_LEAVES};
 ghost use Rattle.obj_write.specs.Numbers.{numbers_of};
@@ -211,6 +211,7 @@ impl Engine {
         ensures numbers { result.numbers.now ≡ numbers_of self.now.state.grid.n result.leaves.now }
         ensures members { result.leaves.now ≡ leaves_of self.now.state.grid.n (among (pool_members self.now.mesh.pool)) }
         ensures levels { All (λ a. level_of a ≤ 2 * self.now.state.grid.n) result.leaves.now }
+        ensures closed { IsClosed self.now.state.grid.n (split_set self.now.mesh.pool.pairs) }
         ensures spacing_low { 1 ≤ result.spacing }
         ensures spacing_high { result.spacing ≤ GREATEST_SPACING }
     {
