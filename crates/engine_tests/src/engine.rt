@@ -135,7 +135,7 @@ fn goes(engine: &mut Engine, step: Step) -> bool {
         Step::Still(inside, cut, outside) => frame(engine).is_some_and(|(told, marks)| {
             (told.3, told.4) == (0, 0) && marks == (inside, cut, outside)
         }),
-        Step::Cheap => frame(engine).is_some() && engine.evaluations().saturating_sub(before) <= 2,
+        Step::Cheap => frame(engine).is_some() && engine.evaluations() == before,
         Step::View(planes, leaves) => {
             let view = engine.view();
             view.planes.len() == planes && view.leaves.len() == leaves

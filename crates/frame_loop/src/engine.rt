@@ -16,6 +16,7 @@ ghost use Rattle.frame_loop.specs.Outlook.{outlook_of, AreBracketed};
 
 use crate::laws::outlook_laws;
 use crate::listing::list_and_number;
+use crate::note::FrameNote;
 use crate::outlook::Outlook;
 use bintree_addr::Tri;
 use cull_marks::Planes;
@@ -50,6 +51,8 @@ pub struct Engine {
     /// The vertex number of each grid point, or 0.
     pub(crate) numbers: VertexTable,
     pub(crate) vertices: u32,
+    /// What a frame would tell, where nothing has changed since the last one.
+    pub(crate) still: Option<FrameNote>,
 }
 
 impl Model for Engine {
@@ -57,7 +60,9 @@ impl Model for Engine {
     ghost use Rattle.mesh_defs.specs.HeightField.{side_of};
     ghost use Rattle.mesh_defs.specs.MeshText.{vertices_of};
     ghost use Rattle.std.specs.Prelude.{true};
-    ghost use Rattle.frame_loop.specs.Engine.{EngineState, IsEngine, IsLeafList, AreAllExpired, engine_of};
+    ghost use Rattle.std.specs.Prelude.{Some};
+    ghost use Rattle.frame_loop.specs.declared.note.FrameNote.{FrameNote};
+    ghost use Rattle.frame_loop.specs.Engine.{EngineState, IsEngine, IsLeafList, AreAllExpired, IsStill, engine_of};
 
     ghost Value = { EngineState };
 
@@ -69,7 +74,8 @@ impl Model for Engine {
         × (length e.leaves.items ≡ min e.most (2 * 4 ^ e.outlook.grid.n))
         × (e.leaf_count ≤ length e.leaves.items)
         × (length e.numbers ≡ side_of e.outlook.grid.n * side_of e.outlook.grid.n)
-        × (e.vertices ≡ length (vertices_of e.outlook.grid.n (take e.leaf_count e.leaves.items))) };
+        × (e.vertices ≡ length (vertices_of e.outlook.grid.n (take e.leaf_count e.leaves.items)))
+        × ((note : FrameNote) → e.still ≡ Some note → IsStill (engine_of e.outlook e.budget e.most e.mesh e.odometer e.frames e.meter) note) };
 }
 
 impl Engine {
@@ -109,6 +115,7 @@ impl Engine {
             leaf_count,
             numbers,
             vertices,
+            still: None,
         })
     }
 
@@ -135,6 +142,10 @@ impl Engine {
         } }
     {
         outlook_laws();
+        if self.outlook.way_to(camera) == 0 {
+            return;
+        }
+        self.still = None;
         self.odometer += self.outlook.move_to(camera);
     }
 
@@ -159,6 +170,10 @@ impl Engine {
         requires few { budget ≤ self.old.most }
         ensures { self.new ≡ record self.old { state = with_budget budget self.old.state } }
     {
+        if budget == self.budget {
+            return;
+        }
+        self.still = None;
         self.budget = budget;
     }
 

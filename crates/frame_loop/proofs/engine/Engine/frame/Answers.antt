@@ -1,93 +1,69 @@
-use Rattle.std.proofs.lemmas.Grind.{common_steps}
-use Rattle.std.proofs.Common.{◌≡◌, ℕ, ◌*◌, ◌≤◌, All, length, take, drop, refl, sym, ◌∙◌, ap, subst, arith}
-use Rattle.mesh_defs.specs.Triangle.{level_of}
-use Rattle.mesh_defs.specs.declared.mark.Mark.TheVariants.{Inside, Cut, Outside}
-use Rattle.mesh_defs.specs.ClosedSet.{leaves_of, among}
-use Rattle.mesh_defs.specs.MeshText.{vertices_of}
-use Rattle.edge_laws.specs.Slots.{split_set}
-use Rattle.triangle_pool.specs.Slots.{PoolState}
+use Rattle.std.proofs.Common.{◌≡◌, ℕ, ◌<◌, ◌↔◌, IsNone, IfSome, All, Contains, sym, ◌∙◌, subst}
+use Rattle.std.proofs.lemmas.Option.{same_Some}
+use Rattle.mesh_defs.specs.GridSet.{IsGridSet}
+use Rattle.edge_laws.proofs.SlotLemmas.{split_list-closed}
+use Rattle.mesh_defs.specs.State.{priority_in}
 use Rattle.roam_mesh.specs.Mesh.{pool_members}
-use Rattle.frame_loop.specs.Marks.{marks_seen}
-use Rattle.frame_loop.proofs.PoolLemmas.{leaves_levels, members_leaves_at}
-use Rattle.frame_loop.proofs.ListingLemmas.{written, kept_listing}
+use Rattle.roam_mesh.specs.Chosen.{SparesChosen}
+use Rattle.frame_loop.specs.Engine.{EngineState, IsStill, engine_of, mesh_seen}
+use Rattle.frame_loop.specs.declared.note.FrameNote.{FrameNote}
+use Rattle.frame_loop.proofs.StillLemmas.{still_after, still_on, still_engine, spared}
 use Rattle.frame_loop.proofs.engine.Engine.frame.Goals as goal
 
-pub list_changed-leaf_count-requires-clause-same : goal.list_changed-leaf_count-requires-clause-same
-list_changed-leaf_count-requires-clause-same c none =
-    let is = c.self.invariant in
-    let n = c.self.inside.outlook.grid.n in
-    let same_n : c.advance_mesh-steps.new.mesh.pool.n ≡ n = c.advance_mesh-steps.ensures.n ∙ is.0.n in
-    let same = c.advance_mesh-steps.ensures.still none ∙ ap (λ k. leaves_of k (split_set c.self.inside.mesh.pool.pairs)) is.0.n in
-    rw (c.pool.ensures.pool, c.deref_mut.ensures.value)
-    (kept_listing n c.advance_mesh-steps.new.mesh.pool.n c.self.inside.mesh.pool.pairs c.advance_mesh-steps.new.mesh.pool.pairs
-    c.self.inside.leaves.items c.self.inside.numbers c.self.inside.leaf_count c.self.inside.vertices
-    same_n same is.1.leaf_list is.4 is.1.vertex_numbers is.6)
+pub invariant_of-self : goal.invariant_of-self
+invariant_of-self c =
+    let e : EngineState = engine_of c.self.inside.outlook c.self.inside.budget c.self.inside.most c.self.inside.mesh c.self.inside.odometer c.self.inside.frames c.self.inside.meter in (
+      still_engine e c.self.invariant.0 (subst (λ (z : EngineState). z.frames < 1000000) (sym c.self.view_is) c.requires.some),
+      record { leaf_list = c.self.invariant.1.leaf_list; vertex_numbers = c.self.invariant.1.vertex_numbers },
+      c.self.invariant.2,
+      c.self.invariant.3,
+      c.self.invariant.4,
+      c.self.invariant.5,
+      c.self.invariant.6,
+      λ note is. still_on e note (c.self.invariant.7 note is),
+    )
 
-pub count_marks-marks-requires-clause-levels : goal.count_marks-marks-requires-clause-levels
-count_marks-marks-requires-clause-levels c =
-    let call = c.list_changed-leaf_count in
-    let n : ℕ = c.self.inside.outlook.grid.n in
-    let same_n : c.pool.result.now.n ≡ n = ap (λ (p : PoolState). p.n) c.pool.ensures.pool ∙ c.advance_mesh-steps.ensures.n ∙ c.self.invariant.0.n in
-    let whole : c.deref.result.now ≡ call.new.leaves =
-    c.deref.ensures.value ∙ written c.self.inside.leaves.len call.new.leaves (drop (length call.new.leaves) c.self.inside.leaves.items) (call.ensures.leaves ∙ c.deref_mut.ensures.len) in
-    let listed = ap (take call.result.0) whole ∙ call.ensures.listing.leaf_list ∙ ap (λ k. leaves_of k (split_set c.pool.result.now.pairs)) same_n in
-    subst (All (λ a. level_of a ≤ 2 * n)) (sym listed) (leaves_levels n (split_set c.pool.result.now.pairs))
+pub returns-in-Some-clause-done : goal.returns-in-Some-clause-done
+returns-in-Some-clause-done c = rw (← c.self.view_is) (c.self.invariant.7 c.in-Some.note c.in-Some.is)
 
-pub returns-clause-done : goal.returns-clause-done
-returns-clause-done c =
-    let call = c.list_changed-leaf_count in
-    let pool : PoolState = c.advance_mesh-steps.new.mesh.pool in
-    let n : ℕ = c.self.inside.outlook.grid.n in
-    let same_n : pool.n ≡ n = c.advance_mesh-steps.ensures.n ∙ c.self.invariant.0.n in
-    let set : leaves_of c.pool.result.now.n (split_set c.pool.result.now.pairs) ≡ leaves_of n (among (pool_members pool)) =
-    ap (λ (p : PoolState). leaves_of p.n (split_set p.pairs)) c.pool.ensures.pool ∙ members_leaves_at pool n c.pool.ensures.valid same_n in
-    let whole : c.deref.result.now ≡ call.new.leaves =
-    c.deref.ensures.value ∙ written c.self.inside.leaves.len call.new.leaves (drop (length call.new.leaves) c.self.inside.leaves.items) (call.ensures.leaves ∙ c.deref_mut.ensures.len) in
-    let listed : take call.result.0 c.deref.result.now ≡ leaves_of n (among (pool_members pool)) = ap (take call.result.0) whole ∙ call.ensures.listing.leaf_list ∙ set in
-    let told_n : c.pool.result.now.n ≡ n = ap (λ (p : PoolState). p.n) c.pool.ensures.pool ∙ same_n in
-    rw (← c.self.view_is, c.note.ensures) (record {
-      state = refl;
-      most = refl;
-      odometer = refl;
-      frames = refl;
-      counters = c.advance_mesh-steps.ensures.counters;
-      run = c.advance_mesh-steps.ensures.run;
-      frame = c.advance_mesh-steps.ensures.frame;
-      sparing = c.advance_mesh-steps.ensures.sparing;
-      most_asked = c.advance_mesh-steps.ensures.most;
-      least_asked = c.advance_mesh-steps.ensures.least;
-      stamps = c.advance_mesh-steps.ensures.stamps;
-      triangles = call.ensures.listing.leaf_total ∙ ap length set;
-      vertices = call.ensures.listing.vertex_total ∙ ap (λ k. length (vertices_of k (leaves_of c.pool.result.now.n (split_set c.pool.result.now.pairs)))) told_n
-          ∙ ap (λ xs. length (vertices_of n xs)) set;
-      inside = c.count_marks-marks.ensures.inside ∙ ap (marks_seen c.self.inside.outlook Inside) listed;
-      cut = c.count_marks-marks.ensures.cut ∙ ap (marks_seen c.self.inside.outlook Cut) listed;
-      outside = c.count_marks-marks.ensures.outside ∙ ap (marks_seen c.self.inside.outlook Outside) listed;
-    })
+pub returns-in-Some-clause-best : goal.returns-in-Some-clause-best
+returns-in-Some-clause-best c = c.frame_laws.ensures.best _ _ _ _ _ _ (c.self.invariant.7 c.in-Some.note c.in-Some.is).frame (c.outlook_laws.ensures.falls c.self.inside.outlook) c.self.invariant.0.budget_low
 
-pub returns-clause-best : goal.returns-clause-best
-returns-clause-best c = c.advance_mesh-steps.ensures.best
+pub returns-in-Some-clause-unblocked : goal.returns-in-Some-clause-unblocked
+returns-in-Some-clause-unblocked c = c.frame_laws.ensures.unblocked _ _ _ _ _ _ (c.self.invariant.7 c.in-Some.note c.in-Some.is).frame (c.outlook_laws.ensures.falls c.self.inside.outlook) c.self.invariant.0.budget_low
+
+pub returns-in-Some-clause-certificate : goal.returns-in-Some-clause-certificate
+returns-in-Some-clause-certificate c = c.frame_laws.ensures.certificate _ _ _ _ _ _ (c.self.invariant.7 c.in-Some.note c.in-Some.is).frame (c.outlook_laws.ensures.falls c.self.inside.outlook) c.self.invariant.0.budget_low
+
+pub returns-in-Some-clause-spares : goal.returns-in-Some-clause-spares
+returns-in-Some-clause-spares c = rw (← c.self.view_is)
+    (spared _ _ _ _ _ (subst (λ k. IsGridSet k (pool_members c.self.inside.mesh.pool)) c.self.invariant.0.n (split_list-closed c.self.inside.mesh.pool.n c.self.inside.mesh.pool.pairs c.pool-pool.ensures.valid)) (c.outlook_laws.ensures.falls c.self.inside.outlook))
+
+pub invariant_of-self-2 : goal.invariant_of-self-2
+invariant_of-self-2 c = (
+  c.self-2.invariant.0,
+  c.self-2.invariant.1,
+  c.self-2.invariant.2,
+  c.self-2.invariant.3,
+  c.self-2.invariant.4,
+  c.self-2.invariant.5,
+  c.self-2.invariant.6,
+  λ note is. subst (λ (k : FrameNote). IsStill (engine_of c.self-2.inside.outlook c.self-2.inside.budget c.self-2.inside.most c.self-2.inside.mesh c.self-2.inside.odometer c.self-2.inside.frames c.self-2.inside.meter) k)
+      (sym c.without_steps.ensures ∙ same_Some c.without_steps.result note is)
+      (subst (λ (z : EngineState). IsStill z (record c.frame_anew-told.result { splits = 0; merges = 0 })) (sym c.self-2.view_is)
+      (still_after c.args.self.now c.frame_anew-told.new.self c.frame_anew-told.result c.frame_anew-told.ensures.done)),
+)
 
 pub returns-clause-unblocked : goal.returns-clause-unblocked
-returns-clause-unblocked c = rw c.note.ensures c.advance_mesh-steps.ensures.unblocked
+returns-clause-unblocked c =
+    subst (λ (z : EngineState). IsNone c.frame_anew-told.result.blocked ↔ All (λ a. priority_in z.state a ≡ 0) (mesh_seen z)) (sym c.self-2.view_is) c.frame_anew-told.ensures.unblocked
 
 pub returns-clause-certificate : goal.returns-clause-certificate
-returns-clause-certificate c = rw c.note.ensures c.advance_mesh-steps.ensures.certificate
+returns-clause-certificate c =
+    subst (λ (z : EngineState). IfSome c.frame_anew-told.result.blocked (λ b. (z.state.budget < b.need)
+    × (priority_in z.state b.tri ≡ c.frame_anew-told.result.worst) × Contains (mesh_seen z) b.tri)) (sym c.self-2.view_is) c.frame_anew-told.ensures.certificate
 
 pub returns-clause-spares : goal.returns-clause-spares
-returns-clause-spares c = rw (← c.self.view_is) c.advance_mesh-steps.ensures.spares
-
-pub returns-clause-kept : goal.returns-clause-kept
-returns-clause-kept c = c.advance_mesh-steps.ensures.kept
-
-pub returns-clause-only : goal.returns-clause-only
-returns-clause-only c = c.advance_mesh-steps.ensures.only
-
-pub slice_bounds-count_marks-end : goal.slice_bounds-count_marks-end
-slice_bounds-count_marks-end c = grind (arith, common_steps)
-
-pub count_marks-marks-requires-clause-short : goal.count_marks-marks-requires-clause-short
-count_marks-marks-requires-clause-short c = grind (arith, common_steps)
-
-pub invariant_of-self : goal.invariant_of-self
-invariant_of-self c = grind (arith, common_steps)
+returns-clause-spares c =
+    subst (λ (z : EngineState). SparesChosen z.state.grid.n z.state.budget (priority_in z.state) (pool_members c.args.self.now.mesh.pool) (pool_members z.mesh.pool))
+    (sym c.self-2.view_is) c.frame_anew-told.ensures.spares

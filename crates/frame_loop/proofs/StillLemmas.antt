@@ -1,0 +1,96 @@
+-- That a frame after which nothing changed is followed by one that does nothing.
+use Rattle.std.proofs.Common.{◌≡◌, ℕ, ◌+◌, ◌*◌, ◌<◌, ◌≤◌, ◌^◌, false, inl, List, [], ◌∷◌, refl, sym, subst, arith}
+use Rattle.mesh_defs.specs.ClosedSet.{among}
+use Rattle.mesh_defs.specs.GridSet.{IsGridSet}
+use Rattle.mesh_defs.specs.Falling.{IsFalling}
+use Rattle.mesh_defs.proofs.ListLemmas.{among-in}
+use Rattle.frame_steps.specs.Steps.{begin}
+use Rattle.frame_steps.proofs.RunLemmas.{run_set}
+use Rattle.frame_steps.proofs.FrameLemmas.{merge_spares}
+use Rattle.frame_steps.specs.Deferred.{IsEntry}
+use Rattle.frame_steps.specs.Stamps.{is_due}
+use Rattle.deferred_loop.specs.Seen.{SeenMesh}
+use Rattle.deferred_loop.specs.Promise.{IsAtLeast}
+use Rattle.roam_mesh.specs.Mesh.{stamp_of, seen_of}
+use Rattle.roam_mesh.specs.Chosen.{SparesChosen}
+use Rattle.frame_loop.specs.Engine.{EngineState, IsEngine, IsFrameDone, IsStill}
+use Rattle.frame_loop.specs.declared.note.FrameNote.{FrameNote}
+
+-- where the mesh stays, no stamp is another
+same_asked : (s : SeenMesh) (count : ℕ) → IsAtLeast s s count count
+same_asked s count [] distinct each = omega arith
+same_asked s count (a ∷ rest) distinct each = absurd ((each a (among-in a (a ∷ rest) (inl refl))).1 refl)
+
+-- The mesh of a frame is that of the state: so a frame from there has no step and asks nothing.
+pub still_after : (before after : EngineState) (note : FrameNote) → IsFrameDone before after note →
+    IsStill after (record note { splits = 0; merges = 0 })
+still_after before after note done = record {
+  state = refl;
+  most = refl;
+  odometer = refl;
+  frames = refl;
+  counters = record { most = refl; splits_rose = omega arith; merges_rose = omega arith };
+  run = record { run = begin; finished = rw (done.state) done.run.finished };
+  frame = rw (done.state) done.frame;
+  sparing = record { size = refl; no_merge = λ sub. refl; no_split = λ sub. refl; bound = λ ranking chosen loose ranked closure are. omega arith };
+  most_asked = λ ranking chosen best all_open ranked closure each. omega arith;
+  least_asked = same_asked (seen_of after.mesh) after.evaluations;
+  stamps = λ a entry. (subst (λ (k : ℕ). is_due k (stamp_of after.mesh a) ≡ false) (sym done.odometer) (done.stamps a entry).0, inl refl);
+  triangles = rw (done.state) done.triangles;
+  vertices = rw (done.state) done.vertices;
+  inside = rw (done.state) done.inside;
+  cut = rw (done.state) done.cut;
+  outside = rw (done.state) done.outside;
+}
+
+-- and so has the one after that
+pub still_on : (e : EngineState) (note : FrameNote) → IsStill e note → IsStill (record e { frames = e.frames + 1 }) note
+still_on e note is = record {
+  state = refl;
+  most = refl;
+  odometer = refl;
+  frames = refl;
+  counters = is.counters;
+  run = is.run;
+  frame = is.frame;
+  sparing = is.sparing;
+  most_asked = is.most_asked;
+  least_asked = is.least_asked;
+  stamps = is.stamps;
+  triangles = is.triangles;
+  vertices = is.vertices;
+  inside = is.inside;
+  cut = is.cut;
+  outside = is.outside;
+}
+
+-- an engine after a frame that does nothing
+pub still_engine : (e : EngineState) → IsEngine e → e.frames < 1000000 → IsEngine (record e { frames = e.frames + 1 })
+still_engine e is more =
+    let evaluations = is.evaluation_count in
+    let splits = is.split_count in
+    let merges = is.merge_count in
+    record {
+      n_low = is.n_low;
+      n_high = is.n_high;
+      n = is.n;
+      most_low = is.most_low;
+      most_high = is.most_high;
+      pool_most = is.pool_most;
+      budget_low = is.budget_low;
+      budget_high = is.budget_high;
+      spacing_low = is.spacing_low;
+      spacing_high = is.spacing_high;
+      far = is.far;
+      frame_count = omega (arith, more);
+      evaluation_count = omega (arith, evaluations);
+      split_count = omega (arith, splits);
+      merge_count = omega (arith, merges);
+      kept = is.kept;
+      only = is.only;
+    }
+
+-- a frame comes through closed sets, and from such a set no merge is of a diamond that holds a chosen triangle
+pub spared : (n budget : ℕ) (priority : ℕ → ℕ) (start last : List ℕ) → IsGridSet n start → IsFalling n priority → SparesChosen n budget priority start last
+spared n budget priority start last set falls ranking chosen ranked closure before after added removed reached =
+    merge_spares n budget priority ranking chosen (among last) before after ranked falls closure (run_set n budget priority start before added removed set reached)
