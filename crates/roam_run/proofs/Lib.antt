@@ -1,3 +1,4 @@
+pub mod CameraLemmas
 pub mod EngineLemmas
 pub mod ShowingLemmas
 pub mod FrameLemmas

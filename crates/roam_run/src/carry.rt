@@ -21,11 +21,21 @@ pub(crate) fn carry_out(engine: &mut Engine, line: Line)
 {
     match line {
         Line::Blank | Line::Frame => {}
-        Line::Camera { x, y, z } => engine.camera(Camera::new(x, y, z).unwrap()),
+        Line::Camera { x, y, z } => move_camera(engine, x, y, z),
         Line::Set { x, y, h } => engine.set_height(x, y, h),
         Line::Plane { a, b, c, d } => engine.add_plane(Plane::new(a, b, c, d).unwrap()),
         Line::NoPlanes => engine.clear_planes(),
         Line::Budget { n } => engine.budget(n),
         Line::Raise { x0, y0, x1, y1, dz } => engine.raise(x0, y0, x1, y1, dz),
     }
+}
+
+/// Puts an engine's camera to a place that a camera can have.
+fn move_camera(engine: &mut Engine, x: i64, y: i64, z: i64)
+    requires valid { IsCamera (record { x = x; y = y; z = z }) }
+    requires near { IsCamera engine.old.state.view.camera }
+    requires far { engine.old.odometer ≤ 2 ^ 61 }
+    ensures { IsCarriedOut engine.old engine.new (Line.Camera x y z) }
+{
+    engine.camera(Camera::new(x, y, z).unwrap());
 }
