@@ -57,6 +57,13 @@ impl Run {
         }
     }
 
+    /// How the run ended; what it leaves beside is dropped.
+    pub fn into_status(self) -> Status
+        ensures { result ≡ self.status }
+    {
+        self.status
+    }
+
     /// A run of a script, whose frames this engine made.
     fn of_script(status: Status, engine: Engine) -> Run
         ensures status { result.status ≡ status }
