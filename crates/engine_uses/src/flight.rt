@@ -28,7 +28,7 @@ pub fn fly(alloc: Global, grid: Grid, budget: u32, path: &[Camera]) -> Result<Ve
 }
 
 /// Moves the camera to a place, by at most 2^33, as `way_to` says, and makes a frame.
-fn frame_from(engine: &mut Engine, place: Camera) -> Sight
+pub(crate) fn frame_from(engine: &mut Engine, place: Camera) -> Sight
     requires near { engine.old.odometer + 2 ^ 33 ≤ 2 ^ 62 }
     requires some { engine.old.frames < 1000000 }
     ensures best { IsBestSeen (with_camera place engine.old.state) (mesh_seen engine.new) result }

@@ -1,4 +1,4 @@
-//! Two callers of the engine: a flight over terrain, and an edit under a camera that stands still.
+//! Three callers of the engine: a flight over terrain, one without an end, and an edit under a camera that stands still.
 //!
 //! They show how `frame_loop` is used, and what its public clauses give to a caller: each frame's mesh has no cracks, keeps to the
 //! budget, and none that does is better. Nothing here is called by the program.
@@ -6,9 +6,11 @@
 #![tactic(auto)]
 
 mod edit;
+mod endless;
 mod flight;
 mod step;
 
 pub use edit::set_and_look;
+pub use endless::go_on;
 pub use flight::fly;
 pub use step::Sight;

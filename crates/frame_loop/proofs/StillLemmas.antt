@@ -1,5 +1,5 @@
 -- That a frame after which nothing changed is followed by one that does nothing.
-use Rattle.std.proofs.Common.{◌≡◌, ℕ, ◌+◌, ◌*◌, ◌<◌, ◌≤◌, ◌^◌, false, inl, List, [], ◌∷◌, refl, sym, subst, arith}
+use Rattle.std.proofs.Common.{◌≡◌, ℕ, ◌+◌, ◌<◌, false, inl, List, [], ◌∷◌, refl, sym, subst, arith}
 use Rattle.mesh_defs.specs.ClosedSet.{among}
 use Rattle.mesh_defs.specs.GridSet.{IsGridSet}
 use Rattle.mesh_defs.specs.Falling.{IsFalling}
@@ -7,7 +7,6 @@ use Rattle.mesh_defs.proofs.ListLemmas.{among-in}
 use Rattle.frame_steps.specs.Steps.{begin}
 use Rattle.frame_steps.proofs.RunLemmas.{run_set}
 use Rattle.frame_steps.proofs.FrameLemmas.{merge_spares}
-use Rattle.frame_steps.specs.Deferred.{IsEntry}
 use Rattle.frame_steps.specs.Stamps.{is_due}
 use Rattle.deferred_loop.specs.Seen.{SeenMesh}
 use Rattle.deferred_loop.specs.Promise.{IsAtLeast}

@@ -11,7 +11,7 @@ use Rattle.edge_laws.proofs.SlotLemmas.{pair_of, set-has_children}
 use Rattle.frame_steps.specs.Deferred.{IsEntry}
 use Rattle.frame_steps.specs.Stamps.{Stamp, Readings, StampsHold}
 use Rattle.deferred_loop.specs.Seen.{IsQuiet}
-use Rattle.roam_mesh.specs.Mesh.{slot_of, stamp_of, pool_members, with_expired, OnlyEntriesStamped, seen_of}
+use Rattle.roam_mesh.specs.Mesh.{slot_of, stamp_of, pool_members, with_expired, uncounted, OnlyEntriesStamped, seen_of}
 use Rattle.roam_mesh.specs.Parts.{PartsState, entry_at, entry_of, blank, best_of, worst_of, better_of, deadline_of, stamp_in, seen_parts, mesh_of, is_leaf_at, is_chief_at, is_entry_at, is_out, IsParts, IsWhole}
 use Rattle.roam_mesh.specs.Change.{expired_at}
 use Rattle.roam_mesh.specs.declared.entry.Entry.{Entry}
@@ -182,6 +182,21 @@ dead_stamps parts t is dead a =
     let nothing : stamp_of (mesh_of parts) a ≡ None = stamp_of-parts parts a ∙ unstamped (entry_at parts s) none in
     nothing ∙ sym (ap (option_map with_expired) nothing))
     (λ apart. refl)
+
+-- what is counted has no part in where all stands
+pub uncounted_parts : (parts : PartsState) → IsParts parts → IsParts (record parts { pool = uncounted parts.pool })
+uncounted_parts parts is = record {
+  pool = is.pool;
+  near = is.near;
+  placed = record {
+    split = is.placed.split;
+    merge = is.placed.merge;
+    due = is.placed.due;
+    stamped = is.placed.stamped;
+    known = is.placed.known;
+  };
+  entries = is.entries;
+}
 
 -- ---- a mesh between frames, as the loop sees it
 

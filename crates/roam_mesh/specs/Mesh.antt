@@ -1,6 +1,7 @@
 -- What a contract sees of a mesh: its pool, and a finite map of stamps.
 -- Source: Duchaineau et al., "ROAMing Terrain", IEEE Visualization 1997, the part on deferred priority lists.
--- Words: MeshState, slot_of, stamp_of, pool_members, pool_set, seen_of, with_expired, OnlyEntriesStamped.
+-- Words: MeshState, slot_of, stamp_of, pool_members, pool_set, seen_of, with_expired, uncounted,
+-- OnlyEntriesStamped.
 use Rattle.std.specs.Prelude.{◌≡◌, ℕ, ◌+◌, ◌*◌, ◌/◌, ◌%◌, true, false, nat_eq, List, [], Option, None, Some, slice_index_or}
 use Rattle.std.specs.List.{position_or_len}
 use Rattle.mesh_defs.specs.ClosedSet.{among}
@@ -39,6 +40,10 @@ seen_of mesh = record { set = pool_set mesh.pool; known = λ a. false; exact = �
 -- the stamp, expired
 abbrev pub with_expired : Stamp → Stamp
 with_expired stamp = record stamp { expired = true }
+
+-- the pool, with its splits and merges counted from 0 on again
+abbrev pub uncounted : PoolState → PoolState
+uncounted pool = record pool { splits = 0; merges = 0 }
 
 -- only entries have a stamp
 abbrev pub OnlyEntriesStamped : MeshState → Type 0

@@ -4,7 +4,7 @@ ghost use Rattle.std.specs.Prelude.{◌≡◌, ℕ, ◌+◌, ◌-◌, ◌*◌, �
 ghost use Rattle.mesh_defs.specs.ClosedSet.{leaves_of, among};
 ghost use Rattle.mesh_defs.specs.Falling.{IsFalling};
 ghost use Rattle.mesh_defs.specs.declared.level.TheConstants.{GREATEST_LEVEL};
-ghost use Rattle.edge_laws.specs.Slots.{split_set, IsPool};
+ghost use Rattle.edge_laws.specs.Slots.{address_at, split_set, IsLive, IsPool};
 ghost use Rattle.triangle_pool.specs.declared.pool.TheConstants.{MOST_LEAVES};
 ghost use Rattle.closure_laws.specs.Frame.{IsFrame};
 ghost use Rattle.frame_steps.specs.Steps.{IsFrameRun};
@@ -12,11 +12,11 @@ ghost use Rattle.frame_steps.specs.Stamps.{StampsHold, ReadingsHold};
 ghost use Rattle.deferred_loop.specs.Seen.{HasRoom, IsCountedBy};
 ghost use Rattle.deferred_loop.specs.Choice.{IsSparing};
 ghost use Rattle.deferred_loop.specs.Promise.{IsAtMost, IsAtLeast, AreStampsGood};
-ghost use Rattle.roam_mesh.specs.Mesh.{stamp_of, pool_members, pool_set, seen_of, with_expired, OnlyEntriesStamped};
+ghost use Rattle.roam_mesh.specs.Mesh.{stamp_of, pool_members, pool_set, seen_of, with_expired, uncounted, OnlyEntriesStamped};
 ghost use Rattle.roam_mesh.specs.Chosen.{SparesChosen};
 
 use crate::queued::QueuedParts;
-use bintree_addr::Tri;
+use bintree_addr::{Slot, Tri};
 use closure_laws::frame_laws;
 use deferred_loop::{Gauge, Steps, advance};
 use roam_edge::NoMemory;
@@ -77,6 +77,25 @@ impl Mesh {
             ≡ cond (nat_eq t a) (option_map with_expired (stamp_of self.old a)) (stamp_of self.old a) }
     {
         self.queued.expire(t);
+    }
+
+    /// The stamp of the triangle at a slot, if there is one, is expired from now on.
+    ///
+    /// Cost (not proved): that of `Lazy::expire`; `expire` looks for the slot first.
+    pub fn expire_at(&mut self, s: Slot)
+        requires live { IsLive self.old.pool.pairs s.0 }
+        ensures pool { self.new.pool ≡ self.old.pool }
+        ensures stamps { (a : ℕ) → stamp_of self.new a ≡ cond (nat_eq (address_at self.old.pool.pairs s.0) a)
+            (option_map with_expired (stamp_of self.old a)) (stamp_of self.old a) }
+    {
+        self.queued.expire_at(s);
+    }
+
+    /// Counts splits and merges from 0 on again. The triangles and their stamps stay.
+    pub fn restart_counts(&mut self)
+        ensures { self.new ≡ record self.old { pool = uncounted self.old.pool } }
+    {
+        self.queued.restart_counts();
     }
 
     /// Makes the mesh of one frame from that of the frame before.

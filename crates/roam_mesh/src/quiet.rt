@@ -2,16 +2,16 @@
 
 ghost use Rattle.std.specs.Prelude.{◌≡◌, ℕ, ◌≤◌, false, None, cond, nat_eq, option_map, slice_index, IfOk};
 ghost use Rattle.mesh_defs.specs.declared.level.TheConstants.{GREATEST_LEVEL};
-ghost use Rattle.edge_laws.specs.Slots.{split_set, IsPool};
+ghost use Rattle.edge_laws.specs.Slots.{address_at, split_set, IsLive, IsPool};
 ghost use Rattle.triangle_pool.specs.declared.pool.TheConstants.{MOST_LEAVES};
 ghost use Rattle.deferred_loop.specs.Seen.{IsQuiet};
-ghost use Rattle.roam_mesh.specs.Mesh.{stamp_of, with_expired, OnlyEntriesStamped};
+ghost use Rattle.roam_mesh.specs.Mesh.{stamp_of, with_expired, uncounted, OnlyEntriesStamped};
 ghost use Rattle.roam_mesh.specs.Parts.{mesh_of, seen_parts};
 
 use crate::find::find;
 use crate::parts::Parts;
 use crate::queued::QueuedParts;
-use bintree_addr::Tri;
+use bintree_addr::{Slot, Tri};
 use roam_edge::NoMemory;
 use std::alloc::Global;
 use triangle_pool::Pool;
@@ -55,5 +55,25 @@ impl QueuedParts {
         if let Some(s) = find(&self.parts.pool, t) {
             self.parts.expire(s);
         }
+    }
+
+    /// The same of the triangle at a slot.
+    pub fn expire_at(&mut self, s: Slot)
+        requires live { IsLive self.old.pool.pairs s.0 }
+        ensures pool { self.new.pool ≡ self.old.pool }
+        ensures stamps { (a : ℕ) → stamp_of (mesh_of self.new) a
+            ≡ cond (nat_eq (address_at self.old.pool.pairs s.0) a)
+            (option_map with_expired (stamp_of (mesh_of self.old) a)) (stamp_of (mesh_of self.old) a) }
+        ensures quiet { IsQuiet (seen_parts self.old) → IsQuiet (seen_parts self.new) }
+    {
+        let _n = self.parts.pool.n();
+        self.parts.expire(s);
+    }
+
+    /// Counts splits and merges from 0 on again.
+    pub fn restart_counts(&mut self)
+        ensures { self.new ≡ record self.old { pool = uncounted self.old.pool } }
+    {
+        self.parts.pool.restart_counts();
     }
 }

@@ -1,4 +1,4 @@
-use Rattle.std.proofs.Common.{◌≡◌, ℕ, ◌<◌, ◌↔◌, IsNone, IfSome, All, Contains, sym, ◌∙◌, subst}
+use Rattle.std.proofs.Common.{◌≡◌, ◌<◌, ◌↔◌, IsNone, IfSome, All, Contains, sym, ◌∙◌, subst}
 use Rattle.std.proofs.lemmas.Option.{same_Some}
 use Rattle.mesh_defs.specs.GridSet.{IsGridSet}
 use Rattle.edge_laws.proofs.SlotLemmas.{split_list-closed}
