@@ -59,6 +59,16 @@ impl Planes {
         self.list.clear();
     }
 
+    /// Puts the planes of another set in force in the place of these.
+    pub fn put(&mut self, other: &Planes)
+        ensures { self.new ≡ other.now }
+    {
+        self.list.clear();
+        for plane in other.list.iter() {
+            self.list.push(*plane);
+        }
+    }
+
     /// How the cuboid lies to the planes.
     ///
     /// Two corners decide a plane; the plain form, in the tests of `grid_tests`, looks at all eight.

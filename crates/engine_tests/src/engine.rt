@@ -23,7 +23,7 @@ enum Step {
     Frame(Told),
     /// A frame splits and merges nothing, and so many triangles are inside, cut and outside.
     Still(u32, u32, u32),
-    /// A frame looks again at what blocks and at nothing else: by a reading and a rank.
+    /// A frame before which nothing changed evaluates nothing.
     Cheap,
     /// A view has so many planes and leaves.
     View(u32, usize),
@@ -144,7 +144,7 @@ fn goes(engine: &mut Engine, step: Step) -> bool {
 }
 
 /// Whether the mesh of the engine is that from scratch, seen from this place.
-fn is_from_scratch(alloc: Global, engine: &Engine, place: (i64, i64, i64)) -> Option<bool> {
+pub fn is_from_scratch(alloc: Global, engine: &Engine, place: (i64, i64, i64)) -> Option<bool> {
     let view = engine.view();
     let camera = Camera::new(place.0, place.1, place.2)?;
     let wedges = Wedges::build(alloc, copy_of(alloc, view.wedges.grid())?).ok()?;

@@ -18,3 +18,5 @@ mod grids;
 mod limits;
 #[cfg(test)]
 mod mesh_frames;
+#[cfg(test)]
+mod random_flights;
