@@ -3,8 +3,10 @@
 ghost use Rattle.std.specs.Prelude.{◌≡◌, ℕ, ◌+◌, ◌*◌, ◌^◌, ◌<◌, ◌≤◌, length, take};
 ghost use Rattle.std.specs.BinaryHeap.{heap_capacity};
 ghost use Rattle.mesh_defs.specs.HeightField.{side_of};
+ghost use Rattle.mesh_defs.specs.ClosedSet.{leaves_of};
 ghost use Rattle.mesh_defs.specs.MeshText.{vertices_of};
 ghost use Rattle.mesh_defs.specs.Tiling.{IsConforming};
+ghost use Rattle.tiling_laws.specs.Ancestors.{ancestors_of};
 ghost use Rattle.deviation_laws.specs.PlaneHeight.{deviation_of};
 ghost use Rattle.least_laws.specs.Least.{IsLeastMesh};
 ghost use Rattle.least_laws.specs.Sweep.{is_flagged};
@@ -79,6 +81,7 @@ pub fn find_mesh(
         result.deviation ≤ tolerance → IsLeastMesh grid.now.n tolerance e (take result.triangles room.new) }
     ensures best { let e = error_of grid.now.n grid.now.heights in
         tolerance < result.deviation → IsBudgetMesh grid.now.n budget e (take result.triangles room.new) }
+    ensures order { leaves_of grid.now.n (ancestors_of (take result.triangles room.new)) ≡ take result.triangles room.new }
     ensures deviation { result.deviation
         ≡ deviation_of grid.now.n grid.now.heights (take result.triangles room.new) }
     ensures triangles { result.triangles ≡ length (take result.triangles room.new) }

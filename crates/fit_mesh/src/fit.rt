@@ -2,8 +2,10 @@
 
 ghost use Rattle.std.specs.Prelude.{◌≡◌, ◌+◌, ◌*◌, ◌^◌, ◌<◌, ◌≤◌, ◌∷◌, [], IfOk, length};
 ghost use Rattle.mesh_defs.specs.Tiling.{IsConforming};
+ghost use Rattle.mesh_defs.specs.ClosedSet.{leaves_of};
 ghost use Rattle.mesh_defs.specs.MeshText.{vertices_of};
 ghost use Rattle.mesh_defs.specs.declared.level.TheConstants.{GREATEST_LEVEL};
+ghost use Rattle.tiling_laws.specs.Ancestors.{ancestors_of};
 ghost use Rattle.deviation_laws.specs.PlaneHeight.{deviation_of};
 ghost use Rattle.least_laws.specs.Least.{IsLeastMesh};
 ghost use Rattle.obj_write.specs.Numbers.{numbers_of};
@@ -121,6 +123,9 @@ impl Fit {
         ensures best { let e = error_of grid.now.n grid.now.heights in
             tolerance < result.deviation →
             IsBudgetMesh grid.now.n self.old.budget e self.new.leaves }
+
+        // Depth first: the list is that of the leaves of what was split.
+        ensures order { leaves_of grid.now.n (ancestors_of self.new.leaves) ≡ self.new.leaves }
         ensures deviation { result.deviation
             ≡ deviation_of grid.now.n grid.now.heights self.new.leaves }
         ensures triangles { result.triangles ≡ length self.new.leaves }

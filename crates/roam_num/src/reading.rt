@@ -58,7 +58,7 @@ fn number_without_sign(digits: &[u8]) -> Option<i64>
 }
 
 /// The number that 1 to `longest` digits are.
-fn number_of_digits(bytes: &[u8], longest: usize) -> Option<u64>
+pub(crate) fn number_of_digits(bytes: &[u8], longest: usize) -> Option<u64>
     requires { longest ≤ 19 }
     ensures same { result ≡ number_in longest bytes.now }
     ensures bound { IfSome result (λ n. n < 10 ^ longest) }

@@ -7,13 +7,13 @@ ghost use Rattle.roam_edge.specs.MeshSink.{Mesh};
 ghost use Rattle.roam_edge.specs.Shelf.{NamedFile, bytes_of};
 ghost use Rattle.run_laws.specs.Act.{ReportText, told};
 ghost use Rattle.run_laws.specs.Cause.{StatusHasCause};
-ghost use Rattle.run_laws.specs.Words.{Scripted, OnGrid, Generated, Frames, is_of_engine, command_of, file_count, Checking};
+ghost use Rattle.run_laws.specs.Words.{Scripted, Fitting, OnGrid, Generated, Frames, is_of_engine, command_of, file_count, Checking};
 ghost use Rattle.obj_write.specs.Written.{Grows};
 ghost use Rattle.run_laws.specs.CutShort.{is_by_frame, StandsInText, LeavesAtWriteFault};
 ghost use Rattle.run_laws.specs.Picture.{IsCertified};
 ghost use Rattle.run_laws.specs.Outcome.{Outcome, IsOutcome, HasOneOutcome};
 ghost use Rattle.run_laws.specs.Promise.{Seen, seen, AreFiles, EndsRight, HasEnded, OpensForStatus, CommandReadFault, LeavesAtReadFault, CommandNoMemory, LeavesAtNoMemory, IsAccepted, is_complete, ends_script, may_end, leaves_engine};
-ghost use Rattle.run_laws.specs.Headline.{IsScriptRunOf, IsRunOf, KeepsGoodMeshes, IsCheckOf, IsCertifiedMesh};
+ghost use Rattle.run_laws.specs.Headline.{IsScriptRunOf, IsRunOf, KeepsGoodMeshes, IsCheckOf, IsCertifiedMesh, IsFitRunOf, KeepsFitMesh};
 ghost use Rattle.roam_run.specs.EngineSeen.{engine_seen};
 ghost use Rattle.run_laws.specs.Leaving.{CommandEnds};
 ghost use Rattle.run_files.specs.WordView.{show_for, scripted_seen, command_seen, IsFrameCommand};
@@ -27,11 +27,12 @@ use crate::report::try_report;
 use frame_loop::Engine;
 use roam_edge::{MeshSink, Shelf, Sink};
 use run_check::run_check;
+use run_fit::run_fit;
 use run_files::{
     Command, FrameWords, GridStop, Making, Showing, command_in, end_with_text, grid_report,
     read_grid, run_info,
 };
-use run_laws::{Status, cut_short_laws, run_laws, state_laws};
+use run_laws::{Status, cut_short_laws, fitting_laws, run_laws, state_laws};
 use run_script::{run_least, run_script};
 use std::alloc::Global;
 
@@ -85,7 +86,8 @@ impl Run {
 /// `mesh` reads a grid and a script from the shelf, and writes a mesh for each frame line and a line of the
 /// report behind it; `strip` the same with the triangles in the order of their strip; `least` the same with the least mesh of a
 /// tolerance in place of the best one of a budget; `measure` a line alone, on how far the mesh is from the surface. `info` reads a grid and writes one line about it. `try` reads nothing: it makes a grid and
-/// a script from a level and a seed, and writes one line with the sums of their frames. Files are read and
+/// a script from a level and a seed, and writes one line with the sums of their frames. `fit` reads a grid, and writes the best mesh of
+/// it for an error or a budget, and one line about it. Files are read and
 /// meshes written in pieces, a mesh is finished before its line is written, and the first call that fails
 /// ends the run.
 /// Cost (not proved): a few steps a byte of the files; for each frame that of `Engine::frame`, which is what has changed since the
@@ -161,6 +163,14 @@ pub fn roam<F: Shelf, M: MeshSink, R: Sink>(
         result.status ≡ Status.Done → (line : List ℕ) × Grows (R.contents report.old) (R.contents report.new) line
         × IsCertifiedMesh c grid (bytes_of files c.mesh) line }
 
+    // The mesh of `fit`, if it is finished, has the fewest triangles for the error of the words, or the least error that a mesh of
+    // their budget can have, whatever the status.
+    ensures fitted { (files : List NamedFile) (all : List Mesh) (fitting : Fitting) (grid : HeightField) →
+        F.files shelf.old ≡ Some files → M.meshes meshes.old ≡ Some all →
+        IsFitRunOf (map string_bytes words.now) files fitting grid →
+        KeepsFitMesh fitting grid (told (M.meshes meshes.old) (R.contents report.old))
+        (told (M.meshes meshes.new) (R.contents report.new)) all result.status }
+
     // The engine that is left.
     ensures engine { IsSome result.engine ↔
         IsTrue (leaves_engine (command_of (map string_bytes words.now)) result.status) }
@@ -188,6 +198,7 @@ pub fn roam<F: Shelf, M: MeshSink, R: Sink>(
 {
     run_laws();
     cut_short_laws();
+    fitting_laws();
     match command_in(words) {
         None => Run {
             status: Status::Usage,
@@ -244,6 +255,7 @@ fn run_command<F: Shelf, M: MeshSink, R: Sink>(
         Command::Try { n, seed } => run_try(alloc, *n, *seed, report),
         Command::Make(words) => Run::without_engine(run_make(alloc, words, shelf, report)),
         Command::Check(words) => Run::without_engine(run_check(alloc, words, shelf, report)),
+        Command::Fit(words) => Run::without_engine(run_fit(alloc, words, shelf, meshes, report)),
     }
 }
 

@@ -9,6 +9,7 @@
 mod cert_file;
 mod certify_words;
 mod end;
+mod fit_words;
 mod grid_file;
 mod info;
 mod report;
@@ -19,6 +20,7 @@ mod words;
 pub use cert_file::{CertStop, read_cert};
 pub use certify_words::{CheckWords, MakeWords};
 pub use end::end_with_text;
+pub use fit_words::{FitWords, Target};
 pub use grid_file::{GridStop, PIECE, read_grid};
 pub use info::run_info;
 pub use report::{grid_report, line_report, push_placed};

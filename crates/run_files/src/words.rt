@@ -8,6 +8,7 @@ ghost use Rattle.run_files.specs.ShowView.{IsPrefixLength};
 ghost use Rattle.run_files.specs.WordView.{command_seen, show_for, IsMaking, IsAccepted};
 
 use crate::certify_words::{CheckWords, MakeWords, certify_in};
+use crate::fit_words::{FitWords, fit_in};
 use crate::showing::{Making, Showing};
 use mesh_defs::GREATEST_LEVEL;
 use roam_edge::LONGEST_PREFIX;
@@ -28,6 +29,8 @@ pub enum Command<'a> {
     Make(MakeWords<'a>),
     /// `certify check GRID OBJ CERT BUDGET SPACING`: whether a certificate is sound, and a mesh the one that it is of.
     Check(CheckWords<'a>),
+    /// `fit GRID PREFIX error E SPACING` and `fit GRID PREFIX budget BUDGET SPACING`: the best mesh for an error or a budget.
+    Fit(FitWords<'a>),
 }
 
 /// The words of a command that makes the frames of a script.
@@ -88,6 +91,13 @@ fn short_command_in(words: &[String]) -> Option<Command<'_>>
             small_number(budget.as_str(), LEAST_BUDGET, GREATEST_BUDGET),
             spacing.as_str(),
         ),
+        [word, grid, prefix, target, number, spacing] if word.as_str() == "fit" => fit_in(
+            grid.as_str(),
+            prefix.as_str(),
+            target.as_str(),
+            number.as_str(),
+            spacing.as_str(),
+        ),
         [word, grid, script, prefix, number, spacing] => meshes_in(
             word.as_str(),
             grid.as_str(),
@@ -101,7 +111,7 @@ fn short_command_in(words: &[String]) -> Option<Command<'_>>
 }
 
 /// Whether the names of meshes may begin so: it has at least 1 byte, and no more than a mesh sink takes.
-fn is_prefix(prefix: &str) -> bool
+pub(crate) fn is_prefix(prefix: &str) -> bool
     ensures value { result ≡ is_prefix_seen prefix.now }
     ensures accepted { result ≡ true → IsPrefixLength prefix.now }
 {

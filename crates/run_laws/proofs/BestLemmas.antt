@@ -29,7 +29,8 @@ use Rattle.run_laws.proofs.OutcomeLemmas.{command-budget, script-states}
 use Rattle.run_laws.proofs.CertifyLemmas.{Certifies, check-certifies}
 use Rattle.run_laws.proofs.HeadlineLemmas.{FramesAreBest, complete-keeps, first-keeps, cut-keeps, nothing-keeps}
 
-same-command : (xs ys : Command) → Some xs ≡ Some ys → xs ≡ ys
+-- an optional command that is there is one command
+pub same-command : (xs ys : Command) → Some xs ≡ Some ys → xs ≡ ys
 same-command xs ys e = cc
 
 same-grid : (answer : Result HeightField PgmFault) (g h : HeightField) → answer ≡ Ok g → answer ≡ Ok h → g ≡ h

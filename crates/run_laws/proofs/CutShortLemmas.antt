@@ -147,7 +147,7 @@ text_cut before now acts bytes [] next owed same part =
 text_cut before now acts bytes (d ∷ mine) next owed same part = absurd (not-empty mine next owed (tails _ _ _ _ same))
 
 -- a mesh and a text behind it were cut short behind some acts
-mesh_cut : (before now : Told) (acts : List Act) (prefix : List ℕ) (number : ℕ) (bytes line : List ℕ) (mine : List Act) (next : Act) (owed : List Act)
+pub mesh_cut : (before now : Told) (acts : List Act) (prefix : List ℕ) (number : ℕ) (bytes line : List ℕ) (mine : List Act) (next : Act) (owed : List Act)
     → WholeMesh prefix number bytes ∷ (ReportText line ∷ []) ≡ mine ++ next ∷ owed → StandsInPart before now (acts ++ mine) next
     → Stands before now acts ⊎ StandsInMesh before now acts prefix number bytes ⊎ StandsInText before now (acts ++ WholeMesh prefix number bytes ∷ []) line
 mesh_cut before now acts prefix number bytes line [] next owed same part =

@@ -7,12 +7,14 @@ pub mod PictureLemmas
 pub mod DifferenceLemmas
 pub mod CertifyLemmas
 pub mod CertFileLemmas
+pub mod FitLemmas
 pub mod OutcomeLemmas
 pub mod MadeLemmas
 pub mod HeadlineLemmas
 pub mod StepLemmas
 pub mod BestLemmas
 pub mod CutShortLemmas
+pub mod FitRunLemmas
 pub mod ShownLemmas
 pub mod FileLemmas
 pub mod GridLemmas

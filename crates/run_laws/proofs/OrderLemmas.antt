@@ -1,15 +1,17 @@
--- A mesh in the order of its strip has the same vertices, with the same numbers.
+-- A mesh in the order of its strip has the same vertices, with the same numbers; and which levels triangles of a mesh have.
 use Rattle.std.proofs.Common.{◌≡◌, ℕ, ◌*◌, ◌≤◌, Bool, cond, eqb, List, [], ◌∷◌, All, refl, ◌∙◌, ap, subst, arith, map}
 use Rattle.std.specs.List.{filter, list_any}
 use Rattle.std.proofs.lemmas.Bool.{eqb-true}
-use Rattle.std.proofs.lemmas.List.Elements.{All-contains}
+use Rattle.std.proofs.lemmas.List.Elements.{All-contains, All-weaker}
 use Rattle.mesh_defs.specs.declared.point.Point.{Point}
-use Rattle.mesh_defs.specs.Triangle.{level_of, corners_of}
+use Rattle.mesh_defs.specs.Triangle.{level_of, corners_of, IsAddress}
 use Rattle.mesh_defs.specs.BoundingBox.{points_of}
 use Rattle.mesh_defs.specs.ClosedSet.{leaves_of}
+use Rattle.mesh_defs.specs.Tiling.{IsConforming}
 use Rattle.mesh_defs.specs.MeshText.{has_corner, vertices_of}
 use Rattle.mesh_defs.proofs.ListLemmas.{IsIn, Contains-in, some-count, Any-in, list_any-in}
 use Rattle.mesh_defs.proofs.TestLemmas.{same_tests}
+use Rattle.bintree_laws.proofs.LevelLemmas.{level-le}
 use Rattle.closure_laws.proofs.SetListLemmas.{All-in}
 use Rattle.obj_write.specs.Numbers.{number_at, numbers_of}
 use Rattle.strip_laws.specs.Strip.{strip_of}
@@ -51,3 +53,9 @@ numbers-strip_of n has = ap (λ (vertices : List Point). map (number_at vertices
 pub levels-strip_of : (n : ℕ) (has : ℕ → Bool) → All (λ a. level_of a ≤ 2 * n) (leaves_of n has) → All (λ a. level_of a ≤ 2 * n) (strip_of n has)
 levels-strip_of n has levels = All-in (λ a. level_of a ≤ 2 * n) (strip_of n has)
     (λ a i. All-contains (λ b. level_of b ≤ 2 * n) (leaves_of n has) a levels (Contains-in a (leaves_of n has) (leaf-strip_of n a has i)))
+
+-- the triangles of a conforming list have levels of its grid
+pub conforming-levels : (n m : ℕ) (triangles : List ℕ) → n ≡ m → IsConforming n triangles → All (λ a. level_of a ≤ 2 * m) triangles
+conforming-levels n m triangles same is =
+    let P : ℕ → Type 0 = λ k. All (λ a. level_of a ≤ 2 * k) triangles in
+    subst P same (All-weaker (IsAddress n) (λ a. level_of a ≤ 2 * n) (level-le n) triangles is.addresses)

@@ -2,6 +2,7 @@
 use Rattle.std.proofs.Common.{◌≡◌, ℕ, ◌≤◌, ◌&&◌, Bool, true, false, nat_le, if◌then◌else◌, ◌⊎◌, IsTrue, is_some, List, [], ◌∷◌, All, Option, Some, None, IfSome, Result, Ok, Err, refl, sym, ◌∙◌, ap, subst, arith, inl, inr, codes, bytes_eq, length, ◌^◌, ℤ}
 use Rattle.std.specs.Prelude.{unsigned_abs}
 use Rattle.std.specs.List.{AllByRecursion}
+use Rattle.std.specs.Option.{option_map}
 use Rattle.std.proofs.lemmas.List.Elements.{All-from_recursion}
 use Rattle.std.proofs.lemmas.Bool.{leb-true}
 use Rattle.std.proofs.lemmas.Bool.Decides.{leb_tells}
@@ -19,7 +20,7 @@ use Rattle.cert_text.specs.Certificate.{Certificate}
 use Rattle.roam_gen.specs.Generated.{made_grid, made_lines}
 use Rattle.run_laws.specs.declared.status.Status.TheVariants.{Done, Usage, GridRefused}
 use Rattle.run_laws.specs.Walk.{Walk, start_walk}
-use Rattle.run_laws.specs.Words.{Show, AsMeshes, AsStrips, AsLeast, AsMeasures, AsSums, is_of_engine, Scripted, Making, Job, Frames, Facts, Make, Check, Command, OnGrid, Generated, greatest_level, greatest_seed, number_word, try_command, within, least_budget, greatest_budget, budget_word, spacing_word, tolerance_word, is_prefix, in_reach, coordinate_word, camera_word, frames_command, least_command, meshes_command, make_command, check_command, command_of}
+use Rattle.run_laws.specs.Words.{Show, AsMeshes, AsStrips, AsLeast, AsMeasures, AsSums, is_of_engine, Scripted, Making, Target, AtError, InBudget, Job, Frames, Facts, Make, Check, Fit, Command, OnGrid, Generated, greatest_level, greatest_seed, number_word, try_command, within, least_budget, greatest_budget, budget_word, spacing_word, tolerance_word, is_prefix, in_reach, coordinate_word, camera_word, frames_command, least_command, meshes_command, make_command, check_command, error_word, target_word, fit_command, fit_words, command_of}
 use Rattle.run_laws.specs.CertFile.{cert_in}
 use Rattle.run_laws.specs.Picture.{Picture, ArePictures, IsCertified}
 use Rattle.run_laws.specs.ReportText.{info_line, grid_refusal}
@@ -28,6 +29,7 @@ use Rattle.run_laws.specs.Promise.{IsAcceptedJob, IsAcceptedInput, IsAccepted}
 use Rattle.run_laws.specs.Laws.{FramesExist, RunsAreUnique, LevelsAreInRange, AreStates, BudgetsAreTwo}
 use Rattle.run_laws.proofs.PictureLemmas.{FramesAreUnique, SetsAreLists, ArePictures-unique, pictures_of, no-members}
 use Rattle.run_laws.proofs.CertifyLemmas.{IsOneText, make-text, check-text, check-unique, check-exists, check-done, CertificatesExist, make-exists}
+use Rattle.run_laws.proofs.FitLemmas.{TakesTwo, fit-unique, fit-exists}
 use Rattle.run_laws.proofs.WalkLemmas.{walk_of-states, made-states, along-stop}
 
 -- what is accepted ends with Done
@@ -42,6 +44,7 @@ job-done (Make m) grid files end good is = status-of end _ is.2
 job-done (Check c) grid files end good is =
     let P : Result Certificate ℕ → Type 0 = λ r. IsCheckOutcome c grid r (bytes_of files c.mesh) end in
     check-done c grid good.0 (bytes_of files c.mesh) end good.2 good.3 (subst P good.1 is)
+job-done (Fit f) grid files end good is = status-of end _ is.2
 
 command-done : TextsAreRead → (command : Command) (files : List NamedFile) (end : Outcome) → IsAcceptedInput command files → IsCommandOutcome command files end → end.status ≡ Done
 command-done read (OnGrid name job) files end good is =
@@ -73,10 +76,12 @@ job-unique one lists runs Facts (Ok grid) files end other free f g = f ∙ sym g
 job-unique one lists runs (Make m) (Ok grid) files end other free f g = absurd free
 job-unique one lists runs (Check c) (Ok grid) files end other free f g =
     check-unique c grid (cert_in grid.n (bytes_of files c.certificate)) (bytes_of files c.mesh) end other f g
+job-unique one lists runs (Fit job) (Ok grid) files end other free f g = fit-unique job grid end other f g
 job-unique one lists runs (Frames s) (Err fault) files end other free f g = f ∙ sym g
 job-unique one lists runs Facts (Err fault) files end other free f g = f ∙ sym g
 job-unique one lists runs (Make m) (Err fault) files end other free f g = f ∙ sym g
 job-unique one lists runs (Check c) (Err fault) files end other free f g = f ∙ sym g
+job-unique one lists runs (Fit job) (Err fault) files end other free f g = f ∙ sym g
 
 words-unique : FramesAreUnique → SetsAreLists → RunsAreUnique → (command : Option Command) (files : List NamedFile) (end other : Outcome)
     → HasOneOutcome command → IsWordsOutcome command files end → IsWordsOutcome command files other → end ≡ other
@@ -101,6 +106,7 @@ job-engine one lists runs Facts r files end other f g = engine-of end other (job
 job-engine one lists runs (Make m) (Ok grid) files end other f g = engine-of end _ f.2 ∙ sym (engine-of other _ g.2)
 job-engine one lists runs (Make m) (Err fault) files end other f g = engine-of end other (f ∙ sym g)
 job-engine one lists runs (Check c) r files end other f g = engine-of end other (job-unique one lists runs (Check c) r files end other tt f g)
+job-engine one lists runs (Fit job) r files end other f g = engine-of end other (job-unique one lists runs (Fit job) r files end other tt f g)
 
 words-engine : FramesAreUnique → SetsAreLists → RunsAreUnique → (command : Option Command) (files : List NamedFile) (end other : Outcome)
     → IsWordsOutcome command files end → IsWordsOutcome command files other → end.engine ≡ other.engine
@@ -171,6 +177,7 @@ HasBudget (Frames s) = 2 ≤ s.budget
 HasBudget Facts = Unit {0}
 HasBudget (Make m) = IsWithinReach m
 HasBudget (Check c) = Unit {0}
+HasBudget (Fit f) = TakesTwo f.target
 
 abbrev CommandHasBudget : Command → Type 0
 CommandHasBudget (OnGrid name job) = HasBudget job
@@ -265,6 +272,44 @@ check_command-budget i j k (Some budget) (Some spacing) command is =
     let P : Option Command → Type 0 = λ c. IfSome c CommandHasBudget in
     subst P is tt
 
+-- a target has room for two triangles
+
+error-two : (thousandths : Option ℕ) (target : Target) → option_map (λ k. AtError k) thousandths ≡ Some target → TakesTwo target
+error-two None target is = absurd (none-some target is)
+error-two (Some thousandths) target is =
+    let P : Option Target → Type 0 = λ o. IfSome o TakesTwo in
+    subst P is tt
+
+budget-two : (budget : Option ℕ) (target : Target) → ((number : ℕ) → budget ≡ Some number → 2 ≤ number) → option_map (λ k. InBudget k) budget ≡ Some target
+    → TakesTwo target
+budget-two None target low is = absurd (none-some target is)
+budget-two (Some budget) target low is =
+    let P : Option Target → Type 0 = λ o. IfSome o TakesTwo in
+    subst P is (low budget refl)
+
+target-two : (word number : List ℕ) (target : Target) → target_word word number ≡ Some target → TakesTwo target
+target-two word number target is =
+    let budgets : Option Target = option_map (λ k. InBudget k) (budget_word number) in
+    let behind : Option Target = if bytes_eq word (codes "budget") then budgets else None in
+    elim (either (bytes_eq word (codes "error")) (option_map (λ k. AtError k) (error_word number)) behind target is) [
+      | inl p ↦ error-two (error_word number) target p
+      | inr p ↦ budget-two (budget_word number) target (budget_word-low number) (met (bytes_eq word (codes "budget")) budgets target p)
+    ]
+
+fit_command-budget : (i j : List ℕ) (target : Option Target) (spacing : Option ℕ) (command : Command) → ((t : Target) → target ≡ Some t → TakesTwo t)
+    → fit_command i j target spacing ≡ Some command → CommandHasBudget command
+fit_command-budget i j None spacing command two is = absurd (none-some command is)
+fit_command-budget i j (Some target) None command two is = absurd (none-some command is)
+fit_command-budget i j (Some target) (Some spacing) command two is =
+    let P : Option Command → Type 0 = λ c. IfSome c CommandHasBudget in
+    subst P is (two target refl)
+
+fit_words-budget : (i j k l m : List ℕ) (command : Command) → fit_words i j k l m ≡ Some command → CommandHasBudget command
+fit_words-budget i j k l m command is =
+    let target : Option Target = target_word k l in
+    fit_command-budget i j target (spacing_word m) command (λ t found. target-two k l t found)
+    (met (is_prefix j) (fit_command i j target (spacing_word m)) command is)
+
 words-budget : (words : List (List ℕ)) (command : Command) → command_of words ≡ Some command → CommandHasBudget command
 words-budget [] command is = absurd (none-some command is)
 words-budget (word ∷ []) command is = absurd (none-some command is)
@@ -280,7 +325,12 @@ words-budget (word ∷ (i ∷ (j ∷ (k ∷ (l ∷ []))))) command is =
     frames_command-budget i j AsMeasures (budget_word k) (spacing_word l) command (budget_word-low k)
     (met (bytes_eq word (codes "measure")) (frames_command i j AsMeasures (budget_word k) (spacing_word l)) command is)
 words-budget (word ∷ (i ∷ (j ∷ (k ∷ (l ∷ (m ∷ [])))))) command is =
-    meshes_command-budget word i j k l m command (met (is_prefix k) (meshes_command word i j k l m) command is)
+    let meshes : Option Command = meshes_command word i j k l m in
+    let behind : Option Command = if is_prefix k then meshes else None in
+    elim (either (bytes_eq word (codes "fit")) (fit_words i j k l m) behind command is) [
+      | inl p ↦ fit_words-budget i j k l m command p
+      | inr p ↦ meshes_command-budget word i j k l m command (met (is_prefix k) meshes command p)
+    ]
 words-budget (word ∷ (i ∷ (j ∷ (k ∷ (l ∷ (m ∷ (o ∷ []))))))) command is =
     check_command-budget j k l (budget_word m) (spacing_word o) command
     (met (bytes_eq word (codes "certify") && bytes_eq i (codes "check")) (check_command j k l (budget_word m) (spacing_word o)) command is)
@@ -344,10 +394,12 @@ job-exists two frames made (Frames s) (Ok grid) files low range = script_outcome
 job-exists two frames made Facts (Ok grid) files low range = (text_outcome (info_line grid) Done 1, refl)
 job-exists two frames made (Make m) (Ok grid) files low range = make-exists made m grid (range grid refl) low.low
 job-exists two frames made (Check c) (Ok grid) files low range = check-exists c grid (cert_in grid.n (bytes_of files c.certificate)) (bytes_of files c.mesh)
+job-exists two frames made (Fit f) (Ok grid) files low range = fit-exists f grid low
 job-exists two frames made (Frames s) (Err fault) files low range = (text_outcome (grid_refusal fault) GridRefused 1, refl)
 job-exists two frames made Facts (Err fault) files low range = (text_outcome (grid_refusal fault) GridRefused 1, refl)
 job-exists two frames made (Make m) (Err fault) files low range = (text_outcome (grid_refusal fault) GridRefused 1, refl)
 job-exists two frames made (Check c) (Err fault) files low range = (text_outcome (grid_refusal fault) GridRefused 1, refl)
+job-exists two frames made (Fit f) (Err fault) files low range = (text_outcome (grid_refusal fault) GridRefused 1, refl)
 
 words-exist : BudgetsAreTwo → FramesExist → CertificatesExist → LevelsAreInRange → (command : Option Command) (files : List NamedFile)
     → ((c : Command) → command ≡ Some c → CommandHasBudget c) → (end : Outcome) × IsWordsOutcome command files end
@@ -397,10 +449,14 @@ job-certified two one Facts (Ok grid) files end low some is = text-certified end
 job-certified two one (Make m) (Ok grid) files end low some is = text-certified end (make-text m grid end is)
 job-certified two one (Check c) (Ok grid) files end low some is =
     text-certified end (check-text c grid (cert_in grid.n (bytes_of files c.certificate)) (bytes_of files c.mesh) end is)
+job-certified two one (Fit f) (Ok grid) files end low some is =
+    let P : Outcome → Type 0 = λ o. AllByRecursion IsCertified o.pictures in
+    subst P (sym is.2) tt
 job-certified two one (Frames s) (Err fault) files end low some is = text-certified end (refused-text fault end is)
 job-certified two one Facts (Err fault) files end low some is = text-certified end (refused-text fault end is)
 job-certified two one (Make m) (Err fault) files end low some is = text-certified end (refused-text fault end is)
 job-certified two one (Check c) (Err fault) files end low some is = text-certified end (refused-text fault end is)
+job-certified two one (Fit f) (Err fault) files end low some is = text-certified end (refused-text fault end is)
 
 words-certified : BudgetsAreTwo → MeshesAreCertified → (command : Option Command) (files : List NamedFile) (end : Outcome) → ((c : Command) → command ≡ Some c → CommandHasBudget c)
     → IsTrue (is_some end.engine) → IsWordsOutcome command files end → AllByRecursion IsCertified end.pictures

@@ -1,7 +1,7 @@
 -- The headline: each frame's mesh is a best mesh within the budget in force, whatever the mesh before; or the least mesh of a
--- tolerance.
+-- tolerance. A mesh that is fitted is a best one for its error or its budget.
 -- Words: IsBestIn, IsBestStripIn, IsLeastIn, IsGoodText, IsGoodFrame, AreGoodFrames, IsScriptRunOf, IsRunOf, KeepsGoodMeshes,
--- IsCheckOf, IsCertifiedMesh.
+-- IsCheckOf, IsCertifiedMesh, IsFitRunOf, IsFitMeshOf, AreFitMeshes, KeepsFitMesh.
 use Rattle.std.specs.Prelude.{◌≡◌, ⊤, ℕ, ◌+◌, ◌≤◌, Bool, true, IsTrue, IsSome, List, [], ◌∷◌, ◌++◌, length, count_by, nat_eq, All, Contains, Option, Some}
 use Rattle.mesh_defs.specs.HeightField.{HeightField, IsHeightField}
 use Rattle.mesh_defs.specs.BestMesh.{IsBestMesh}
@@ -14,12 +14,16 @@ use Rattle.roam_edge.specs.MeshSink.{Mesh}
 use Rattle.roam_edge.specs.Shelf.{NamedFile, bytes_of}
 use Rattle.pgm_grid.specs.PgmText.{IsFileText}
 use Rattle.run_laws.specs.declared.status.Status.{Status}
+use Rattle.run_laws.specs.declared.status.Status.TheVariants.{Done}
 use Rattle.tiling_laws.specs.Ancestors.{AreLeaves}
 use Rattle.strip_laws.specs.Strip.{strip_of, IsRing}
 use Rattle.least_laws.specs.Least.{IsLeastMesh}
-use Rattle.run_laws.specs.Words.{Show, AsMeshes, AsStrips, AsLeast, AsMeasures, AsSums, Scripted, Checking, Frames, Check, OnGrid, prefix_of, command_of}
-use Rattle.run_laws.specs.ReportText.{certified_line}
+use Rattle.run_laws.specs.Words.{Show, AsMeshes, AsStrips, AsLeast, AsMeasures, AsSums, Scripted, Checking, Fitting, Frames, Check, Fit, OnGrid, prefix_of, command_of}
+use Rattle.run_laws.specs.ReportText.{certified_line, fit_line}
 use Rattle.run_laws.specs.Certify.{checks_at}
+use Rattle.run_laws.specs.Fit.{IsBestFit, fit_text}
+use Rattle.run_laws.specs.Act.{Told}
+use Rattle.obj_write.specs.Written.{mesh_with, Grows}
 use Rattle.run_laws.specs.Outcome.{script_walk}
 use Rattle.run_laws.specs.Promise.{ends_script}
 
@@ -104,3 +108,33 @@ pub record IsCertifiedMesh (c : Checking) (grid : HeightField) (mesh line : List
   pub optimal : (others : List ℕ) → IsConforming grid.n others → length others ≤ c.budget
       → worst_of (priority_in (checks_at c grid camera)) triangles ≤ worst_of (priority_in (checks_at c grid camera)) others
   pub told : line ≡ certified_line camera (length triangles) (worst_of (priority_in (checks_at c grid camera)) triangles)
+
+-- The words are a fit; the file of its grid is a text of this grid.
+pub record IsFitRunOf (words : List (List ℕ)) (files : List NamedFile) (f : Fitting) (grid : HeightField) : Type 0 where
+  pub grid_name : List ℕ
+  pub is_command : command_of words ≡ Some (OnGrid grid_name (Fit f))
+  pub valid : IsHeightField grid
+  pub file_text : IsFileText grid (bytes_of files grid_name)
+
+-- The mesh has the number 1 and the prefix of the words, and its bytes are the text of a best mesh for their error or their budget.
+pub record IsFitMeshOf (f : Fitting) (grid : HeightField) (mesh : Mesh) : Type 0 where
+  pub triangles : List ℕ
+  pub fit : IsBestFit f.target grid triangles
+  pub is_mesh : mesh ≡ mesh_with f.prefix 1 (fit_text f.spacing grid triangles) true
+
+-- there is one mesh at most, and if it is finished it is such a mesh
+abbrev pub AreFitMeshes : Fitting → HeightField → List Mesh → Type 0
+AreFitMeshes f grid [] = ⊤
+AreFitMeshes f grid (mesh ∷ []) = mesh.finished ≡ true → IsFitMeshOf f grid mesh
+AreFitMeshes f grid (mesh ∷ (other ∷ meshes)) = ⊥
+
+-- The meshes that were there stay, and behind them came one at most, which is a best mesh for the error or the budget if it is
+-- finished. Where the run is done it came, and the report got its line: how many triangles and vertices it has, and how far the
+-- surface is from it.
+pub record KeepsFitMesh (f : Fitting) (grid : HeightField) (before now : Told) (all : List Mesh) (status : Status) : Type 0 where
+  pub added : List Mesh
+  pub behind : now.meshes ≡ Some (all ++ added)
+  pub fits : AreFitMeshes f grid added
+  pub done : status ≡ Done → (triangles : List ℕ) × IsBestFit f.target grid triangles
+      × (added ≡ mesh_with f.prefix 1 (fit_text f.spacing grid triangles) true ∷ [])
+      × Grows before.report now.report (fit_line grid triangles)

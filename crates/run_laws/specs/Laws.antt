@@ -1,7 +1,7 @@
 -- Laws of walks, pictures and outcomes.
 -- Words: WalksGoOn, PicturesGoOn, FramesExistFrom, FramesExist, RunsAreUnique, SetsStayClosed, LevelsAreInRange, BudgetsAreTwo, AreStates, KeepsStates, OutcomesAreUnique, OutcomesExist,
--- AcceptedIsDone, EnginesAreUnique, PicturesAreCertified, HeadlineFollows, CertifiedFollows, MadeIsAccepted, TurnsAreCounted.
-use Rattle.std.specs.Prelude.{◌≡◌, ⊤, ℕ, ◌≤◌, Bool, IsTrue, is_some, List, [], ◌∷◌, ◌++◌, All, Option, Some, Ok}
+-- AcceptedIsDone, EnginesAreUnique, PicturesAreCertified, HeadlineFollows, CertifiedFollows, TolerancesAreExact, FitsAreBest, FittedFollows, MadeIsAccepted, TurnsAreCounted.
+use Rattle.std.specs.Prelude.{◌≡◌, ⊤, ℕ, ◌*◌, ◌^◌, ◌≤◌, ◌↔◌, Bool, IsTrue, is_some, List, [], ◌∷◌, ◌++◌, All, Option, Some, Ok}
 use Rattle.mesh_defs.specs.HeightField.{HeightField}
 use Rattle.mesh_defs.specs.State.{State, priority_in, text_in}
 use Rattle.mesh_defs.specs.ClosedSet.{IsClosed, among}
@@ -24,14 +24,15 @@ use Rattle.run_laws.specs.Walk.{Walk, walk_of, AreWhole}
 use Rattle.obj_write.specs.Written.{Grows}
 use Rattle.cert_text.specs.Certificate.{Certificate}
 use Rattle.cert_text.specs.CertText.{cert_text}
-use Rattle.run_laws.specs.Words.{Show, Scripted, Making, Checking, Make, OnGrid, command_of}
+use Rattle.run_laws.specs.Words.{Show, Scripted, Making, Checking, Target, Fitting, Make, OnGrid, command_of}
 use Rattle.run_laws.specs.Certify.{makes_at, IsMade}
 use Rattle.run_laws.specs.Act.{Told}
 use Rattle.run_laws.specs.Picture.{Picture, ArePictures, IsCertified, last_members}
 use Rattle.run_laws.specs.Turns.{left_turns, right_turns}
 use Rattle.run_laws.specs.Outcome.{Outcome, IsOutcome, HasOneOutcome}
 use Rattle.run_laws.specs.Promise.{Seen, EndsRight, LeavesAtReadFault, LeavesAtNoMemory, IsAcceptedCheck, IsAccepted}
-use Rattle.run_laws.specs.Headline.{IsRunOf, KeepsGoodMeshes, IsCheckOf, IsCertifiedMesh}
+use Rattle.run_laws.specs.Headline.{IsRunOf, KeepsGoodMeshes, IsCheckOf, IsCertifiedMesh, IsFitRunOf, KeepsFitMesh}
+use Rattle.run_laws.specs.Fit.{tolerance_of, IsFitFor, IsBestFit}
 
 -- a walk over whole lines goes on with what follows them
 abbrev pub WalksGoOn : Type 0
@@ -124,6 +125,21 @@ abbrev pub CertifiedFollows : Type 0
 CertifiedFollows = (words : List (List ℕ)) (files : List NamedFile) (c : Checking) (grid : HeightField) (before now : Told) (old new : Seen) (status : Status)
     → IsCheckOf words files c grid → EndsRight before now old new words files status → status ≡ Done
     → (line : List ℕ) × Grows before.report now.report line × IsCertifiedMesh c grid (bytes_of files c.mesh) line
+
+-- an error is within the tolerance exactly where it is at most so many thousandths
+abbrev pub TolerancesAreExact : Type 0
+TolerancesAreExact = (n thousandths error : ℕ) → (error ≤ tolerance_of n thousandths) ↔ (1000 * error ≤ thousandths * 2 ^ n)
+
+-- a mesh that is fitted is a best one, in the words of distances from the surface
+abbrev pub FitsAreBest : Type 0
+FitsAreBest = (target : Target) (grid : HeightField) (triangles : List ℕ) → IsFitFor target grid triangles → IsBestFit target grid triangles
+
+-- the headline of a fit: whatever the status, from what stands after each, the mesh is a best one if it is finished
+abbrev pub FittedFollows : Type 0
+FittedFollows = (words : List (List ℕ)) (files : List NamedFile) (f : Fitting) (grid : HeightField) (before now : Told) (old new : Seen) (all : List Mesh) (status : Status)
+    → IsFitRunOf words files f grid → before.meshes ≡ Some all → EndsRight before now old new words files status
+    → (status ≡ ReadFault → LeavesAtReadFault before now old new words) → (status ≡ NoMemory → LeavesAtNoMemory before now old new words)
+    → KeepsFitMesh f grid before now all status
 
 -- What `certify make` writes for a grid `certify check` accepts over it, at the same budget and spacing and with the mesh that it is of.
 abbrev pub MadeIsAccepted : Type 0

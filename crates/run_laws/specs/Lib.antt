@@ -2,6 +2,7 @@ pub mod Walk
 pub mod Words
 pub mod CertFile
 pub mod Certify
+pub mod Fit
 pub mod Picture
 pub mod Turns
 pub mod ReportText

@@ -1,6 +1,6 @@
 -- The outcome of a run: what its words and the files that they name determine. This project's own.
 -- Words: EngineEnd, Outcome, plain_outcome, text_outcome, picture_acts, shown_acts, sum_acts, stop_acts, stop_status,
--- engine_end, frames_outcome, IsFramesOutcome, script_walk, made_budget, made_spacing, made_walk, IsScriptOutcome, IsMakeOutcome, IsCompared,
+-- engine_end, frames_outcome, IsFramesOutcome, script_walk, made_budget, made_spacing, made_walk, IsScriptOutcome, IsMakeOutcome, fit_acts, IsFitOutcome, IsCompared,
 -- IsVerdictOutcome, IsCheckOutcome, IsJobOutcome, IsGridOutcome, IsCommandOutcome, IsWordsOutcome, IsOutcome, HasOneOutcome.
 use Rattle.std.specs.Prelude.{◌≡◌, ⊤, ℕ, ◌+◌, ◌⊎◌, List, [], ◌∷◌, ◌++◌, length, sum_by, Option, Some, None, Result, Ok, Err}
 use Rattle.mesh_defs.specs.HeightField.{HeightField}
@@ -18,12 +18,13 @@ use Rattle.roam_gen.specs.Generated.{made_grid, made_lines}
 use Rattle.run_laws.specs.declared.status.Status.{Status}
 use Rattle.run_laws.specs.declared.status.Status.TheVariants.{Done, Usage, GridRefused, ScriptRefused, Rejected}
 use Rattle.run_laws.specs.Walk.{Refusal, Walk, start_walk, walk_along, walk_of}
-use Rattle.run_laws.specs.Words.{Show, AsMeshes, AsStrips, AsLeast, AsMeasures, AsSums, Scripted, Making, Checking, Job, Frames, Facts, Make, Check, Command, OnGrid, Generated, command_of}
+use Rattle.run_laws.specs.Words.{Show, AsMeshes, AsStrips, AsLeast, AsMeasures, AsSums, Scripted, Making, Checking, Fitting, Job, Frames, Facts, Make, Check, Fit, Command, OnGrid, Generated, command_of}
 use Rattle.run_laws.specs.CertFile.{cert_in}
 use Rattle.run_laws.specs.Certify.{checks_at, IsMade, IsFirstDifference}
+use Rattle.run_laws.specs.Fit.{IsFitted, fit_text}
 use Rattle.run_laws.specs.Act.{Act, WholeMesh, ReportText}
 use Rattle.run_laws.specs.Picture.{Picture, triangles_of, strip_triangles, ArePictures, last_members}
-use Rattle.run_laws.specs.ReportText.{frame_line, strip_line, least_line, measure_line, try_line, info_line, grid_refusal, line_refusal, certified_line, rejection}
+use Rattle.run_laws.specs.ReportText.{frame_line, strip_line, least_line, measure_line, fit_line, try_line, info_line, grid_refusal, line_refusal, certified_line, rejection}
 
 -- what an engine holds at the end: the state, how far the camera went, the frames made, the set of the
 -- last one, and the sums of their splits and merges
@@ -141,6 +142,16 @@ made_walk n seed = walk_along (start_walk made_budget (start_state (made_grid n 
 abbrev pub IsMakeOutcome : Making → HeightField → Outcome → Type 0
 IsMakeOutcome m grid end = (cert : Certificate) × IsMade m grid cert × (end ≡ text_outcome (cert_text cert) Done 1)
 
+-- the acts of a mesh that is fitted: the mesh, which has number 1, and then its line
+abbrev pub fit_acts : Fitting → HeightField → List ℕ → List Act
+fit_acts f grid triangles =
+    WholeMesh f.prefix 1 (fit_text f.spacing grid triangles) ∷ (ReportText (fit_line grid triangles) ∷ [])
+
+-- a mesh is fitted to the grid
+abbrev pub IsFitOutcome : Fitting → HeightField → Outcome → Type 0
+IsFitOutcome f grid end =
+    (triangles : List ℕ) × IsFitted f.target grid triangles × (end ≡ plain_outcome (fit_acts f grid triangles) Done 1)
+
 -- The file of a mesh is compared with the text of the triangles of a certificate: they are the same, or there is a first place at
 -- which they differ.
 abbrev pub IsCompared : List ℕ → List ℕ → List ℕ → Outcome → Type 0
@@ -167,6 +178,7 @@ IsJobOutcome (Frames s) grid files end = IsScriptOutcome s grid (bytes_of files 
 IsJobOutcome Facts grid files end = end ≡ text_outcome (info_line grid) Done 1
 IsJobOutcome (Make m) grid files end = IsMakeOutcome m grid end
 IsJobOutcome (Check c) grid files end = IsCheckOutcome c grid (cert_in grid.n (bytes_of files c.certificate)) (bytes_of files c.mesh) end
+IsJobOutcome (Fit f) grid files end = IsFitOutcome f grid end
 
 -- what a job does with the bytes of a grid, once they were read or refused
 abbrev pub IsGridOutcome : Job → Result HeightField PgmFault → List NamedFile → Outcome → Type 0
@@ -195,4 +207,5 @@ HasOneOutcome (Some (OnGrid grid (Frames s))) = ⊤
 HasOneOutcome (Some (OnGrid grid Facts)) = ⊤
 HasOneOutcome (Some (OnGrid grid (Make m))) = ⊥
 HasOneOutcome (Some (OnGrid grid (Check c))) = ⊤
+HasOneOutcome (Some (OnGrid grid (Fit f))) = ⊤
 HasOneOutcome (Some (Generated n seed)) = ⊤

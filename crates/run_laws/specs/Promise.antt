@@ -15,7 +15,7 @@ use Rattle.cert_text.specs.Certificate.{Certificate}
 use Rattle.run_laws.specs.declared.status.Status.{Status}
 use Rattle.run_laws.specs.declared.status.Status.TheVariants.{Done, NoMemory, Usage, GridRefused, ScriptRefused, ReadFault, WriteFault, Rejected}
 use Rattle.run_laws.specs.Walk.{AreWhole, HasBegun}
-use Rattle.run_laws.specs.Words.{Scripted, Checking, Job, Frames, Facts, Make, Check, Command, OnGrid, Generated, names_of, file_count, has_script, is_check, is_of_engine, command_of}
+use Rattle.run_laws.specs.Words.{Scripted, Checking, Job, Frames, Facts, Make, Check, Fit, Command, OnGrid, Generated, names_of, file_count, has_script, is_check, is_of_engine, command_of}
 use Rattle.run_laws.specs.CertFile.{cert_in, CertHasRead}
 use Rattle.run_laws.specs.Certify.{checks_at, IsFaultless}
 use Rattle.run_laws.specs.Picture.{Picture, ArePictures}
@@ -126,6 +126,7 @@ JobHasRead (Frames s) grid files k read acts = ScriptHasRead s grid read acts
 JobHasRead Facts grid files k read acts = ⊥
 JobHasRead (Make m) grid files k read acts = ⊥
 JobHasRead (Check c) grid files k read acts = CheckHasRead c grid files k read × (acts ≡ [])
+JobHasRead (Fit f) grid files k read acts = ⊥
 
 -- Of the command's file at this place, counted from 0, these bytes were read, and no refusal was met; these
 -- acts are what the run has done by then.
@@ -174,6 +175,7 @@ most_open_job (Frames s) = 1
 most_open_job Facts = 1
 most_open_job (Make m) = 1
 most_open_job (Check c) = 3
+most_open_job (Fit f) = 1
 
 abbrev pub most_open : Command → ℕ
 most_open (OnGrid name job) = most_open_job job
@@ -221,6 +223,7 @@ IsAcceptedJob (Frames s) grid files = (script_walk s grid (bytes_of files s.scri
 IsAcceptedJob Facts grid files = ⊤
 IsAcceptedJob (Make m) grid files = ⊤
 IsAcceptedJob (Check c) grid files = IsAcceptedCheck c grid files
+IsAcceptedJob (Fit f) grid files = ⊤
 
 -- its grid is a file text, and what its job reads is accepted; a generated run reads nothing
 abbrev pub IsAcceptedInput : Command → List NamedFile → Type 0
@@ -238,5 +241,6 @@ leaves_engine (Some (OnGrid name (Frames s))) status = is_of_engine s.show && en
 leaves_engine (Some (OnGrid name Facts)) status = false
 leaves_engine (Some (OnGrid name (Make m))) status = false
 leaves_engine (Some (OnGrid name (Check c))) status = false
+leaves_engine (Some (OnGrid name (Fit f))) status = false
 leaves_engine (Some (Generated n seed)) status = ends_script status
 leaves_engine None status = false

@@ -1,5 +1,5 @@
 -- The lines of the report. This project's own; each ends with one LF (10).
--- Words: blocked_text, marks_text, frame_line, strip_line, least_line, measure_line, all_triangles, worst_in, count_blocked, sums_line,
+-- Words: blocked_text, marks_text, frame_line, strip_line, least_line, measure_line, fit_line, all_triangles, worst_in, count_blocked, sums_line,
 -- try_line, info_line, grid_fault_text, grid_refusal, script_fault_text, line_refusal, certified_line, reject_text, rejection.
 use Rattle.std.specs.Prelude.{ℕ, ◌^◌, max, is_some, List, [], ◌∷◌, ◌++◌, length, map, sum_by, count_by, Option, Some, None, codes, decimal}
 use Rattle.mesh_defs.specs.declared.mark.Mark.TheVariants.{Inside, Cut, Outside}
@@ -16,6 +16,7 @@ use Rattle.roam_script.specs.declared.script_fault.ScriptFault.{ScriptFault}
 use Rattle.roam_script.specs.declared.script_fault.ScriptFault.TheVariants.{LineTooLong, UnknownCommand, WrongFields, BadNumber, OutOfRange, TooManyLines, TooManyFrames, TooManyPlanes}
 use Rattle.certificate_laws.specs.declared.reason.Reject.{Reject}
 use Rattle.certificate_laws.specs.declared.reason.Reject.TheVariants.{BadLine, NotConforming, OverBudget, BadReason, TooFewReasons, MeshDiffers}
+use Rattle.roam_num.specs.Places.{exact_decimal}
 use Rattle.cert_text.specs.CertText.{number_text}
 use Rattle.run_laws.specs.Walk.{Refusal}
 use Rattle.deviation_laws.specs.PlaneHeight.{deviation_of, thickest_of}
@@ -66,6 +67,14 @@ measure_line number picture =
     let n : ℕ = picture.state.grid.n in
     codes "measure " ++ decimal number ++ codes " deviation " ++ decimal (deviation_of n picture.state.grid.heights triangles)
     ++ codes " over " ++ decimal (2 ^ n) ++ codes " thickness " ++ decimal (thickest_of n picture.state.grid.heights triangles) ++ codes "\n"
+
+-- `fit triangles T vertices V deviation N over M error D`: how many triangles and vertices a mesh has; N over M is how far the
+-- surface is from it at a grid point at most, in units of height, as of `measure`; and D is the same number as a decimal
+abbrev pub fit_line : HeightField → List ℕ → List ℕ
+fit_line grid triangles =
+    let far : ℕ = deviation_of grid.n grid.heights triangles in
+    codes "fit triangles " ++ decimal (length triangles) ++ codes " vertices " ++ decimal (length (vertices_of grid.n triangles))
+    ++ codes " deviation " ++ decimal far ++ codes " over " ++ decimal (2 ^ grid.n) ++ codes " error " ++ exact_decimal far grid.n ++ codes "\n"
 
 -- how many triangles the meshes of pictures have, all together
 abbrev pub all_triangles : List Picture → ℕ

@@ -1,12 +1,14 @@
 -- The words of a command line that are a command. This project's own.
--- Words: Show, Scripted, Making, Checking, Job, Command, job_files, names_of, file_count, is_scripted, has_script, is_check, is_of_engine,
+-- Words: Show, Scripted, Making, Checking, Target, Fitting, Job, Command, job_files, names_of, file_count, is_scripted, has_script, is_check, is_of_engine,
 -- prefix_of, is_prefix, within, number_word, least_budget, greatest_budget, greatest_spacing, greatest_level, greatest_seed,
--- greatest_tolerance, budget_word, spacing_word, tolerance_word, in_reach, coordinate_word, frames_command, least_command, meshes_command, try_command,
--- camera_word, make_command, check_command, command_of.
+-- greatest_tolerance, greatest_error, budget_word, spacing_word, tolerance_word, error_word, in_reach, coordinate_word, frames_command, least_command, meshes_command, try_command,
+-- camera_word, make_command, check_command, target_word, fit_command, fit_words, command_of.
 use Rattle.std.specs.Prelude.{ℕ, Bool, true, false, ◌&&◌, nat_le, if◌then◌else◌, List, [], ◌∷◌, length, Option, Some, None, codes, bytes_eq, ℤ}
+use Rattle.std.specs.Option.{option_map}
 use Rattle.mesh_defs.specs.BoundingBox.{CameraAt}
 use Rattle.roam_edge.specs.declared.mesh_sink.TheConstants.{LONGEST_PREFIX}
 use Rattle.text_laws.specs.Numbers.{number_in, signed_in}
+use Rattle.roam_num.specs.Places.{thousandths_in}
 use Rattle.cert_text.specs.CertLine.{is_coordinate}
 
 -- how frames are shown: as meshes whose names begin with this prefix, of a budget, with the triangles depth first or in the
@@ -40,12 +42,25 @@ pub record Checking : Type 0 where
   pub budget : ℕ
   pub spacing : ℕ
 
--- what is done with a grid: the frames of a script, a line of facts, a certificate, or a check of a mesh by one
+-- what a mesh is fitted to: an error of at most so many thousandths of a unit of height, or a budget of triangles
+pub data Target : Type 0 where
+  AtError : (thousandths : ℕ) → Target
+  InBudget : (budget : ℕ) → Target
+
+-- a mesh is fitted: what its name begins with, what it is fitted to, and how many world units a grid step has
+pub record Fitting : Type 0 where
+  pub prefix : List ℕ
+  pub target : Target
+  pub spacing : ℕ
+
+-- what is done with a grid: the frames of a script, a line of facts, a certificate, a check of a mesh by one, or a mesh that is
+-- fitted to it
 pub data Job : Type 0 where
   Frames : (scripted : Scripted) → Job
   Facts : Job
   Make : (making : Making) → Job
   Check : (checking : Checking) → Job
+  Fit : (fitting : Fitting) → Job
 
 -- a command: a job on the grid of this name; or a generated run
 pub data Command : Type 0 where
@@ -58,6 +73,7 @@ job_files (Frames s) = s.script ∷ []
 job_files Facts = []
 job_files (Make m) = []
 job_files (Check c) = c.certificate ∷ (c.mesh ∷ [])
+job_files (Fit f) = []
 
 -- the names of a command's files; the grid comes first
 abbrev pub names_of : Command → List (List ℕ)
@@ -75,6 +91,7 @@ is_scripted (Frames s) = true
 is_scripted Facts = false
 is_scripted (Make m) = false
 is_scripted (Check c) = false
+is_scripted (Fit f) = false
 
 abbrev pub has_script : Command → Bool
 has_script (OnGrid grid job) = is_scripted job
@@ -86,6 +103,7 @@ is_check (OnGrid grid (Frames s)) = false
 is_check (OnGrid grid Facts) = false
 is_check (OnGrid grid (Make m)) = false
 is_check (OnGrid grid (Check c)) = true
+is_check (OnGrid grid (Fit f)) = false
 is_check (Generated n seed) = false
 
 -- an engine makes the frames that are shown so; the meshes of a tolerance are made without one
@@ -128,6 +146,10 @@ greatest_budget = 1048576
 abbrev pub greatest_tolerance : ℕ
 greatest_tolerance = 999999999999
 
+-- the greatest error, in thousandths of a unit of height: 65535.999
+abbrev pub greatest_error : ℕ
+greatest_error = 65535999
+
 -- the greatest spacing, in world units a grid step
 abbrev pub greatest_spacing : ℕ
 greatest_spacing = 1024
@@ -147,6 +169,10 @@ spacing_word = number_word 1 greatest_spacing
 
 abbrev pub tolerance_word : List ℕ → Option ℕ
 tolerance_word = number_word 0 greatest_tolerance
+
+-- the thousandths of a word of 1 to 16 digits, or of these, a point and 1 to 3 digits, if they lie within their bound
+abbrev pub error_word : List ℕ → Option ℕ
+error_word word = within 0 greatest_error (thousandths_in word)
 
 -- a number, if it may be a coordinate of a camera
 abbrev pub in_reach : Option ℤ → Option ℤ
@@ -198,16 +224,37 @@ check_command grid_name mesh_name cert_name (Some b) (Some s) =
     Some (OnGrid grid_name (Check (record { mesh = mesh_name; certificate = cert_name; budget = b; spacing = s })))
 check_command grid_name mesh_name cert_name _ _ = None
 
+-- what a mesh is fitted to, by a word and a number
+abbrev pub target_word : List ℕ → List ℕ → Option Target
+target_word word number =
+    if bytes_eq word (codes "error") then option_map (λ k. AtError k) (error_word number)
+    else if bytes_eq word (codes "budget") then option_map (λ k. InBudget k) (budget_word number)
+    else None
+
+-- a mesh is fitted, if what it is fitted to and the spacing are there
+abbrev pub fit_command : List ℕ → List ℕ → Option Target → Option ℕ → Option Command
+fit_command grid_name begin (Some goal) (Some s) = Some (OnGrid grid_name (Fit (record { prefix = begin; target = goal; spacing = s })))
+fit_command grid_name begin _ _ = None
+
+-- GRID, PREFIX, `error` or `budget`, a number and SPACING
+abbrev pub fit_words : List ℕ → List ℕ → List ℕ → List ℕ → List ℕ → Option Command
+fit_words grid_name begin word number step =
+    if is_prefix begin then fit_command grid_name begin (target_word word number) (spacing_word step) else None
+
 -- The command that the words are, None of other words: `info GRID`, `try N SEED`, `mesh GRID SCRIPT PREFIX BUDGET SPACING`,
 -- `strip GRID SCRIPT PREFIX BUDGET SPACING`, `least GRID SCRIPT PREFIX TOLERANCE SPACING`, `measure GRID SCRIPT BUDGET SPACING`,
--- `certify check GRID OBJ CERT BUDGET SPACING`, or `certify make GRID X Y Z BUDGET SPACING`.
+-- `certify check GRID OBJ CERT BUDGET SPACING`, `certify make GRID X Y Z BUDGET SPACING`, `fit GRID PREFIX error E SPACING`, or
+-- `fit GRID PREFIX budget BUDGET SPACING`.
 abbrev pub command_of : List (List ℕ) → Option Command
 command_of (word ∷ (i ∷ [])) = if bytes_eq word (codes "info") then Some (OnGrid i Facts) else None
 command_of (word ∷ (i ∷ (j ∷ []))) =
     if bytes_eq word (codes "try") then try_command (number_word 1 greatest_level i) (number_word 0 greatest_seed j) else None
 command_of (word ∷ (i ∷ (j ∷ (k ∷ (l ∷ []))))) =
     if bytes_eq word (codes "measure") then frames_command i j AsMeasures (budget_word k) (spacing_word l) else None
-command_of (word ∷ (i ∷ (j ∷ (k ∷ (l ∷ (m ∷ [])))))) = if is_prefix k then meshes_command word i j k l m else None
+command_of (word ∷ (i ∷ (j ∷ (k ∷ (l ∷ (m ∷ [])))))) =
+    if bytes_eq word (codes "fit") then fit_words i j k l m
+    else if is_prefix k then meshes_command word i j k l m
+    else None
 command_of (word ∷ (i ∷ (j ∷ (k ∷ (l ∷ (m ∷ (o ∷ []))))))) =
     if bytes_eq word (codes "certify") && bytes_eq i (codes "check") then check_command j k l (budget_word m) (spacing_word o) else None
 command_of (word ∷ (i ∷ (j ∷ (k ∷ (l ∷ (m ∷ (o ∷ (p ∷ [])))))))) =

@@ -2,7 +2,7 @@
 
 ghost use Rattle.run_laws.specs.Examples.{WrongFieldsStop, FirstLinesAreRefused, CountsAreBounded, SeventhPlaneStops, BudgetsAreInForce, AreasAreRaised, WaysAreAddedUp, TurnsOfStrips, MeshesAreMeasured};
 ghost use Rattle.run_laws.specs.CertifyExamples.{CertificatesAreRead, CertificatesAreRefused, WordsOfCertify};
-ghost use Rattle.run_laws.specs.Laws.{WalksGoOn, PicturesGoOn, FramesExistFrom, RunsAreUnique, SetsStayClosed, LevelsAreInRange, BudgetsAreTwo, OutcomesAreUnique, OutcomesExist, AcceptedIsDone, EnginesAreUnique, PicturesAreCertified, HeadlineFollows, CertifiedFollows, MadeIsAccepted, TurnsAreCounted};
+ghost use Rattle.run_laws.specs.Laws.{WalksGoOn, PicturesGoOn, FramesExistFrom, RunsAreUnique, SetsStayClosed, LevelsAreInRange, BudgetsAreTwo, OutcomesAreUnique, OutcomesExist, AcceptedIsDone, EnginesAreUnique, PicturesAreCertified, HeadlineFollows, CertifiedFollows, TolerancesAreExact, FitsAreBest, FittedFollows, MadeIsAccepted, TurnsAreCounted};
 
 use cert_text::text_laws;
 use closure_laws::{frame_laws, member_laws};
@@ -48,6 +48,16 @@ pub fn run_laws()
     frame_laws();
     member_laws();
     falling_laws();
+}
+
+/// A mesh that is fitted is a best one for its error or its budget: the tolerance is exact, and what the definitions of `fit_laws` say
+/// holds in the words of distances from the surface; so the mesh of a run of `fit` is one, if it is finished.
+pub fn fitting_laws()
+    ensures tolerance { TolerancesAreExact }
+    ensures best { FitsAreBest }
+    ensures fitted { FittedFollows }
+{
+    grids_and_texts();
 }
 
 /// What `certify make` writes for a grid `certify check` accepts, with the mesh that it is of.

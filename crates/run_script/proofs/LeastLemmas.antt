@@ -1,13 +1,9 @@
 -- The least mesh of a tolerance is the picture of a state.
 use Rattle.std.proofs.Common.{◌≡◌, ℕ, ◌+◌, ◌*◌, ◌≤◌, List, [], ◌∷◌, length, All, None, Result, OnOk, OnErr, refl, ◌∙◌, ap, subst, arith, length-append}
-use Rattle.std.proofs.lemmas.List.Elements.{All-weaker}
-use Rattle.mesh_defs.specs.Triangle.{level_of, IsAddress}
-use Rattle.mesh_defs.specs.Tiling.{IsConforming}
 use Rattle.mesh_defs.specs.ClosedSet.{leaves_of, among}
 use Rattle.mesh_defs.specs.MeshText.{vertices_of}
 use Rattle.mesh_defs.specs.Priority.{worst_of}
 use Rattle.mesh_defs.specs.State.{State, priority_in, text_in}
-use Rattle.bintree_laws.proofs.LevelLemmas.{level-le}
 use Rattle.closure_laws.proofs.ClosureLemmas.{leaves_of-same, IsLeastClosed-same}
 use Rattle.closure_laws.proofs.SetListLemmas.{list_of, ascending-list_of, among-list_of}
 use Rattle.least_laws.specs.Least.{is_worse, IsLeastList}
@@ -20,12 +16,6 @@ use Rattle.run_laws.specs.Outcome.{Outcome, picture_acts}
 use Rattle.run_script.specs.declared.least_frames.LeastFrames.{LeastFrames}
 use Rattle.run_script.specs.LeastSeen.{state_seen, LeastFollows, IsLeastNoted, least_acts, least_numbers}
 use Rattle.run_laws.specs.Maker.{TakesFrame, Leaves}
-
--- the triangles of a conforming list have levels of its grid
-pub conforming-levels : (n m : ℕ) (triangles : List ℕ) → n ≡ m → IsConforming n triangles → All (λ a. level_of a ≤ 2 * m) triangles
-conforming-levels n m triangles same is =
-    let P : ℕ → Type 0 = λ k. All (λ a. level_of a ≤ 2 * k) triangles in
-    subst P same (All-weaker (IsAddress n) (λ a. level_of a ≤ 2 * n) (level-le n) triangles is.addresses)
 
 module _ (old new : LeastFrames) (prefix : new.prefix.now ≡ old.prefix.now) (tolerance : new.tolerance ≡ old.tolerance) where
   -- the same meshes are shown

@@ -6,7 +6,9 @@ use Rattle.least_laws.specs.Least.{IsLeastMesh}
 use Rattle.least_laws.specs.Sweep.{is_flagged}
 use Rattle.fit_laws.specs.Error.{error_of}
 use Rattle.fit_laws.proofs.ErrorLemmas.{worst-deviation}
+use Rattle.tiling_laws.specs.Ancestors.{ancestors_of}
 use Rattle.fit_laws.proofs.FitLemmas.{fit_mesh}
+use Rattle.fit_laws.proofs.OrderLemmas.{leaves-order}
 use Rattle.fit_mesh.proofs.find.find_mesh.Goals as goal
 
 pub returns-clause-least : goal.returns-clause-least
@@ -34,3 +36,11 @@ pub returns-clause-deviation : goal.returns-clause-deviation
 returns-clause-deviation c =
     let n : ℕ = c.args.grid.now.n in
     c.worst_error.ensures ∙ worst-deviation n c.args.grid.now.heights (take c.list_leaves-triangles.result c.list_leaves-triangles.new.list)
+
+pub returns-clause-order : goal.returns-clause-order
+returns-clause-order c =
+    let n : ℕ = c.args.grid.now.n in
+    let has : ℕ → Bool = is_flagged c.find.new.flags in
+    let list : List ℕ = take c.list_leaves-triangles.result c.list_leaves-triangles.new.list in
+    let same : list ≡ leaves_of n has = c.list_leaves-triangles.ensures.listed ∙ ap (λ k. leaves_of k has) c.n-n.ensures.value in
+    subst (λ (l : List ℕ). leaves_of n (ancestors_of l) ≡ l) (sym same) (leaves-order n has c.find.ensures.found.fit.settled.closed)

@@ -3,7 +3,7 @@ use Rattle.std.proofs.lemmas.Result.{err_from_is_err_and, on_err_weaker}
 use Rattle.mesh_defs.specs.Triangle.{level_of}
 use Rattle.mesh_defs.specs.State.{text_in}
 use Rattle.run_script.specs.LeastSeen.{state_seen, least_numbers}
-use Rattle.run_script.proofs.LeastLemmas.{conforming-levels}
+use Rattle.run_laws.proofs.OrderLemmas.{conforming-levels}
 use Rattle.run_laws.proofs.ShownLemmas.{cut-acts-mesh, cut-acts-line}
 use Rattle.run_script.proofs.least_frames.LeastFrames.show.Goals as goal
 

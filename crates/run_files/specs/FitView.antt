@@ -1,0 +1,31 @@
+-- The words of `fit` in the words of a run, and what the code knows of their numbers.
+-- Words: target_seen, IsTarget, fitting_seen, IsFitting.
+use Rattle.std.specs.Prelude.{◌≤◌}
+use Rattle.wedgie_tree.specs.declared.wedges.TheConstants.{GREATEST_SPACING}
+use Rattle.run_laws.specs.Words.{Fitting, least_budget, greatest_budget, greatest_error}
+use Rattle.run_laws.specs.Words as words
+use Rattle.run_files.specs.declared.fit_words.FitWords.{FitWords}
+use Rattle.run_files.specs.declared.fit_words.Target.{Target}
+use Rattle.run_files.specs.declared.fit_words.Target.TheVariants.{AtError, InBudget}
+use Rattle.run_files.specs.ShowView.{IsPrefixLength}
+
+-- what a mesh is fitted to
+abbrev pub target_seen : Target → words.Target
+target_seen (AtError thousandths) = words.AtError thousandths
+target_seen (InBudget budget) = words.InBudget budget
+
+-- the error or the budget lies within its bounds
+abbrev pub IsTarget : Target → Type 0
+IsTarget (AtError thousandths) = thousandths ≤ greatest_error
+IsTarget (InBudget budget) = (least_budget ≤ budget) × (budget ≤ greatest_budget)
+
+-- how a mesh is fitted
+abbrev pub fitting_seen : FitWords → Fitting
+fitting_seen w = record { prefix = w.prefix.now; target = target_seen w.target; spacing = w.spacing }
+
+-- the prefix has an accepted length, and the numbers lie within their bounds
+pub record IsFitting (w : FitWords) : Type 0 where
+  pub shown : IsPrefixLength w.prefix.now
+  pub bound : IsTarget w.target
+  pub spacing_low : 1 ≤ w.spacing
+  pub spacing_high : w.spacing ≤ GREATEST_SPACING

@@ -1,0 +1,72 @@
+//! A mesh that was fitted to a grid.
+
+ghost use Rattle.std.specs.Prelude.{◌≡◌, ◌*◌, ◌^◌, ◌≤◌, IfOk};
+ghost use Rattle.mesh_defs.specs.declared.level.TheConstants.{GREATEST_LEVEL};
+ghost use Rattle.run_laws.specs.Words.{greatest_error};
+ghost use Rattle.run_laws.specs.Fit.{tolerance_of};
+ghost use Rattle.run_files.specs.FitView.{target_seen, IsTarget};
+ghost use Rattle.run_fit.specs.FittedSeen.{IsFittedTo, tolerance_for, budget_for};
+
+use fit_mesh::{Fit, FitNote};
+use pgm_grid::Grid;
+use roam_edge::NoMemory;
+use run_files::Target;
+use std::alloc::Global;
+use wedgie_tree::Wedges;
+
+/// A grid, the mesh that was fitted to it, and what is told of that mesh.
+#[derive(Drop)]
+pub(crate) struct Fitted {
+    /// The heights; the text of a mesh is written over wedges.
+    pub(crate) wedges: Wedges,
+    pub(crate) fit: Fit,
+    pub(crate) note: FitNote,
+}
+
+impl Fitted {
+    /// Fits a mesh to a grid. All memory is taken here.
+    pub(crate) fn make(alloc: Global, grid: Grid, target: Target) -> Result<Fitted, NoMemory>
+        requires target { IsTarget target }
+        ensures fitted { IfOk result (λ f. IsFittedTo f (target_seen target) grid) }
+    {
+        let n = grid.n();
+        let wedges = Wedges::build(alloc, grid)?;
+        let mut fit = Fit::make(alloc, n, budget_of(target))?;
+        let note = fit.frame(wedges.grid(), tolerance_in(target, n));
+        Ok(Fitted { wedges, fit, note })
+    }
+}
+
+/// The most triangles that a mesh may have; for an error there is no bound.
+fn budget_of(target: Target) -> u32
+    requires target { IsTarget target }
+    ensures value { result ≡ budget_for (target_seen target) }
+    ensures some { 2 ≤ result }
+{
+    match target {
+        Target::AtError(_) => u32::MAX,
+        Target::InBudget(budget) => budget,
+    }
+}
+
+/// The greatest error that a triangle may have, in units of height, times 2^n; for a budget it may have none.
+fn tolerance_in(target: Target, n: u32) -> u32
+    requires target { IsTarget target }
+    requires in_grid { n ≤ GREATEST_LEVEL }
+    ensures { result ≡ tolerance_for n (target_seen target) }
+{
+    match target {
+        Target::AtError(thousandths) => tolerance(thousandths, n),
+        Target::InBudget(_) => 0,
+    }
+}
+
+/// So many thousandths of a unit of height, in units of height, times 2^n, rounded down.
+fn tolerance(thousandths: u32, n: u32) -> u32
+    requires high { thousandths ≤ greatest_error }
+    requires in_grid { n ≤ GREATEST_LEVEL }
+    ensures { result ≡ tolerance_of n thousandths }
+{
+    let units = u64::from(thousandths) * u64::from(1u32 << n);
+    (units / 1000) as u32
+}

@@ -1,0 +1,13 @@
+use Rattle.run_laws.proofs.FitLemmas.{tolerance-exact, fit-best}
+use Rattle.run_laws.proofs.FitRunLemmas.{fit-keeps}
+use Rattle.run_laws.proofs.laws.fitting_laws.Goals as goal
+
+pub returns-clause-tolerance : goal.returns-clause-tolerance
+returns-clause-tolerance c = tolerance-exact
+
+pub returns-clause-best : goal.returns-clause-best
+returns-clause-best c = fit-best
+
+pub returns-clause-fitted : goal.returns-clause-fitted
+returns-clause-fitted c words files f grid before now old new all status run there ends read memory =
+    fit-keeps c.grids_and_texts.ensures.texts words files f grid run before now old new all there status ends read memory
