@@ -3,14 +3,17 @@
 
 usage: checks/greedy.py WORD ..    the words of the program
 
-Slow and plain: it looks at every triangle, every diamond and every point (terrain.py, frames.py, strips.py, certifying.py).
+Slow and plain: it looks at every triangle, every diamond and every point (terrain.py, frames.py, strips.py, fitting.py,
+certifying.py).
 Exit statuses are those of the program: 2 where the words are no command, 4 where a line of a script is refused, 5 where a
 file cannot be read, 6 where a mesh cannot be written, 7 where a certificate is rejected. Grids are raw PGM files
 without comments; no grid is refused. `certify make` writes a sound certificate, of which there are many."""
 import re
 import sys
+from fractions import Fraction
 
 import certifying
+import fitting
 import generated
 from frames import View, frame_of, least_split, leaves_of, mesh_text, run_of_steps, vertices_of
 from scripts import Refused, frames_of, is_signed
@@ -119,6 +122,34 @@ def measure(grid, script, budget, spacing):
         print(f"measure {k} deviation {off} over {terrain.m} thickness {thickest}", flush=True)
 
 
+def thousandths(word):
+    """How many thousandths a word is: 1 to 16 digits, or these, a point and 1 to 3 digits, at most 65535.999."""
+    parts = re.fullmatch(r"([0-9]{1,16})(?:\.([0-9]{1,3}))?", word, re.ASCII)
+    if not parts:
+        raise Usage
+    count = 1000 * int(parts[1]) + int(((parts[2] or "") + "000")[:3])
+    if count > 65_535_999:
+        raise Usage
+    return count
+
+
+def fit(grid, prefix, kind, bound, spacing):
+    if kind not in ("error", "budget"):
+        raise Usage
+    prefix, bound = prefix_word(prefix), (thousandths if kind == "error" else budget_word)(bound)
+    terrain = Terrain(read_grid(grid), spacing_word(spacing), MOST_TRIANGLES)
+    errors = fitting.Errors(terrain)
+    if kind == "error":
+        split = fitting.fit_error(terrain, errors, Fraction(bound * terrain.m, 1000))
+    else:
+        split = fitting.fit_budget(terrain, errors, bound)
+    leaves = leaves_of(split)
+    off = deviation(terrain, leaves)
+    write_mesh(prefix, 1, mesh_text(terrain, leaves))
+    print(f"fit triangles {len(leaves)} vertices {len(vertices_of(terrain, leaves))} deviation {off} over {terrain.m}"
+          f" error {fitting.decimal(off, terrain.m)}", flush=True)
+
+
 def certify(action, *words):
     if action == "make" and len(words) == 6:
         return certify_make(*words)
@@ -169,7 +200,7 @@ def try_(n, seed):
 
 # By its word: a command, and how many words may follow.
 COMMANDS = {"mesh": (mesh, [5]), "info": (info, [1]), "try": (try_, [2]), "least": (least, [5]), "strip": (strip, [5]),
-            "measure": (measure, [4]), "certify": (certify, [6, 7])}
+            "measure": (measure, [4]), "certify": (certify, [6, 7]), "fit": (fit, [5])}
 
 
 def main(words):

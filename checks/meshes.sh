@@ -4,7 +4,7 @@
 # start and run it uses; wants python3.
 
 # The commands whose random runs are compared.
-compared=(mesh strip measure least certify)
+compared=(mesh strip measure least fit certify)
 
 # Python itself, since python3 may be a script that looks for it, which is slow to start so often.
 python=$(python3 -c 'import sys; print(sys.executable)')
@@ -115,6 +115,13 @@ for mesh in out000001.obj out000002.obj; do
 done
 [ "$(find . -type f -name 'out*.obj' | wc -l)" -eq 2 ] || why+=('not two meshes')
 decide "$name" ${why[0]+"${why[@]}"}
+
+# The plain loop of `fit` beside all closed sets of small grids.
+if told=$("$python" "$checks/fitting.py" 2>&1) && [ "$told" = 'closed sets: 17 5489' ]; then
+  ok fits_of_small_grids_are_the_best_of_all_closed_sets
+else
+  wrong fits_of_small_grids_are_the_best_of_all_closed_sets "'$(tail -n 3 <<<"$told" | tr '\n' '/')'"
+fi
 
 # --- Random runs (random_run.py) by their seeds: 100 of each command, or as many as RANDOM_RUNS says. ---
 

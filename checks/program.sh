@@ -102,7 +102,7 @@ for example in "$top"/examples/*/; do
     [ -f "$mesh" ] || continue
     cmp -s -- "$mesh" "${mesh##*/}" || why+=("${mesh##*/} differs")
   done
-  [ "$(find . -maxdepth 1 -name 'out*.obj' | wc -l)" -eq "$(grep -cE '^(frame|strip) ' "$example/expected/report")" ] ||
+  [ "$(find . -maxdepth 1 -name 'out*.obj' | wc -l)" -eq "$(grep -cE '^(frame|strip|fit) ' "$example/expected/report")" ] ||
     why+=("not as many meshes as wanted")
   decide "$name" ${why[0]+"${why[@]}"}
 done
@@ -376,7 +376,7 @@ expect_last() {
   [ "$status" = "$1" ] || why+=("exit status $status, not $1")
   printf '%b' "$2" | cmp -s - "$room/report" || why+=("the report is '$(head -c 300 "$room/report" | tr '\n' '/')'")
   mapfile -t meshes < <(find . -name 'out*.obj' | sort)
-  [ "${#meshes[@]}" -eq "$(grep -cE '^(frame|strip) ' "$room/report")" ] || why+=("${#meshes[@]} meshes")
+  [ "${#meshes[@]}" -eq "$(grep -cE '^(frame|strip|fit) ' "$room/report")" ] || why+=("${#meshes[@]} meshes")
   [ -z "${3:-}" ] || { [ "${#meshes[@]}" -gt 0 ] && printf '%b' "${!3}" | cmp -s - "${meshes[-1]}"; } || why+=("the last mesh is not $3")
   decide "$name" ${why[0]+"${why[@]}"}
 }
@@ -416,6 +416,14 @@ raised_to_the_maxval|mesh g s out 4 1|3|raise 0 0 2 2 65535\nraise 1 1 1 1 1\nfr
 least_below_the_worst|least g s out 1310719 1|3 1,1,10|frame\n|0|frame 1 least 4 vertices 5 worst 0\n|quarters
 least_at_the_worst|least g s out 1310720 1|3 1,1,10|frame\n|0|frame 1 least 2 vertices 4 worst 1310720\n|halves
 least_at_0|least g s out 0 1|5 1,0,10|frame\n|0|frame 1 least 9 vertices 9 worst 0\n|nine
+fit_just_below_the_error|fit g out error 9.999 1|3 1,1,10||0|fit triangles 4 vertices 5 deviation 0 over 2 error 0\n|quarters
+fit_at_the_error|fit g out error 10 1|3 1,1,10||0|fit triangles 2 vertices 4 deviation 20 over 2 error 10\n|halves
+fit_of_budget_3|fit g out budget 3 1|3 1,1,10||0|fit triangles 2 vertices 4 deviation 20 over 2 error 10\n|halves
+fit_of_budget_4|fit g out budget 4 1|3 1,1,10||0|fit triangles 4 vertices 5 deviation 0 over 2 error 0\n|quarters
+fit_of_all_that_is_needed|fit g out budget 1048576 1|5 1,0,10||0|fit triangles 9 vertices 9 deviation 0 over 4 error 0\n|nine
+fit_below_three_quarters|fit g out error 0.749 1|5 0,0,1||0|fit triangles 6 vertices 7 deviation 2 over 4 error 0.5\n|
+fit_at_three_quarters|fit g out error 0.75 1|5 0,0,1||0|fit triangles 2 vertices 4 deviation 3 over 4 error 0.75\n|
+fit_with_a_spacing_of_30|fit g out budget 2 30|3 1,1,10||0|fit triangles 2 vertices 4 deviation 20 over 2 error 10\n|wide_halves
 strip_of_2|strip g s out 8 1|3|frame\n|0|strip 1 triangles 2 left 0 right 0\n|halves
 strip_of_4|strip g s out 4 1|3 1,1,10|frame\n|0|strip 1 triangles 4 left 0 right 2\n|quarters
 strip_of_9|strip g s out 9 1|5 1,0,10|frame\n|0|strip 1 triangles 9 left 2 right 5\n|nine_in_a_strip
@@ -657,6 +665,23 @@ usage a_tolerance_beyond_the_greatest least g s out 1000000000000 1
 usage a_tolerance_that_is_no_number least g s out -1 1
 usage least_with_an_empty_prefix least g s '' 2 1
 usage least_without_a_tolerance least g s out 1
+usage fit_without_a_spacing fit g out error 1
+usage fit_with_one_word_more fit g out error 1 1 1
+usage fit_with_another_word fit g out errors 1 1
+usage fit_with_an_empty_prefix fit g '' error 1 1
+usage fit_of_budget_1 fit g out budget 1 1
+usage fit_of_a_budget_with_a_point fit g out budget 2.0 1
+usage an_error_beyond_the_greatest fit g out error 65536 1
+usage an_error_just_beyond_the_greatest fit g out error 65535.9991 1
+usage an_error_of_four_places fit g out error 1.0000 1
+usage an_error_without_a_whole_number fit g out error .5 1
+usage an_error_that_ends_in_a_point fit g out error 5. 1
+usage an_error_with_two_points fit g out error 1.2.3 1
+usage an_error_with_a_comma fit g out error 1,5 1
+usage an_error_with_a_sign fit g out error -1 1
+usage an_error_of_17_digits fit g out error 00000000000000001 1
+usage an_empty_error fit g out error '' 1
+usage fit_of_a_spacing_of_0 fit g out error 1 0
 usage certify_alone certify
 usage certify_with_another_word certify see g o c 2 1
 usage a_check_without_a_spacing certify check g o c 2

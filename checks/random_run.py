@@ -3,6 +3,7 @@
 script `s` into the present folder, and prints its words.
 
 usage: checks/random_run.py SEED COMMAND     mesh, least, strip or measure: a script of all kinds of line
+       checks/random_run.py SEED fit         a grid alone, and the words of `fit`, for an error or a budget
        checks/random_run.py SEED certify     the words of `certify make`, and a script that makes the same frame
        checks/random_run.py SEED damage BUDGET   changes something in the certificate `c` or in the mesh `out000001.obj`
 
@@ -82,6 +83,19 @@ def write_script(lines):
 
 def tolerance():
     return roll.choice([0, roll.randint(0, 10 ** roll.randint(1, 12) - 1), 65536 * roll.randint(0, 2 * maxval) // (spacing + 1)])
+
+
+def error():
+    """An error in units of height, with no, one, two or three places."""
+    whole, places = roll.choice([0, roll.randint(0, 9), roll.randint(0, maxval)]), roll.randint(0, 3)
+    return f"{whole}.{roll.randint(0, 10 ** places - 1):0{places}}" if places else whole
+
+
+def fit_words():
+    kind, number = roll.choice([("error", error()), ("budget", budget)])
+    if roll.random() < 0.1:
+        kind, number = roll.choice([("Error", number), ("error", "5."), ("error", ".5"), ("error", "1.2345"), ("error", "65536"), ("budget", "1.0"), (kind, -1)])
+    return ["g", "out", kind, number, spacing]
 
 
 def script(greatest):
@@ -173,6 +187,8 @@ if command == "certify":
     place = camera()
     write_script(["camera %d %d %d" % tuple(place), "frame"])
     print("certify make g", *place, budget, spacing)
+elif command == "fit":
+    print("fit", *fit_words())
 else:
     write_script(script(1048576 if command == "least" else budget))
     print(command, *words_of_a_run())

@@ -1,5 +1,5 @@
 -- A mesh that was fitted to a grid, in the words of a run.
--- Words: tolerance_for, budget_for, IsFittedTo, fit_numbers, fitted_acts.
+-- Words: tolerance_for, budget_for, IsFittedTo, deviation_text, fit_numbers, fitted_acts.
 use Rattle.std.specs.Prelude.{◌≡◌, ℕ, ◌-◌, ◌^◌, List, [], ◌∷◌, ◌++◌, length, codes, decimal}
 use Rattle.mesh_defs.specs.HeightField.{HeightField}
 use Rattle.mesh_defs.specs.MeshText.{vertices_of}
@@ -27,6 +27,11 @@ pub record IsFittedTo (f : Fitted) (target : Target) (grid : HeightField) : Type
   pub triangles : f.note.triangles ≡ length f.fit.leaves
   pub vertices : f.note.vertices ≡ length (vertices_of grid.n f.fit.leaves)
   pub deviation : f.note.deviation ≡ deviation_of grid.n grid.heights f.fit.leaves
+
+-- ` deviation N over M error D`: N over 2 ^ n as a fraction and as a decimal
+abbrev pub deviation_text : (n deviation : ℕ) → List ℕ
+deviation_text n deviation =
+    codes " deviation " ++ decimal deviation ++ codes " over " ++ decimal (2 ^ n) ++ codes " error " ++ exact_decimal deviation n
 
 -- the line of a mesh of the grid of side 2 ^ n with these numbers
 abbrev pub fit_numbers : (n triangles vertices deviation : ℕ) → List ℕ

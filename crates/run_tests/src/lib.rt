@@ -19,6 +19,8 @@ mod fault_tests;
 #[cfg(test)]
 mod files;
 #[cfg(test)]
+mod fit_tests;
+#[cfg(test)]
 mod frail_shelf;
 #[cfg(test)]
 mod frame_tests;

@@ -53,6 +53,22 @@ fn words_of_strip_measure_and_try_have_their_bounds(rt: HostRuntime) -> Result<(
 }
 
 #[test]
+fn words_of_fit_have_their_bounds(rt: HostRuntime) -> Result<(), Fail> {
+    let lists: [&[&str]; 9] = [
+        &["fit", "g", "out", "errors", "1", "1"],
+        &["fit", "g", "", "error", "1", "1"],
+        &["fit", "g", "out", "budget", "1", "1"],
+        &["fit", "g", "out", "budget", "2.0", "1"],
+        &["fit", "g", "out", "error", "65536", "1"],
+        &["fit", "g", "out", "error", "1.0000", "1"],
+        &["fit", "g", "out", "error", ".5", "1"],
+        &["fit", "g", "out", "error", "5.", "1"],
+        &["fit", "g", "out", "error", "1", "0"],
+    ];
+    check_usage(&rt, rt.alloc(), &lists)
+}
+
+#[test]
 fn try_tells_the_sums_of_fifty_generated_frames(rt: HostRuntime) -> Result<(), Fail> {
     // The 8, 32 and 128 triangles of the finest meshes, each fifty times.
     let cases = [

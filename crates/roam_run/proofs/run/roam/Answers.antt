@@ -29,6 +29,11 @@ returns-in-None-clause-certified g c files check grid told_files is_check done =
     c.run_laws.ensures.certified (map string_bytes c.args.words.now) files check grid _ _ _ _ _ is_check
     (returns-in-None-clause-outcome g c files (λ some. told_files)) done
 
+pub returns-in-None-clause-fitted : goal.returns-in-None-clause-fitted
+returns-in-None-clause-fitted g c files all fitting grid told_files told_meshes is_run =
+    c.fitting_laws.ensures.fitted (map string_bytes c.args.words.now) files fitting grid _ _ _ _ all _ is_run told_meshes
+    (returns-in-None-clause-outcome g c files (λ some. told_files)) (λ e. cc) (λ e. cc)
+
 -- words of a command
 
 pub returns-in-Some-clause-outcome : goal.returns-in-Some-clause-outcome
@@ -74,6 +79,11 @@ pub returns-in-Some-clause-certified : goal.returns-in-Some-clause-certified
 returns-in-Some-clause-certified g c files check grid told_files is_check done =
     c.run_laws.ensures.certified (map string_bytes c.args.words.now) files check grid _ _ _ _ _ is_check
     (returns-in-Some-clause-outcome g c files (λ some. told_files)) done
+
+pub returns-in-Some-clause-fitted : goal.returns-in-Some-clause-fitted
+returns-in-Some-clause-fitted g c files all fitting grid told_files told_meshes is_run =
+    c.fitting_laws.ensures.fitted (map string_bytes c.args.words.now) files fitting grid _ _ _ _ all _ is_run told_meshes
+    (returns-in-Some-clause-outcome g c files (λ some. told_files)) (returns-in-Some-clause-read_fault g c) (returns-in-Some-clause-no_memory g c)
 
 pub returns-in-Some-clause-engine : goal.returns-in-Some-clause-engine
 returns-in-Some-clause-engine g c =

@@ -1,0 +1,2 @@
+pub mod FittedLemmas
+pub mod TextLemmas
