@@ -4,8 +4,9 @@
 //
 // insertion: greedy insertion into a Delaunay triangulation (Garland and Heckbert 1995), the algorithm of delatin and happrox: the
 // point that is farthest off comes next. meshopt: meshopt_simplify of meshoptimizer on all triangles of the grid (Debian:
-// libmeshoptimizer-dev). GRID is a raw PGM file of two bytes a sample without comments. A line is printed: the triangles, the
-// greatest distance of the ground from the mesh at a grid point, straight up or down, and how many grid points no triangle covers.
+// libmeshoptimizer-dev), tuned, since its own measure is another: with SAY in the environment each trial is told. GRID is a raw
+// PGM file of two bytes a sample without comments. A line is printed: the triangles, the greatest distance of the ground from the
+// mesh at a grid point, straight up or down, and how many grid points no triangle covers.
 #include <meshoptimizer.h>
 
 #include <algorithm>
@@ -139,21 +140,57 @@ public:
     }
 };
 
-static std::vector<unsigned> simplified(double spacing, double error, int budget) {
+static double worst_of(const std::vector<unsigned> &found) {
+    double worst = 0;
+    for (size_t k = 0; k < found.size(); k += 3)
+        points_of(int(found[k]), int(found[k + 1]), int(found[k + 2]), [&](int, double off) { worst = std::max(worst, off); });
+    return worst;
+}
+
+// All triangles of the grid, simplified to a bound by its own measure, or to a target.
+class Simplified {
     std::vector<float> places;
     std::vector<unsigned> all;
-    for (int k = 0; k < side * side; k++) {
-        for (double it : {(k % side) * spacing, (side - 1 - k / side) * spacing, double(heights[k])}) places.push_back(float(it));
-        if (k % side < side - 1 && k / side < side - 1)
-            for (int it : {k, k + side, k + 1, k + 1, k + side, k + side + 1}) all.push_back(unsigned(it));
+    double scale;
+
+    std::vector<unsigned> run(double bound, size_t target) {
+        std::vector<unsigned> found(all.size());
+        float told = 0;
+        found.resize(meshopt_simplify(found.data(), all.data(), all.size(), places.data(), places.size() / 3, 12, 3 * target, float(bound / scale), 0, &told));
+        if (say) std::printf("bound %g target %zu told %g: triangles %zu error %g\n", bound, target, told * scale, found.size() / 3, worst_of(found));
+        return found;
     }
-    std::vector<unsigned> found(all.size());
-    size_t target = budget ? 3 * size_t(budget) : 0;
-    float bound = budget ? 1.0f : float(error / meshopt_simplifyScale(places.data(), places.size() / 3, 12)), told = 0;
-    found.resize(meshopt_simplify(found.data(), all.data(), all.size(), places.data(), places.size() / 3, 12, target, bound, 0, &told));
-    std::printf("told error %g ", told * meshopt_simplifyScale(places.data(), places.size() / 3, 12));
-    return found;
-}
+
+public:
+    bool say = false;
+
+    explicit Simplified(double spacing) {
+        for (int k = 0; k < side * side; k++) {
+            for (double it : {(k % side) * spacing, (side - 1 - k / side) * spacing, double(heights[k])}) places.push_back(float(it));
+            if (k % side < side - 1 && k / side < side - 1)
+                for (int it : {k, k + side, k + 1, k + 1, k + side, k + side + 1}) all.push_back(unsigned(it));
+        }
+        scale = meshopt_simplifyScale(places.data(), places.size() / 3, 12);
+    }
+
+    // The bound is lowered by 3 parts of 100 until the error that is measured is within the one wanted.
+    std::vector<unsigned> for_error(double error) {
+        for (double bound = error;; bound *= 0.97) {
+            std::vector<unsigned> found = run(bound, 0);
+            if (worst_of(found) <= error) return found;
+        }
+    }
+
+    // The best of forty targets from the budget down, by parts of a hundred of it.
+    std::vector<unsigned> for_budget(int budget) {
+        std::vector<unsigned> best;
+        for (int k = 0; k < 40; k++) {
+            std::vector<unsigned> found = run(scale, size_t(budget) * (100 - k) / 100);
+            if (found.size() <= 3 * size_t(budget) && (best.empty() || worst_of(found) < worst_of(best))) best = found;
+        }
+        return best;
+    }
+};
 
 int main(int count, char **words) {
     if (count != 6) return 2;
@@ -171,13 +208,18 @@ int main(int count, char **words) {
     bool by_error = !std::strcmp(words[4], "error");
     double error = by_error ? std::atof(words[5]) : 0;
     int budget = by_error ? 0 : std::atoi(words[5]);
-    std::vector<unsigned> found = !std::strcmp(words[3], "meshopt") ? simplified(std::atof(words[2]), error, budget)
-                                                                    : Insertion().until(error, by_error ? INT32_MAX : budget);
+    std::vector<unsigned> found;
+    if (!std::strcmp(words[3], "insertion")) {
+        found = Insertion().until(error, by_error ? INT32_MAX : budget);
+    } else {
+        Simplified all(std::atof(words[2]));
+        all.say = std::getenv("SAY") != nullptr;
+        found = by_error ? all.for_error(error) : all.for_budget(budget);
+    }
     std::vector<char> covered(heights.size());
-    double worst = 0;
     for (size_t k = 0; k < found.size(); k += 3)
-        points_of(int(found[k]), int(found[k + 1]), int(found[k + 2]), [&](int p, double off) { covered[size_t(p)] = 1; worst = std::max(worst, off); });
+        points_of(int(found[k]), int(found[k + 1]), int(found[k + 2]), [&](int p, double) { covered[size_t(p)] = 1; });
     long bare = 0;
     for (char it : covered) bare += !it;
-    std::printf("%s %s %s triangles %zu error %g bare %ld\n", words[3], words[4], words[5], found.size() / 3, worst, bare);
+    std::printf("%s %s %s triangles %zu error %g bare %ld\n", words[3], words[4], words[5], found.size() / 3, worst_of(found), bare);
 }

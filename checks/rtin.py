@@ -1,11 +1,11 @@
 """RTIN (Evans, Kirkpatrick, Townsend 2001) with the map of errors of MARTINI, over the triangles of this program: for a figure beside it.
 
-usage: python3 checks/rtin.py GRID.pgm error E.. budget B..    a line for each, as 'error 100 rtin 4231 error 99.9 map 57.5'
+usage: python3 checks/rtin.py GRID.pgm error E.. budget B.. map T..    a line for each, as 'error 100 rtin 4231 error 89 map 57'
 
 RTIN keeps a number for each grid point: how far the point is from the middle of the edge that it splits, or a point below it
 from its own, at most. The mesh of a tolerance splits each triangle whose point has a greater number. That is no bound of how
 far the ground is from the mesh, so the tolerance is tuned: from the greatest of the map down, each mesh is measured at all
-grid points. For an error the first mesh that keeps it is taken, which is the smallest; for a budget the best of all within.
+grid points. For an error the first mesh that keeps it is taken, which is the smallest; for a budget the best of all within. `map` takes a tolerance as it is.
 """
 import sys
 
@@ -81,13 +81,17 @@ class Errors:
 
 def main(grid, *words):
     n, _, heights = read_grid(grid)
-    m, errors, budgets, into = 2 ** n, {}, {}, None
+    m, asked = 2 ** n, {'error': {}, 'budget': {}, 'map': {}}
     for word in words:
-        if word in ('error', 'budget'):
-            into = errors if word == 'error' else budgets
+        if word in asked:
+            into = asked[word]
         else:
             into[float(word)] = None
+    errors, budgets, maps = asked.values()
     numbers, measured = map_of(heights, m), Errors(heights)
+    for tolerance in maps:
+        mesh = mesh_of(numbers, m, 2 * tolerance)
+        maps[tolerance] = len(mesh), max(map(measured.of, mesh)), 2 * tolerance
     for tolerance in sorted({*numbers.values(), 0}, reverse=True):
         mesh = mesh_of(numbers, m, tolerance)
         worst = max(map(measured.of, mesh))
@@ -99,8 +103,8 @@ def main(grid, *words):
                 budgets[budget] = len(mesh), worst, tolerance
         if None not in errors.values() and all(len(mesh) > budget for budget in budgets):
             break
-    for name, asked in ('error', errors), ('budget', budgets):
-        for value, (count, worst, tolerance) in asked.items():
+    for name, found in asked.items():
+        for value, (count, worst, tolerance) in found.items():
             print(f'{name} {value:g} rtin {count} error {worst:g} map {tolerance / 2:g}')
 
 
