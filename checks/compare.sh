@@ -1,6 +1,6 @@
 # shellcheck shell=bash disable=SC2154
-# The rows of `fit` and of RTIN in docs/COMPARISON.md are what the program and rtin.py make of the Jacksboro grid today, and
-# README.md tells the same of `fit`. Sourced by checks/run.
+# The rows of `fit` and of RTIN in docs/COMPARISON.md are what the program and rtin.py make of the Jacksboro grid today. Sourced by
+# checks/run.
 
 mkdir -- "$room/compare" && cd -- "$room/compare" || exit 1
 grid=$top/examples/jacksboro/grid.pgm
