@@ -75,6 +75,9 @@ if has dem_of_a_geotiff gdal_translate gdalwarp gdaltransform gdalsrsinfo gdalin
   has_told dem_of_a_geotiff_in_metres_keeps_its_system 'CH1903\+ / LV95, as in the file'
   gdalsrsinfo -o epsg metres.prj 2>/dev/null | grep -q 'EPSG:2056' &&
     ok dem_beside_a_mesh_is_its_system || wrong dem_beside_a_mesh_is_its_system "$(head -c 200 metres.prj)"
+  gdalwarp -q -t_srs EPSG:3857 -r bilinear degrees.tif map.tif 2>/dev/null
+  made dem_of_a_map_of_the_world map.ply 65 map.tif map.ply --triangles 1000 --side 65
+  has_told dem_of_a_map_of_the_world_is_warped 'EPSG:32632, warped from a map of the world'
   # The tile by GDAL and by our own series of UTM: the same grid, but for what a half cell at a hole and rounding do.
   python3 "$top/examples/dem.py" N36W085.hgt a.obj --triangles 2 --roam "$program" --grid a.pgm >told.a 2>/dev/null
   python3 - <<'PYTHON' >tile2.asc
@@ -109,6 +112,7 @@ refused dem_wants_a_known_form 'one of .obj .ply .glb .stl .npz is wanted' squar
 refused dem_wants_an_error_or_a_budget 'one of --error and --triangles' square.pgm out.obj --spacing 1
 refused dem_wants_a_spacing_of_a_pgm 'give --spacing METRES' square.pgm out.obj --error 1
 refused dem_wants_a_file 'no such file' nothing.pgm out.obj --error 1
+refused dem_wants_a_folder 'no such folder' square.pgm none/out.obj --spacing 1 --error 1
 refused dem_wants_a_window_within 'not within the 80 columns' low.npy out.obj --error 1 --spacing 1 --window 60,0,33
 refused dem_wants_an_error_above_its_rounding 'rounded by up to' low.npy out.obj --error 0.001 --spacing 1
 refused dem_wants_holes_to_be_told 'with --nodata' tile.npy out.obj --error 1 --spacing 1

@@ -158,14 +158,16 @@ class Raster:
         self.band = band.get('scale', 1), band.get('offset', 0), metres_of(band.get('unit', ''))
         self.nodata = [] if nodata is None else ['-srcnodata', str(nodata)]
         self.warp = []
-        if re.search(r'\+units=m( |$)', system):
+        stretched = re.search(r'\+proj=(merc|webmerc|eqc|cea)\b', system)  # whose metres are longer far from the equator
+        if re.search(r'\+units=m( |$)', system) and not stretched:
             self.wkt = gdal('gdalsrsinfo', '-o', 'wkt1', '--single-line', path).strip()
             self.system = f'{(re.findall(chr(34) + "([^" + chr(34) + "]*)", self.wkt) or ["unnamed"])[0]}, as in the file'
         else:
             middle = self.transformed([(self.columns / 2, self.rows / 2)], ['-t_srs', 'OGC:CRS84'])[0]
             utm = Utm(*middle)
             self.warp, self.wkt = ['-t_srs', f'EPSG:{utm.code}'], utm.wkt()
-            self.system = f'EPSG:{utm.code}, warped from {"degrees" if "+proj=longlat" in system else "another unit"}'
+            was = 'degrees' if '+proj=longlat' in system else 'a map of the world' if stretched else 'another unit'
+            self.system = f'EPSG:{utm.code}, warped from {was}'
         middle = self.columns // 2, self.rows // 2
         here, right, below = self.metres([middle, (middle[0] + 1, middle[1]), (middle[0], middle[1] + 1)])
         self.step = max(math.dist(here, right), math.dist(here, below))
@@ -526,7 +528,8 @@ def words_of():
              '--triangles is from 2 to 1048576': words.triangles is not None and not 2 <= words.triangles <= 1_048_576,
              '--error is 0 or more': words.error is not None and not 0 <= words.error < math.inf,
              '--spacing is above 0': words.spacing is not None and not 0 < words.spacing < math.inf,
-             f'IN is {words.file!r}, and no such file is there': not os.path.isfile(words.file)}
+             f'IN is {words.file!r}, and no such file is there': not os.path.isfile(words.file),
+             f'OUT is {words.out!r}, and no such folder is there': not pathlib.Path(words.out).parent.is_dir()}
     for text, is_so in wrong.items():
         if is_so:
             parser.error(text)
@@ -555,10 +558,13 @@ def main():
     origin = (x0, y0, 0.0)
     places = [(column * step, row * step, round(grid.base + height / grid.per_metre, 2)) for column, row, height in points]
     out = pathlib.Path(words.out)
-    with open(out, 'wb') as file:
-        WRITERS[out.suffix.lower()](file, places, corners, origin, source.system)
-    if source.wkt:
-        out.with_suffix('.prj').write_text(source.wkt + '\n')
+    try:
+        with open(out, 'wb') as file:
+            WRITERS[out.suffix.lower()](file, places, corners, origin, source.system)
+        if source.wkt:
+            out.with_suffix('.prj').write_text(source.wkt + '\n')
+    except OSError as why:
+        sys.exit(f'dem: {why}')
     unit = {100: 'centimetres', 10: 'decimetres', 1: 'metres'}[grid.per_metre]
     print(f'{out}: {len(corners) // 3} triangles, {len(places)} vertices, {length:.6g} m a side, heights {grid.low:.6g} to {grid.high:.6g} m')
     print(f'greatest error {error + grid.rounding:.6g} m, of which {grid.rounding:.2g} m for rounding to {unit}')
