@@ -11,10 +11,11 @@ import http.server
 import pathlib
 import re
 import struct
+import socket
 import sys
+import threading
 import time
 import webbrowser
-from concurrent.futures import ThreadPoolExecutor
 
 HERE = pathlib.Path(__file__).resolve().parent
 sys.path.insert(0, str(HERE.parents[1] / "lib" / "python"))
@@ -39,11 +40,11 @@ def read_pgm(path):
 
 
 class Flight:
-    """One engine, its ground and its last planes. One method at a time runs."""
+    """One engine, its ground and its last planes. One method at a time runs: who calls holds `lock`."""
 
     def __init__(self, engine_of, side, heights, most, spacing, report):
         self.engine_of, self.side, self.heights, self.spacing, self.most = engine_of, side, heights, spacing, most
-        self.report, self.edits, self.frames = report, 0, 0
+        self.report, self.edits, self.frames, self.lock = report, 0, 0, threading.Lock()
         self.corners, self.names = array.array("I", bytes(12 * most)), array.array("I", bytes(4 * most))
         self.open()
 
@@ -52,7 +53,7 @@ class Flight:
         self.engine, self.planes, self.budget = self.engine_of(self.heights, self.most, self.spacing), [], self.most
 
     def frame(self, numbers):
-        """budget, x, y, z, then a, b, c, d of each plane: 16 numbers of 32 bits, three corners and a name a triangle."""
+        """budget, x, y, z, then a, b, c, d of each plane: 16 numbers of 32 bits, three corners and a name a triangle, in parts."""
         if len(numbers) < 4 or len(numbers) % 4:
             raise ValueError(f"a frame is asked with {len(numbers)} numbers, and has to be with 4, 8, .. or 28")
         began, engine = time.perf_counter(), self.engine
@@ -79,7 +80,7 @@ class Flight:
         self.frames += 1
         if self.report:
             print(f"frame {self.frames} triangles {note.triangles} vertices {note.vertices} worst {note.worst}", flush=True)
-        return struct.pack("<Q14I", *note, *micros, self.edits, 0, 0) + corners + names
+        return struct.pack("<Q14I", *note, *micros, self.edits, 0, 0), corners, names
 
     def lift(self, numbers):
         """x, y, radius, dz: a hill of nested squares about a grid point, or a hole where dz is negative."""
@@ -97,25 +98,26 @@ class Flight:
                 for place in range(row * self.side + x0, row * self.side + x1 + 1):
                     self.heights[place] = min(65_535, max(0, self.heights[place] + step))
         self.edits += 1
-        return b""
+        return ()
 
     def ground(self, _):
         """side, spacing, most triangles and edits until now, then the heights, 16 bits each."""
-        return struct.pack("<4I", self.side, self.spacing, self.most, self.edits) + self.heights.tobytes()
+        return struct.pack("<4I", self.side, self.spacing, self.most, self.edits), self.heights.tobytes()
 
 
 class Handler(http.server.BaseHTTPRequestHandler):
     """Pages by GET, all else by POST with whole numbers of 64 bits, lowest byte first. Wrong ones get 4xx and a line."""
     protocol_version, disable_nagle_algorithm, timeout = "HTTP/1.1", True, 60
-    flight = worker = None
+    flight = None
 
-    def answer(self, status, body, kind="text/plain; charset=utf-8", spent=0.0):
-        self.send_response(status)
-        for name, value in {"Content-Type": kind, "Content-Length": len(body), "Cache-Control": "no-store",
+    def answer(self, status, *parts, kind="text/plain; charset=utf-8", spent=0.0):
+        self.send_response_only(status)
+        for name, value in {"Content-Type": kind, "Content-Length": sum(map(len, parts)), "Cache-Control": "no-store",
                             "Server-Timing": f"engine;dur={1000 * spent:.3f}"}.items():
             self.send_header(name, str(value))
         self.end_headers()
-        self.wfile.write(body)
+        for part in parts:  # not joined: a mesh has hundreds of kilobytes
+            self.wfile.write(part)
 
     def own(self):
         """Whether it is our page that asks, and no other site that reaches for this machine by a name of its own."""
@@ -128,7 +130,7 @@ class Handler(http.server.BaseHTTPRequestHandler):
         if not self.own():
             self.answer(403, b"this server answers its own page alone\n")
         elif page:
-            self.answer(200, (HERE / page[0]).read_bytes(), page[1])
+            self.answer(200, (HERE / page[0]).read_bytes(), kind=page[1])
         else:
             self.answer(404, b"there is /, /fly.js, and by POST /ground, /frame, /raise\n")
 
@@ -146,8 +148,10 @@ class Handler(http.server.BaseHTTPRequestHandler):
             if len(body) % 8:
                 raise ValueError(f"the body has {len(body)} bytes, and has to be whole numbers of 8 bytes each")
             numbers = struct.unpack(f"<{len(body) // 8}q", body)
-            began, found = time.perf_counter(), self.worker.submit(calls[self.path], numbers).result()
-            self.answer(200, found, "application/octet-stream", time.perf_counter() - began)
+            began = time.perf_counter()
+            with self.flight.lock:
+                found = calls[self.path](numbers)
+            self.answer(200, *found, kind="application/octet-stream", spent=time.perf_counter() - began)
         except ValueError as why:
             self.answer(400, f"{why}\n".encode())
 
@@ -176,23 +180,22 @@ def main():
         from roam import Engine
     except (ImportError, OSError) as why:
         sys.exit(f"fly.py: the library is not there: {why}\nBuild it by lib/build, or name it in ROAM_LIBRARY.")
-    with ThreadPoolExecutor(1) as worker:  # one call at a time uses the engine
-        try:
-            side, heights = read_pgm(words.grid)
-            Handler.flight = worker.submit(Flight, Engine, side, heights, words.triangles, words.spacing, words.report).result()
-            Handler.worker = worker
-            server = Server(("127.0.0.1", words.port), Handler)
-        except (ValueError, OSError, OverflowError, MemoryError) as why:
-            sys.exit(f"fly.py: {why}")
-        where = f"http://127.0.0.1:{server.server_port}/"
-        print(f"{where} (Ctrl-C ends it)", flush=True)
-        if not words.quiet:
-            webbrowser.open(where)
-        try:
-            server.serve_forever()
-        except KeyboardInterrupt:
-            print()
-        server.server_close()
+    try:
+        side, heights = read_pgm(words.grid)
+        Handler.flight = Flight(Engine, side, heights, words.triangles, words.spacing, words.report)
+        server = Server(("127.0.0.1", words.port), Handler)
+    except (ValueError, OSError, OverflowError, MemoryError) as why:
+        sys.exit(f"fly.py: {why}")
+    server.socket.setsockopt(socket.SOL_SOCKET, socket.SO_SNDBUF, 1 << 20)  # room for a mesh, so that sending it waits for nobody
+    where = f"http://127.0.0.1:{server.server_port}/"
+    print(f"{where} (Ctrl-C ends it)", flush=True)
+    if not words.quiet:
+        webbrowser.open(where)
+    try:
+        server.serve_forever()
+    except KeyboardInterrupt:
+        print()
+    server.server_close()
 
 
 if __name__ == "__main__":
