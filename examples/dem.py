@@ -510,11 +510,11 @@ def words_of():
             if len(found) != 3:
                 raise ValueError
             return found
-        read.__name__ = 'three numbers with commas'
+        read.__name__ = 'A,B,C'
         return read
 
-    parser.add_argument('file', help=argparse.SUPPRESS)
-    parser.add_argument('out', help=argparse.SUPPRESS)
+    parser.add_argument('file', metavar='IN', help=argparse.SUPPRESS)
+    parser.add_argument('out', metavar='OUT', help=argparse.SUPPRESS)
     for name, kind in {'error': float, 'triangles': int, 'side': int, 'spacing': float, 'window': three(int), 'camera': three(float),
                        'fill': float, 'nodata': float, 'grid': str, 'roam': str}.items():
         parser.add_argument('--' + name, type=kind, help=argparse.SUPPRESS)
