@@ -139,10 +139,10 @@ class Tile(Cells):
         return [self.utm.metres(self.west + self.degrees * column, self.north - self.degrees * row) for column, row in cells]
 
     def cells(self, xs, y):
-        """Exact at every 64th point, and between these in proportion: less than a hundredth of a cell off."""
-        columns, rows = [], []
-        for at in range(0, len(xs) - 1, 64):
-            end = min(at + 64, len(xs) - 1)
+        """Exact every two kilometres, and between these in proportion: off by less than half a metre."""
+        columns, rows, most = [], [], max(1, int(2000 / (xs[1] - xs[0])))
+        for at in range(0, len(xs) - 1, most):
+            end = min(at + most, len(xs) - 1)
             (a, b), (c, d) = self.utm.degrees(xs[at], y), self.utm.degrees(xs[end], y)
             parts = [k / (end - at) for k in range(end - at + (end == len(xs) - 1))]
             columns += [(a + (c - a) * part - self.west) / self.degrees for part in parts]
@@ -183,7 +183,7 @@ class Raster:
         half, end = step / 2, step * (side - 1) + step / 2
         with tempfile.TemporaryDirectory() as room:
             out = os.path.join(room, 'grid.img')
-            gdal('gdalwarp', '-q', '-of', 'ENVI', '-ot', 'Float32', '-r', 'bilinear', '-dstnodata', 'nan', *self.nodata, *self.warp,
+            gdal('gdalwarp', '-q', '-of', 'ENVI', '-ot', 'Float32', '-r', 'bilinear', '-et', '0', '-dstnodata', 'nan', *self.nodata, *self.warp,
                  '-te', repr(x0 - half), repr(y0 - half), repr(x0 + end), repr(y0 + end), '-ts', str(side), str(side), self.path, out)
             found = numbers_of('f', pathlib.Path(out).read_bytes(), '<')
         scale, offset, unit = self.band
