@@ -91,7 +91,7 @@ class Utm:
 
 class Cells:
     """Heights in memory (NaN where there is none), square cells `step` metres apart, (0, 0) at the last row's first one."""
-    wkt, system = '', 'no coordinate system'
+    wkt, system, warp = '', 'no coordinate system', False
 
     def __init__(self, columns, rows, heights, step):
         self.columns, self.rows, self.heights, self.step = columns, rows, heights, step
@@ -126,6 +126,7 @@ class Cells:
 
 class Tile(Cells):
     """Cells a part of a degree apart, from a north-western corner on, in UTM."""
+    warp = True
 
     def __init__(self, columns, rows, heights, west, north, degrees):
         self.west, self.north, self.degrees = west, north, degrees
@@ -156,12 +157,12 @@ class Raster:
     def __init__(self, path, told, system, nodata):
         self.path, (self.columns, self.rows), band = path, told['size'], told['bands'][0]
         self.band = band.get('scale', 1), band.get('offset', 0), metres_of(band.get('unit', ''))
-        self.nodata = [] if nodata is None else ['-srcnodata', str(nodata)]
-        self.warp = []
+        self.nodata, self.warp = [] if nodata is None else ['-srcnodata', str(nodata)], []
         stretched = re.search(r'\+proj=(merc|webmerc|eqc|cea)\b', system)  # whose metres are longer far from the equator
         if re.search(r'\+units=m( |$)', system) and not stretched:
             self.wkt = gdal('gdalsrsinfo', '-o', 'wkt1', '--single-line', path).strip()
-            self.system = f'{(re.findall(chr(34) + "([^" + chr(34) + "]*)", self.wkt) or ["unnamed"])[0]}, as in the file'
+            name = re.search('"([^"]*)"', self.wkt)
+            self.system = f'{name[1] if name else "unnamed"}, as in the file'
         else:
             middle = self.transformed([(self.columns / 2, self.rows / 2)], ['-t_srs', 'OGC:CRS84'])[0]
             utm = Utm(*middle)
@@ -185,7 +186,7 @@ class Raster:
             out = os.path.join(room, 'grid.img')
             gdal('gdalwarp', '-q', '-of', 'ENVI', '-ot', 'Float32', '-r', 'bilinear', '-et', '0', '-dstnodata', 'nan', *self.nodata, *self.warp,
                  '-te', repr(x0 - half), repr(y0 - half), repr(x0 + end), repr(y0 + end), '-ts', str(side), str(side), self.path, out)
-            found = numbers_of('f', pathlib.Path(out).read_bytes(), '<')
+            found = numbers_of('f', pathlib.Path(out).read_bytes()[:4 * side * side], '<')  # of the first band
         scale, offset, unit = self.band
         return found if (scale, offset, unit) == (1, 0, 1) else array.array('d', ((h * scale + offset) * unit for h in found))
 
@@ -206,8 +207,8 @@ def metres_of(unit):
     lengths = {'': 1, 'm': 1, 'metre': 1, 'meter': 1, 'metres': 1, 'meters': 1, 'cm': 0.01, 'ft': 0.3048, 'foot': 0.3048, 'feet': 0.3048,
                'ftus': 1200 / 3937, 'us-ft': 1200 / 3937, 'us survey foot': 1200 / 3937}
     if unit.lower() not in lengths:
-        sys.exit(f'dem: the raster says that its heights are in {unit!r}, which is not known here')
-    return lengths[unit.lower()]
+        say(f'the raster says that its heights are in {unit!r}, which is not known here: they are taken as metres')
+    return lengths.get(unit.lower(), 1)
 
 
 def numbers_of(code, data, order):
@@ -314,7 +315,7 @@ def square_of(source, window):
     if not length > 0:
         sys.exit('dem: no square with its sides to the north and east lies within the raster: warp it first (gdalwarp)')
     steps = (x1 - x0 - length) / 2, (y1 - y0 - length) / 2
-    if not source.wkt:  # whole cells, so that nothing is resampled where nothing has to be
+    if not source.warp:  # whole cells, so that nothing is resampled where nothing has to be
         steps = tuple(source.step * math.floor(it / source.step + 1e-6) for it in steps)
     return x0 + steps[0], y0 + steps[1], length
 
