@@ -13,12 +13,12 @@ use Rattle.run_laws.specs.Words.{Show, is_of_engine}
 use Rattle.run_laws.specs.Picture.{Picture, IsPicture, last_members}
 use Rattle.run_laws.specs.Act.{Told, Stands, IsCutShort}
 use Rattle.run_laws.specs.Outcome.{Outcome, picture_acts, sum_acts, engine_for, engine_end}
-use Rattle.run_files.specs.declared.showing.Showing.{Showing}
-use Rattle.run_files.specs.declared.showing.Showing.TheVariants.{Meshes, Strips, Measures}
+use Rattle.run_words.specs.declared.showing.Showing.{Showing}
+use Rattle.run_words.specs.declared.showing.Showing.TheVariants.{Meshes, Strips, Measures}
 use Rattle.roam_run.specs.EngineSeen.{engine_seen}
 use Rattle.roam_run.specs.EngineFrames.{EngineFollows, IsEngineReady}
 use Rattle.roam_run.specs.NoteSeen.{picture_seen, leaves_seen}
-use Rattle.run_files.specs.ShowView.{show_seen}
+use Rattle.run_words.specs.ShowView.{show_seen}
 use Rattle.roam_run.specs.ShowView.{is_strip}
 use Rattle.run_laws.specs.Promise.{is_complete, ends_script}
 use Rattle.run_laws.specs.Maker.{TakesFrame, Leaves, IsScriptEnd}

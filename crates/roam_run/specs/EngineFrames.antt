@@ -8,9 +8,9 @@ use Rattle.roam_script.specs.declared.limits.TheConstants.{MOST_FRAMES}
 use Rattle.run_laws.specs.Walk.{Walk}
 use Rattle.run_laws.specs.Words.{Show}
 use Rattle.run_laws.specs.Picture.{Picture}
-use Rattle.run_files.specs.declared.showing.Showing.{Showing}
+use Rattle.run_words.specs.declared.showing.Showing.{Showing}
 use Rattle.roam_run.specs.EngineSeen.{IsUnder, HasFollowed}
-use Rattle.run_files.specs.ShowView.{show_seen, IsShowing}
+use Rattle.run_words.specs.ShowView.{show_seen, IsShowing}
 use Rattle.roam_run.specs.ShowView.{is_strip}
 
 -- frames are shown so, and the engine has followed a walk whose frames showed these pictures

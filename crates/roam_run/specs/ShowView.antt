@@ -1,8 +1,8 @@
 -- Which frames are strips, and the lines of strips and measures from their numbers. This project's own.
 -- Words: is_strip, strip_numbers, measure_numbers.
 use Rattle.std.specs.Prelude.{ℕ, Bool, true, false, List, ◌++◌, codes, decimal}
-use Rattle.run_files.specs.declared.showing.Showing.{Showing}
-use Rattle.run_files.specs.declared.showing.Showing.TheVariants.{Meshes, Strips, Measures}
+use Rattle.run_words.specs.declared.showing.Showing.{Showing}
+use Rattle.run_words.specs.declared.showing.Showing.TheVariants.{Meshes, Strips, Measures}
 
 -- frames are shown as strips, which want room
 abbrev pub is_strip : Showing → Bool

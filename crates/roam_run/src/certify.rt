@@ -13,7 +13,7 @@ ghost use Rattle.run_laws.specs.Words.{OnGrid, Make};
 ghost use Rattle.run_laws.specs.Certify.{IsMade, makes_at};
 ghost use Rattle.run_laws.specs.Outcome.{text_outcome};
 ghost use Rattle.run_laws.specs.Promise.{seen, HasEnded, CommandReadFault, CommandNoMemory};
-ghost use Rattle.run_files.specs.CertifyView.{making_seen, AreInBounds};
+ghost use Rattle.run_words.specs.CertifyView.{making_seen, AreInBounds};
 ghost use Rattle.run_laws.specs.Maker.{DoesAs};
 ghost use Rattle.run_laws.specs.Leaving.{CommandEnds};
 ghost use Rattle.roam_run.specs.NoteSeen.{leaves_seen};
@@ -24,8 +24,9 @@ use pgm_grid::Grid;
 use plain_mesh::falling_laws;
 use roam_certify::make_cert;
 use roam_edge::{NoMemory, Shelf, Sink};
-use run_files::{GridStop, MakeWords, end_with_text, grid_report, read_grid};
+use run_files::{GridStop, end_with_text, grid_report, read_grid};
 use run_laws::Status;
+use run_words::MakeWords;
 use std::alloc::Global;
 
 /// Carries out the command `certify make`. All memory is taken before the first byte is written.

@@ -7,7 +7,7 @@ ghost use Rattle.wedgie_tree.specs.declared.wedges.TheConstants.{GREATEST_SPACIN
 ghost use Rattle.run_laws.specs.Walk.{start_walk};
 ghost use Rattle.run_laws.specs.Words.{least_budget, greatest_budget};
 ghost use Rattle.roam_run.specs.EngineFrames.{IsEngineReady, IsUnderEngine, EngineFollows};
-ghost use Rattle.run_files.specs.ShowView.{show_seen, IsShowing};
+ghost use Rattle.run_words.specs.ShowView.{show_seen, IsShowing};
 ghost use Rattle.roam_run.specs.ShowView.{is_strip};
 
 use crate::carry::carry_out;
@@ -17,8 +17,8 @@ use frame_loop::Engine;
 use pgm_grid::Grid;
 use roam_edge::{Failed, MeshSink, NoMemory, Sink};
 use roam_script::{Limits, Line};
-use run_files::Showing;
 use run_script::FrameMaker;
+use run_words::Showing;
 use std::alloc::Global;
 
 /// An engine, and how its frames are shown.

@@ -9,7 +9,7 @@ ghost use Rattle.run_laws.specs.Outcome.{picture_acts};
 ghost use Rattle.mesh_defs.specs.ClosedSet.{IsClosed, among};
 ghost use Rattle.roam_mesh.specs.Mesh.{pool_members};
 ghost use Rattle.roam_run.specs.NoteSeen.{picture_seen, leaves_seen, IsNoted};
-ghost use Rattle.run_files.specs.ShowView.{show_seen, IsShowing};
+ghost use Rattle.run_words.specs.ShowView.{show_seen, IsShowing};
 ghost use Rattle.roam_run.specs.ShowView.{is_strip};
 
 use crate::report::frame_report;
@@ -18,7 +18,7 @@ use bintree_addr::Tri;
 use frame_loop::{Engine, FrameNote};
 use obj_write::write_mesh;
 use roam_edge::{Failed, MeshSink, Sink};
-use run_files::Showing;
+use run_words::Showing;
 
 /// Shows the frame that an engine made last, of which this is the note. A strip is put to the front of the room.
 pub(crate) fn show_frame<M: MeshSink, R: Sink>(

@@ -16,9 +16,9 @@ ghost use Rattle.run_laws.specs.Promise.{Seen, seen, AreFiles, EndsRight, HasEnd
 ghost use Rattle.run_laws.specs.Headline.{IsScriptRunOf, IsRunOf, KeepsGoodMeshes, IsCheckOf, IsCertifiedMesh, IsFitRunOf, KeepsFitMesh};
 ghost use Rattle.roam_run.specs.EngineSeen.{engine_seen};
 ghost use Rattle.run_laws.specs.Leaving.{CommandEnds};
-ghost use Rattle.run_files.specs.WordView.{show_for, scripted_seen, command_seen, IsFrameCommand};
-ghost use Rattle.run_files.specs.WordView.{IsAccepted as IsAcceptedCommand};
-ghost use Rattle.run_files.specs.ShowView.{show_seen, IsShowing};
+ghost use Rattle.run_words.specs.WordView.{show_for, scripted_seen, command_seen, IsFrameCommand};
+ghost use Rattle.run_words.specs.WordView.{IsAccepted as IsAcceptedCommand};
+ghost use Rattle.run_words.specs.ShowView.{show_seen, IsShowing};
 
 use crate::certify::run_make;
 use crate::engine_frames::EngineFrames;
@@ -27,13 +27,11 @@ use crate::report::try_report;
 use frame_loop::Engine;
 use roam_edge::{MeshSink, Shelf, Sink};
 use run_check::run_check;
+use run_files::{GridStop, end_with_text, grid_report, read_grid, run_info};
 use run_fit::run_fit;
-use run_files::{
-    Command, FrameWords, GridStop, Making, Showing, command_in, end_with_text, grid_report,
-    read_grid, run_info,
-};
 use run_laws::{Status, cut_short_laws, fitting_laws, run_laws, state_laws};
 use run_script::{run_least, run_script};
+use run_words::{Command, FrameWords, Making, Showing, command_in};
 use std::alloc::Global;
 
 /// What a run answers.

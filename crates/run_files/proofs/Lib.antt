@@ -1,4 +1,3 @@
-pub mod WordLemmas
 pub mod InfoLemmas
 pub mod ReadingLemmas
 pub mod CertStageLemmas

@@ -1,29 +1,21 @@
-//! The words of a command line, the files that they name, and the lines of the report that tell of no frame.
+//! The files that a command line names, and the lines of the report that tell of no frame.
 //!
-//! For the crates that carry a command out. Words are read into a command. Grids and certificates are read from a shelf, in pieces, to
+//! For the crates that carry a command out. Grids and certificates are read from a shelf, in pieces, to
 //! their end or their first refusal. A text that ends a run is written here, and so is the whole command `info`. Nothing here knows
 //! what makes a frame.
 
 #![tactic(auto)]
 
 mod cert_file;
-mod certify_words;
 mod end;
-mod fit_words;
 mod grid_file;
 mod info;
 mod report;
-mod showing;
 mod text;
-mod words;
 
 pub use cert_file::{CertStop, read_cert};
-pub use certify_words::{CheckWords, MakeWords};
 pub use end::end_with_text;
-pub use fit_words::{FitWords, Target};
 pub use grid_file::{GridStop, PIECE, read_grid};
 pub use info::run_info;
 pub use report::{grid_report, line_report, push_placed};
-pub use showing::{Making, Showing};
 pub use text::{TEXT_ROOM, Text};
-pub use words::{Command, FrameWords, command_in};

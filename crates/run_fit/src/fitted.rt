@@ -4,13 +4,13 @@ ghost use Rattle.std.specs.Prelude.{◌≡◌, ◌*◌, ◌^◌, ◌≤◌, IfOk
 ghost use Rattle.mesh_defs.specs.declared.level.TheConstants.{GREATEST_LEVEL};
 ghost use Rattle.run_laws.specs.Words.{greatest_error};
 ghost use Rattle.run_laws.specs.Fit.{tolerance_of};
-ghost use Rattle.run_files.specs.FitView.{target_seen, IsTarget};
+ghost use Rattle.run_words.specs.FitView.{target_seen, IsTarget};
 ghost use Rattle.run_fit.specs.FittedSeen.{IsFittedTo, tolerance_for, budget_for};
 
 use fit_mesh::{Fit, FitNote};
 use pgm_grid::Grid;
 use roam_edge::NoMemory;
-use run_files::Target;
+use run_words::Target;
 use std::alloc::Global;
 use wedgie_tree::Wedges;
 

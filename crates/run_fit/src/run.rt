@@ -7,7 +7,7 @@ ghost use Rattle.run_laws.specs.Cause.{StatusHasCause, WritesHaveCause};
 ghost use Rattle.run_laws.specs.Words.{OnGrid, Fit};
 ghost use Rattle.run_laws.specs.Promise.{seen, HasEnded, CommandReadFault, CommandNoMemory};
 ghost use Rattle.run_laws.specs.Leaving.{CommandEnds};
-ghost use Rattle.run_files.specs.FitView.{fitting_seen, IsFitting};
+ghost use Rattle.run_words.specs.FitView.{fitting_seen, IsFitting};
 ghost use Rattle.run_fit.specs.FittedSeen.{fitted_acts};
 
 use crate::fitted::Fitted;
@@ -15,8 +15,9 @@ use crate::report::fit_report;
 use cull_marks::Planes;
 use obj_write::{MeshView, write_mesh};
 use roam_edge::{Failed, MeshSink, Shelf, Sink};
-use run_files::{FitWords, GridStop, end_with_text, grid_report, read_grid};
+use run_files::{GridStop, end_with_text, grid_report, read_grid};
 use run_laws::Status;
+use run_words::FitWords;
 use std::alloc::Global;
 
 /// Carries out the command `fit`: reads a grid, writes the best mesh of it for the error or the budget of the words, and then one line

@@ -13,7 +13,7 @@ use Rattle.run_laws.specs.Walk.{Walk}
 use Rattle.run_laws.specs.Words.{Show, AsLeast}
 use Rattle.run_laws.specs.Picture.{Picture}
 use Rattle.run_script.specs.declared.least_frames.LeastFrames.{LeastFrames}
-use Rattle.run_files.specs.ShowView.{IsPrefixLength}
+use Rattle.run_words.specs.ShowView.{IsPrefixLength}
 
 -- what is seen, and the budget in force
 abbrev pub state_seen : LeastFrames → State

@@ -13,7 +13,7 @@ ghost use Rattle.run_laws.specs.Act.{told, Stands, IsCutShort};
 ghost use Rattle.run_laws.specs.Cause.{WritesHaveCause};
 ghost use Rattle.run_laws.specs.Walk.{start_walk, state_after};
 ghost use Rattle.run_laws.specs.Words.{AsLeast};
-ghost use Rattle.run_files.specs.ShowView.{IsPrefixLength};
+ghost use Rattle.run_words.specs.ShowView.{IsPrefixLength};
 ghost use Rattle.run_script.specs.LeastSeen.{state_seen, IsUnderLeast, LeastFollows, IsLeastReady, IsLeastNoted, least_numbers, least_acts};
 
 use crate::maker::FrameMaker;

@@ -7,14 +7,15 @@ ghost use Rattle.run_laws.specs.Cause.{StatusHasCause};
 ghost use Rattle.run_laws.specs.Words.{OnGrid, Frames, AsLeast};
 ghost use Rattle.run_laws.specs.Promise.{seen, HasEnded, OpensForStatus, CommandReadFault, CommandNoMemory};
 ghost use Rattle.run_laws.specs.Leaving.{CommandEnds};
-ghost use Rattle.run_files.specs.ShowView.{IsPrefixLength};
-ghost use Rattle.run_files.specs.WordView.{show_for, scripted_seen, IsFrameCommand};
+ghost use Rattle.run_words.specs.ShowView.{IsPrefixLength};
+ghost use Rattle.run_words.specs.WordView.{show_for, scripted_seen, IsFrameCommand};
 
 use crate::least_frames::LeastFrames;
 use crate::script::run_script;
 use roam_edge::{MeshSink, Shelf, Sink};
-use run_files::{FrameWords, GridStop, end_with_text, grid_report, read_grid};
+use run_files::{GridStop, end_with_text, grid_report, read_grid};
 use run_laws::{Status, state_laws};
+use run_words::FrameWords;
 use std::alloc::Global;
 
 /// Carries out the command `least`, whose meshes have this prefix and are the least ones of this tolerance.

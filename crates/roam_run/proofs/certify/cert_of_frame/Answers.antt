@@ -8,7 +8,7 @@ use Rattle.view_priority.specs.Camera.{view_from}
 use Rattle.certificate_laws.specs.Certificate.{IsOptimal, IsSound}
 use Rattle.certificate_laws.proofs.MakeLemmas.{optimal-best}
 use Rattle.run_laws.specs.Certify.{makes_at}
-use Rattle.run_files.specs.CertifyView.{making_seen}
+use Rattle.run_words.specs.CertifyView.{making_seen}
 use Rattle.roam_run.proofs.CertifyLemmas.{made-of}
 use Rattle.roam_run.proofs.certify.cert_of_frame.Goals as goal
 

@@ -6,7 +6,7 @@ use Rattle.mesh_defs.specs.BestMesh.{IsBestMesh}
 use Rattle.mesh_defs.specs.State.{State, with_camera, priority_in}
 use Rattle.frame_loop.specs.Engine.{EngineState}
 use Rattle.run_laws.specs.Certify.{makes_at, IsMade}
-use Rattle.run_files.specs.CertifyView.{making_seen}
+use Rattle.run_words.specs.CertifyView.{making_seen}
 use Rattle.roam_run.specs.NoteSeen.{leaves_seen}
 use Rattle.roam_run.proofs.CertifyLemmas.{worst-frame, best-frame}
 use Rattle.roam_run.proofs.certify.certificate_of.Goals as goal

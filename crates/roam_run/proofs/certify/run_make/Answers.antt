@@ -1,7 +1,7 @@
 use Rattle.std.proofs.Common.{Err, ◌∙◌, ap}
 use Rattle.run_laws.specs.Words.{Job, Make}
 use Rattle.run_laws.specs.ReportText.{grid_refusal}
-use Rattle.run_files.specs.CertifyView.{making_seen}
+use Rattle.run_words.specs.CertifyView.{making_seen}
 use Rattle.run_laws.proofs.GridLemmas.{next_count-one, refused-ends, grid-fault, grid-memory}
 use Rattle.roam_run.proofs.CertifyLemmas.{make-ends}
 use Rattle.roam_run.proofs.certify.run_make.Goals as goal

@@ -4,7 +4,7 @@ use Rattle.run_laws.specs.ReportText.{grid_refusal}
 use Rattle.roam_run.specs.EngineSeen.{engine_seen}
 use Rattle.roam_run.specs.EngineFrames.{EngineFollows}
 use Rattle.run_laws.specs.Maker.{TellsFrames, Leaves}
-use Rattle.run_files.specs.WordView.{scripted_seen}
+use Rattle.run_words.specs.WordView.{scripted_seen}
 use Rattle.run_laws.proofs.GridLemmas.{next_count-one, next_count-two, refused-ends, grid-fault, first_walk, first-begins, script-ends, script-fault}
 use Rattle.roam_run.proofs.ShowingLemmas.{left-some, sum-none, leaves-engine}
 use Rattle.roam_run.proofs.run.run_engine.Goals as goal

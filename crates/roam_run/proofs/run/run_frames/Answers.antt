@@ -1,5 +1,5 @@
 use Rattle.std.proofs.Common.{ap}
-use Rattle.run_files.specs.WordView.{show_for}
+use Rattle.run_words.specs.WordView.{show_for}
 use Rattle.roam_run.proofs.run.run_frames.Goals as goal
 
 pub run_least-status-requires-clause-shown : goal.run_least-status-requires-clause-shown

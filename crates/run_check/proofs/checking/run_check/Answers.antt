@@ -1,7 +1,7 @@
 use Rattle.std.proofs.Common.{Err, ◌∙◌, ap}
 use Rattle.run_laws.specs.Words.{Job, Check, Checking}
 use Rattle.run_laws.specs.ReportText.{grid_refusal}
-use Rattle.run_files.specs.CertifyView.{checking_seen}
+use Rattle.run_words.specs.CertifyView.{checking_seen}
 use Rattle.run_check.specs.Judging.{opened_for}
 use Rattle.run_laws.proofs.GridLemmas.{next_count-one, refused-ends, grid-fault}
 use Rattle.run_check.proofs.JudgingLemmas.{check-ends, check-memory, check-fault}

@@ -3,7 +3,7 @@ use Rattle.run_laws.specs.Words.{Show, Frames, Scripted}
 use Rattle.run_laws.specs.ReportText.{grid_refusal}
 use Rattle.run_laws.specs.Maker.{TellsFrames, Leaves}
 use Rattle.run_laws.proofs.GridLemmas.{next_count-one, next_count-two, refused-ends, grid-fault, first_walk, first-begins, script-ends, script-fault}
-use Rattle.run_files.specs.WordView.{scripted_seen}
+use Rattle.run_words.specs.WordView.{scripted_seen}
 use Rattle.run_script.specs.LeastSeen.{LeastFollows}
 use Rattle.run_script.proofs.LeastLemmas.{none-left}
 use Rattle.run_script.proofs.least_run.run_least.Goals as goal

@@ -1,6 +1,6 @@
 use Rattle.std.proofs.Common.{string_bytes, sym, ◌∙◌, arith}
-use Rattle.run_files.proofs.WordLemmas.{eight-words, make-of}
-use Rattle.run_files.proofs.certify_words.make_words.Goals as goal
+use Rattle.run_words.proofs.WordLemmas.{eight-words, make-of}
+use Rattle.run_words.proofs.certify_words.make_words.Goals as goal
 
 pub returns-else-not-is_task-clause-value : goal.returns-else-not-is_task-clause-value
 returns-else-not-is_task-clause-value c =

@@ -3,8 +3,8 @@
 use Rattle.std.specs.Prelude.{ℕ, ◌≤◌}
 use Rattle.wedgie_tree.specs.declared.wedges.TheConstants.{GREATEST_SPACING}
 use Rattle.run_laws.specs.Words.{Making, Checking, least_budget, greatest_budget}
-use Rattle.run_files.specs.declared.certify_words.MakeWords.{MakeWords}
-use Rattle.run_files.specs.declared.certify_words.CheckWords.{CheckWords}
+use Rattle.run_words.specs.declared.certify_words.MakeWords.{MakeWords}
+use Rattle.run_words.specs.declared.certify_words.CheckWords.{CheckWords}
 
 -- what a certificate is made for
 abbrev pub making_seen : MakeWords → Making

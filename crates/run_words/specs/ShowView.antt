@@ -3,8 +3,8 @@
 use Rattle.std.specs.Prelude.{ℕ, ◌<◌, ◌≤◌, List, length}
 use Rattle.roam_edge.specs.declared.mesh_sink.TheConstants.{LONGEST_PREFIX}
 use Rattle.run_laws.specs.Words.{Show, AsMeshes, AsStrips, AsMeasures}
-use Rattle.run_files.specs.declared.showing.Showing.{Showing}
-use Rattle.run_files.specs.declared.showing.Showing.TheVariants.{Meshes, Strips, Measures}
+use Rattle.run_words.specs.declared.showing.Showing.{Showing}
+use Rattle.run_words.specs.declared.showing.Showing.TheVariants.{Meshes, Strips, Measures}
 
 -- a prefix has at least 1 byte, and no more than a mesh sink takes
 abbrev pub IsPrefixLength : List ℕ → Type 0

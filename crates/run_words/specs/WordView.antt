@@ -3,14 +3,14 @@
 use Rattle.std.specs.Prelude.{◌≤◌}
 use Rattle.mesh_defs.specs.declared.level.TheConstants.{GREATEST_LEVEL}
 use Rattle.wedgie_tree.specs.declared.wedges.TheConstants.{GREATEST_SPACING}
-use Rattle.run_files.specs.declared.words.FrameWords.{FrameWords}
-use Rattle.run_files.specs.declared.words.Command.{Command}
-use Rattle.run_files.specs.declared.words.Command.TheVariants.{Frames, Info, Try, Make, Check, Fit}
-use Rattle.run_files.specs.declared.showing.Making.{Making}
-use Rattle.run_files.specs.declared.showing.Making.TheVariants.{ByEngine, ByTolerance}
-use Rattle.run_files.specs.ShowView.{IsPrefixLength, show_seen, IsShowing}
-use Rattle.run_files.specs.CertifyView.{making_seen, checking_seen, AreInBounds}
-use Rattle.run_files.specs.FitView.{fitting_seen, IsFitting}
+use Rattle.run_words.specs.declared.words.FrameWords.{FrameWords}
+use Rattle.run_words.specs.declared.words.Command.{Command}
+use Rattle.run_words.specs.declared.words.Command.TheVariants.{Frames, Info, Try, Make, Check, Fit}
+use Rattle.run_words.specs.declared.showing.Making.{Making}
+use Rattle.run_words.specs.declared.showing.Making.TheVariants.{ByEngine, ByTolerance}
+use Rattle.run_words.specs.ShowView.{IsPrefixLength, show_seen, IsShowing}
+use Rattle.run_words.specs.CertifyView.{making_seen, checking_seen, AreInBounds}
+use Rattle.run_words.specs.FitView.{fitting_seen, IsFitting}
 use Rattle.run_laws.specs.Words as words
 
 -- how frames are shown

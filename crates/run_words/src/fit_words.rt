@@ -3,8 +3,8 @@
 ghost use Rattle.std.specs.Prelude.{◌≡◌, ◌≤◌, if◌then◌else◌, IfSome};
 ghost use Rattle.std.specs.Option.{option_map};
 ghost use Rattle.run_laws.specs.Words.{error_word, greatest_error, target_word, fit_words};
-ghost use Rattle.run_files.specs.FitView.{target_seen, IsTarget};
-ghost use Rattle.run_files.specs.WordView.{command_seen, IsAccepted};
+ghost use Rattle.run_words.specs.FitView.{target_seen, IsTarget};
+ghost use Rattle.run_words.specs.WordView.{command_seen, IsAccepted};
 
 use crate::words::{Command, GREATEST_BUDGET, LEAST_BUDGET, is_prefix, small_number};
 use roam_num::read_thousandths;
@@ -66,11 +66,7 @@ fn target_in(word: &str, number: &str) -> Option<Target>
     if word == "error" {
         Some(Target::AtError(error_in(number)?))
     } else if word == "budget" {
-        Some(Target::InBudget(small_number(
-            number,
-            LEAST_BUDGET,
-            GREATEST_BUDGET,
-        )?))
+        Some(Target::InBudget(small_number(number, LEAST_BUDGET, GREATEST_BUDGET)?))
     } else {
         None
     }

@@ -1,7 +1,7 @@
 use Rattle.std.proofs.Common.{string_bytes, sym, rules}
-use Rattle.run_files.proofs.WordLemmas.{none-of-few, none-of-four, none-of-many, none-of-two, none-of-three, none-of-five}
-use Rattle.run_files.proofs.words.short_command_in.Goals as goal
-use Rattle.run_files.proofs.words.short_command_in.Goals.{in_default-via-then-words-lt2, in_default-via-in-len2+else-eq, in_default-via-in-len3+else-eq-2, in_default-via-else-words-lt2+else-words-lt3+else-words-lt4+then-words-lt5, in_default-via-in-len5+else-eq-3, in_default-via-else-words-lt2+else-words-lt3+else-words-lt4+else-words-lt5+else-words-lt6+else-words-lt7}
+use Rattle.run_words.proofs.WordLemmas.{none-of-few, none-of-four, none-of-many, none-of-two, none-of-three, none-of-five}
+use Rattle.run_words.proofs.words.short_command_in.Goals as goal
+use Rattle.run_words.proofs.words.short_command_in.Goals.{in_default-via-then-words-lt2, in_default-via-in-len2+else-eq, in_default-via-in-len3+else-eq-2, in_default-via-else-words-lt2+else-words-lt3+else-words-lt4+then-words-lt5, in_default-via-in-len5+else-eq-3, in_default-via-else-words-lt2+else-words-lt3+else-words-lt4+else-words-lt5+else-words-lt6+else-words-lt7}
 
 pub returns-in_default-clause-value : goal.returns-in_default-clause-value
 returns-in_default-clause-value c = elim c.in_default.branch [

@@ -4,10 +4,10 @@ use Rattle.std.specs.Prelude.{◌≤◌}
 use Rattle.wedgie_tree.specs.declared.wedges.TheConstants.{GREATEST_SPACING}
 use Rattle.run_laws.specs.Words.{Fitting, least_budget, greatest_budget, greatest_error}
 use Rattle.run_laws.specs.Words as words
-use Rattle.run_files.specs.declared.fit_words.FitWords.{FitWords}
-use Rattle.run_files.specs.declared.fit_words.Target.{Target}
-use Rattle.run_files.specs.declared.fit_words.Target.TheVariants.{AtError, InBudget}
-use Rattle.run_files.specs.ShowView.{IsPrefixLength}
+use Rattle.run_words.specs.declared.fit_words.FitWords.{FitWords}
+use Rattle.run_words.specs.declared.fit_words.Target.{Target}
+use Rattle.run_words.specs.declared.fit_words.Target.TheVariants.{AtError, InBudget}
+use Rattle.run_words.specs.ShowView.{IsPrefixLength}
 
 -- what a mesh is fitted to
 abbrev pub target_seen : Target → words.Target

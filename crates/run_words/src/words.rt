@@ -4,8 +4,8 @@ ghost use Rattle.std.specs.Prelude.{◌≡◌, ◌≤◌, if◌then◌else◌, t
 ghost use Rattle.std.specs.Option.{option_map};
 ghost use Rattle.run_laws.specs.Words.{command_of, frames_command, least_budget, greatest_budget, least_command, meshes_command, number_word, spacing_word, tolerance_word};
 ghost use Rattle.run_laws.specs.Words.{is_prefix as is_prefix_seen};
-ghost use Rattle.run_files.specs.ShowView.{IsPrefixLength};
-ghost use Rattle.run_files.specs.WordView.{command_seen, show_for, IsMaking, IsAccepted};
+ghost use Rattle.run_words.specs.ShowView.{IsPrefixLength};
+ghost use Rattle.run_words.specs.WordView.{command_seen, show_for, IsMaking, IsAccepted};
 
 use crate::certify_words::{CheckWords, MakeWords, certify_in};
 use crate::fit_words::{FitWords, fit_in};

@@ -1,0 +1,4 @@
+pub mod WordView
+pub mod ShowView
+pub mod CertifyView
+pub mod FitView

@@ -1,0 +1,16 @@
+//! The words of a command line, read into a command.
+//!
+//! For the crates that carry a command out. Nothing here opens a file, and nothing knows what makes a frame. It is a crate beside
+//! `run_files`, and not a part of it, so that the two are proved side by side.
+
+#![tactic(auto)]
+
+mod certify_words;
+mod fit_words;
+mod showing;
+mod words;
+
+pub use certify_words::{CheckWords, MakeWords};
+pub use fit_words::{FitWords, Target};
+pub use showing::{Making, Showing};
+pub use words::{Command, FrameWords, command_in};
