@@ -5,7 +5,7 @@ use cert_text::{Cert, CertReader};
 use certificate_laws::certificate_laws;
 use cull_marks::Planes;
 use plain_mesh::plain_frame;
-use roam_certify::{Reject, Verdict, check, make_cert};
+use roam_certify::{Reject, Verdict, certify_mesh, check, make_cert};
 use std::alloc::Global;
 use std::test::Fail;
 use view_priority::Camera;
@@ -79,21 +79,42 @@ fn each_cause_of_a_rejection_is_told(rt: HostRuntime) -> Result<(), Fail> {
 
 /// The certificate of the best mesh of 8 triangles of the grid of side 4 with a hill at the lower border. That mesh stops at 17, which
 /// needs 9.
-fn made_cert(alloc: Global) -> Result<Cert, Fail> {
+fn cert_of_mesh(alloc: Global) -> Result<Cert, Fail> {
     certificate_laws();
     let camera = Camera::new(0, 0, 0).ok_or("a camera")?;
     let wedges = hill(alloc, 2, 1, 0)?;
     let frame = plain_frame(alloc, &wedges, &camera, 1, &Planes::none(), 8)?;
     let leaves = frame.split.leaves(alloc)?;
-    Ok(make_cert(alloc, &wedges, &camera, 1, 8, leaves, frame.worst)?)
+    Ok(certify_mesh(alloc, &wedges, &camera, 1, 8, leaves, frame.worst)?)
+}
+
+/// The certificate that is made of the same grid for the same budget.
+fn cert_of_budget(alloc: Global) -> Result<Cert, Fail> {
+    let camera = Camera::new(0, 0, 0).ok_or("a camera")?;
+    let wedges = hill(alloc, 2, 1, 0)?;
+    Ok(make_cert(alloc, &wedges, &camera, 1, 8)?)
+}
+
+/// Where the camera of a certificate is, whether its leaves are these, and how many reasons it has.
+fn parts_of(cert: &Cert, leaves: &[u32]) -> ((i64, i64, i64), bool, usize) {
+    let camera = cert.camera();
+    let listed = cert.leaves();
+    let are_same = listed
+        .iter()
+        .zip(leaves)
+        .all(|(t, number)| t.number() == *number);
+    (
+        (camera.x(), camera.y(), camera.z()),
+        listed.len() == leaves.len() && are_same,
+        cert.reasons().len(),
+    )
 }
 
 #[test]
-fn a_certificate_is_made(rt: HostRuntime) -> Result<(), Fail> {
-    let cert = made_cert(rt.alloc())?;
-    let found = (cert.leaves().len(), cert.reasons().len());
-    assert_eq!(rt; found, (8, 7));
-    let camera = cert.camera();
-    assert_eq!(rt; (camera.x(), camera.y(), camera.z()), (0, 0, 0));
+fn a_certificate_is_made_of_a_mesh_or_of_a_budget(rt: HostRuntime) -> Result<(), Fail> {
+    let leaves = [16, 17, 9, 10, 22, 23, 6, 7];
+    let want = ((0, 0, 0), true, 7);
+    assert_eq!(rt; parts_of(&cert_of_mesh(rt.alloc())?, &leaves), want);
+    assert_eq!(rt; parts_of(&cert_of_budget(rt.alloc())?, &leaves), want);
     Ok(())
 }

@@ -1,8 +1,8 @@
 //! Certificates of optimality over a grid: a checker that is exact, and a maker whose certificates are sound.
 //!
 //! A certificate is a camera, a mesh and reasons. The checker looks whether the mesh is conforming by one flag an
-//! address, and at each reason by those before it; the maker is given an optimal mesh, and lists its reasons by a
-//! queue. What a sound certificate proves stands below, in `certificate_laws`; who finds the mesh is no matter here.
+//! address, and at each reason by those before it; a maker is given an optimal mesh, or makes the greedy one, and lists
+//! reasons by a queue. What a sound certificate proves stands below, in `certificate_laws`.
 
 #![tactic(auto)]
 
@@ -13,7 +13,7 @@ mod making;
 mod sight;
 mod verdict;
 
-pub use cert::make_cert;
+pub use cert::{certify_mesh, make_cert};
 pub use cert_text::{Cert, CertFault, CertReader, write_cert};
 pub use certificate_laws::{Kind, Reason, Reject, Verdict};
 pub use verdict::check;

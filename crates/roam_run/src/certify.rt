@@ -22,7 +22,7 @@ use cert_text::{Cert, write_cert};
 use frame_loop::Engine;
 use pgm_grid::Grid;
 use plain_mesh::falling_laws;
-use roam_certify::make_cert;
+use roam_certify::certify_mesh;
 use roam_edge::{NoMemory, Shelf, Sink};
 use run_files::{GridStop, end_with_text, grid_report, read_grid};
 use run_laws::Status;
@@ -105,7 +105,7 @@ fn cert_of_frame(
 {
     let view = engine.view();
     let leaves = view.leaves.to_vec(alloc)?;
-    make_cert(
+    certify_mesh(
         alloc,
         view.wedges,
         &words.camera,

@@ -12,8 +12,8 @@ use Rattle.run_words.specs.CertifyView.{making_seen}
 use Rattle.roam_run.proofs.CertifyLemmas.{made-of}
 use Rattle.roam_run.proofs.certify.cert_of_frame.Goals as goal
 
-pub make_cert-requires-clause-optimal : goal.make_cert-requires-clause-optimal
-make_cert-requires-clause-optimal c =
+pub certify_mesh-requires-clause-optimal : goal.certify_mesh-requires-clause-optimal
+certify_mesh-requires-clause-optimal c =
     let words = c.args.words.now in
     let grid : HeightField = c.args.engine.now.state.grid in
     let listed = c.in_ok-leaves.ensures.items_if_clones_equal (λ x y h. h) ∙ c.view-view.ensures.members in
@@ -21,8 +21,8 @@ make_cert-requires-clause-optimal c =
     subst (λ (w : HeightField). IsOptimal w.n words.budget (priority_of w.n w.heights (view_from words.camera words.spacing [])) c.in_ok-leaves.leaves.items)
     (sym c.view-view.ensures.wedges) (optimal-best _ _ _ _ best)
 
-pub make_cert-requires-clause-worst : goal.make_cert-requires-clause-worst
-make_cert-requires-clause-worst c =
+pub certify_mesh-requires-clause-worst : goal.certify_mesh-requires-clause-worst
+certify_mesh-requires-clause-worst c =
     let words = c.args.words.now in
     let grid : HeightField = c.args.engine.now.state.grid in
     let listed = c.in_ok-leaves.ensures.items_if_clones_equal (λ x y h. h) ∙ c.view-view.ensures.members in
@@ -35,9 +35,9 @@ returns c =
     let words = c.args.words.now in
     let grid : HeightField = c.args.engine.now.state.grid in
     let listed = c.in_ok-leaves.ensures.items_if_clones_equal (λ x y h. h) ∙ c.view-view.ensures.members in
-    made-of (making_seen words) grid c.in_ok-leaves.leaves.items c.make_cert.result
+    made-of (making_seen words) grid c.in_ok-leaves.leaves.items c.certify_mesh.result
     (subst (λ (l : List ℕ). IsBestMesh grid.n words.budget (priority_in (makes_at (making_seen words) grid)) l) (sym listed) c.requires.best)
-    c.make_cert.ensures.camera c.make_cert.ensures.leaves
-    (subst (λ (w : HeightField). IfOk c.make_cert.result (λ cert. IsSound w.n words.budget (priority_of w.n w.heights (view_from words.camera words.spacing [])) cert.leaves cert.reasons))
-    c.view-view.ensures.wedges c.make_cert.ensures.sound)
-    c.make_cert.ensures.few
+    c.certify_mesh.ensures.camera c.certify_mesh.ensures.leaves
+    (subst (λ (w : HeightField). IfOk c.certify_mesh.result (λ cert. IsSound w.n words.budget (priority_of w.n w.heights (view_from words.camera words.spacing [])) cert.leaves cert.reasons))
+    c.view-view.ensures.wedges c.certify_mesh.ensures.sound)
+    c.certify_mesh.ensures.few

@@ -9,7 +9,7 @@ use Rattle.least_laws.proofs.FlagLemmas.{flagged-unset}
 use Rattle.certificate_laws.specs.Certificate.{IsSound, AreReasons, AreAllReasons}
 use Rattle.cert_text.specs.Certificate.{Certificate}
 use Rattle.roam_certify.proofs.CertLemmas.{sound-made}
-use Rattle.roam_certify.proofs.cert.make_cert.Goals as goal
+use Rattle.roam_certify.proofs.cert.certify_mesh.Goals as goal
 
 pub make_reasons-requires-clause-empty : goal.make_reasons-requires-clause-empty
 make_reasons-requires-clause-empty c a =
