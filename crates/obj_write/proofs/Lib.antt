@@ -1,6 +1,10 @@
+pub mod FaceLemmas
+pub mod FieldLemmas
 pub mod LineLemmas
 pub mod NumberLemmas
 pub mod PageLemmas
 pub mod PlaceLemmas
+pub mod RowLemmas
+pub mod ScanLemmas
 pub mod TableLemmas
 pub mod WalkLemmas

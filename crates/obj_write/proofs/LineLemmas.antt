@@ -1,20 +1,28 @@
 -- What is left of the text of a mesh view: at first, behind one more line, and at the end.
-use Rattle.std.proofs.Common.{◌≡◌, ℕ, suc, ◌+◌, ◌-◌, ◌*◌, ◌<◌, ◌≤◌, Bool, cond, List, [], ◌∷◌, ◌++◌, length, map, filter, flat_map, get_or, drop, Option, Some, None, refl, sym, ◌∙◌, ap, ap₂, arith, append_assoc}
+use Rattle.std.proofs.Common.{◌≡◌, ℕ, zero, suc, ◌+◌, ◌-◌, ◌*◌, ◌^◌, ◌<◌, ◌≤◌, Bool, true, cond, ◌||◌, List, [], ◌∷◌, ◌++◌, length, map, filter, flat_map, get_or, drop, Option, Some, None, refl, sym, ◌∙◌, ap, ap₂, arith, append_assoc}
 use Rattle.std.specs.List.{range_with_len}
 use Rattle.std.proofs.Math.Seq.{drop-cons}
 use Rattle.std.proofs.lemmas.List.{drop_all}
 use Rattle.std.proofs.lemmas.List.Folds.{list_any_at}
 use Rattle.mesh_defs.specs.declared.point.Point.{Point}
-use Rattle.mesh_defs.specs.declared.point.Corners.{Corners}
 use Rattle.mesh_defs.specs.declared.mark.Mark.{Mark}
 use Rattle.mesh_defs.specs.HeightField.{side_of}
 use Rattle.mesh_defs.specs.Triangle.{corners_of}
-use Rattle.mesh_defs.specs.MeshText.{mesh_text, has_corner, vertices_of, vertex_number, vertex_line, numbers_line, face_line, face_lines, group_line, triangle_mark}
+use Rattle.mesh_defs.specs.MeshText.{mesh_text, is_same_point, has_corner, vertices_of, vertex_number, vertex_line, numbers_line, face_line, face_lines, group_line, triangle_mark}
 use Rattle.obj_write.specs.declared.mesh.MeshView.{MeshView}
 use Rattle.obj_write.specs.VertexMarks.{place_point, is_vertex}
 use Rattle.obj_write.specs.MeshView.{view_text, IsView, IsShown}
+use Rattle.obj_write.specs.Scan.{IsClear}
 use Rattle.obj_write.specs.LinesLeft.{vertex_text, face_text}
-use Rattle.obj_write.proofs.NumberLemmas.{vertices-placed, length-numbers, no-vertex, some-vertex}
+use Rattle.std.proofs.Math.Bool.{or-true}
+use Rattle.mesh_defs.proofs.PointLemmas.{eq-same_point}
+use Rattle.bintree_laws.specs.Corners.{IsInSquare}
+use Rattle.bintree_laws.proofs.CornerLemmas.{IsWithin-corners_of}
+use Rattle.obj_write.specs.declared.faces.Corner.{Corner}
+use Rattle.obj_write.specs.Field.{line_of}
+use Rattle.obj_write.specs.Faces.{IsCornerAt}
+use Rattle.obj_write.proofs.FieldLemmas.{fields-line}
+use Rattle.obj_write.proofs.NumberLemmas.{vertices-placed, length-numbers, no-vertex, some-vertex, number-of-vertex}
 
 -- the lines of the vertices at so many places from one on
 abbrev lines_at : MeshView → ℕ → ℕ → List ℕ
@@ -56,6 +64,22 @@ vertex-text-step v view k below some_there =
     (λ none. some_there (ap (λ xs. get_or xs k 0) view.vertex_numbers ∙ none)) in
     ap (lines_at v k) more ∙ ap (lines_if v k (size - (k + 1))) some
 
+-- at so many places without a number
+pub vertex-text-clear : (v : MeshView) → IsView v → (k m : ℕ) → k + m ≤ length v.numbers.now →
+    ((j : ℕ) → k ≤ j → j < k + m → get_or v.numbers.now j 0 ≡ 0) → vertex_text v (k + m) ≡ vertex_text v k
+vertex-text-clear v view k zero within clear = let same : k + 0 ≡ k = omega arith in ap (vertex_text v) same
+vertex-text-clear v view k (suc m) within clear =
+    let next : k + suc m ≡ k + m + 1 = omega arith in
+    ap (vertex_text v) next ∙ vertex-text-skip v view (k + m) (omega arith) (clear (k + m) (omega arith) (omega arith))
+    ∙ vertex-text-clear v view k m (omega arith) (λ j low high. clear j low (omega arith))
+
+-- from one place to another, where no number stands between
+pub vertex-text-passed : (v : MeshView) → IsView v → (k j : ℕ) → k ≤ j → j ≤ length v.numbers.now → IsClear v.numbers.now k j →
+    vertex_text v j ≡ vertex_text v k
+vertex-text-passed v view k j later within clear =
+    let there : k + (j - k) ≡ j = omega arith in
+    ap (vertex_text v) (sym there) ∙ vertex-text-clear v view k (j - k) (omega arith) (λ i low high. clear i low (omega arith))
+
 -- behind the last place
 pub vertex-text-end : (v : MeshView) → IsView v → (k : ℕ) → length v.numbers.now ≤ k → vertex_text v k ≡ []
 unfolding vertex_text
@@ -81,6 +105,21 @@ face-text-step v i d before mark below mark_is =
     ++ face_lines v.wedges.now.n v.wedges.now.heights v.spacing v.planes.now vertices (Some m) (drop (i + 1) v.leaves.now)) (sym mark_is)
     ∙ append_assoc (group_line v.planes.now before mark) (face_line vertices (corners_of v.wedges.now.n a))
     (face_lines v.wedges.now.n v.wedges.now.heights v.spacing v.planes.now vertices (Some mark) (drop (i + 1) v.leaves.now))
+
+-- where no plane is in force, the mark before does not matter
+marks-drop : (n : ℕ) (heights : List ℕ) (spacing : ℕ) (vertices : List Point) (one other : Option Mark) (triangles : List ℕ) →
+    face_lines n heights spacing [] vertices one triangles ≡ face_lines n heights spacing [] vertices other triangles
+marks-drop n heights spacing vertices one other [] = refl
+marks-drop n heights spacing vertices one other (a ∷ triangles) = refl
+
+pub face-text-any : (v : MeshView) (i : ℕ) (one other : Option Mark) → v.planes.now ≡ [] → face_text v i one ≡ face_text v i other
+unfolding face_text
+face-text-any v i one other none =
+    let vertices : List Point = vertices_of v.wedges.now.n v.leaves.now in
+    let rest : List ℕ = drop i v.leaves.now in
+    ap (λ planes. face_lines v.wedges.now.n v.wedges.now.heights v.spacing planes vertices one rest) none
+    ∙ marks-drop v.wedges.now.n v.wedges.now.heights v.spacing vertices one other rest
+    ∙ ap (λ planes. face_lines v.wedges.now.n v.wedges.now.heights v.spacing planes vertices other rest) (sym none)
 
 -- behind the last triangle
 pub face-text-end : (v : MeshView) (i : ℕ) (before : Option Mark) → length v.leaves.now ≤ i → face_text v i before ≡ []
@@ -121,12 +160,38 @@ lines-of-triangle page group line vertices faces faces' none is =
 pub shown : (n : ℕ) (triangles : List ℕ) (i d : ℕ) → i < length triangles → IsShown n triangles (get_or triangles i d)
 shown n triangles i d below p here = list_any_at (λ a. has_corner (corners_of n a) p) triangles i d below here
 
--- the line of three vertex numbers is that of a face
-pub face-is : (vertices : List Point) (c d : Corners) (i j k : ℕ) → i ≡ vertex_number vertices c.apex →
-    j ≡ vertex_number vertices c.v0 → k ≡ vertex_number vertices c.v1 → c ≡ d →
-    numbers_line 102 i j k ≡ face_line vertices d
-face-is vertices c d i j k first second third same =
-    ap (λ m. numbers_line 102 m j k) first
-    ∙ ap (λ m. numbers_line 102 (vertex_number vertices c.apex) m k) second
-    ∙ ap (λ m. numbers_line 102 (vertex_number vertices c.apex) (vertex_number vertices c.v0) m) third
-    ∙ ap (face_line vertices) same
+-- the number at the place of a corner is that of the vertex
+corner-number : (v : MeshView) → IsView v → (a : ℕ) → IsShown v.wedges.now.n v.leaves.now a → (p : Point) →
+    has_corner (corners_of v.wedges.now.n a) p ≡ true → IsInSquare (2 ^ v.wedges.now.n) p → (k : Corner) → IsCornerAt v.wedges.now.n v.numbers.now p k →
+    get_or v.numbers.now k.place 0 ≡ vertex_number (vertices_of v.wedges.now.n v.leaves.now) p
+corner-number v view a is_shown p here within k is =
+    ap₂ (λ (xs : List ℕ) (i : ℕ). get_or xs i 0) view.vertex_numbers is.place_is
+    ∙ number-of-vertex v.wedges.now.n v.leaves.now p within (is_shown p here)
+
+-- the fields of the corners of a triangle are the line of its face
+pub fields-face : (v : MeshView) → IsView v → (a : ℕ) → IsShown v.wedges.now.n v.leaves.now a → (x y z : Corner) →
+    IsCornerAt v.wedges.now.n v.numbers.now (corners_of v.wedges.now.n a).apex x →
+    IsCornerAt v.wedges.now.n v.numbers.now (corners_of v.wedges.now.n a).v0 y →
+    IsCornerAt v.wedges.now.n v.numbers.now (corners_of v.wedges.now.n a).v1 z →
+    line_of 102 x.field y.field z.field ≡ face_line (vertices_of v.wedges.now.n v.leaves.now) (corners_of v.wedges.now.n a)
+fields-face v view a is_shown x y z first second third =
+    let c = corners_of v.wedges.now.n a in
+    let w = IsWithin-corners_of v.wedges.now.n a in
+    let i = corner-number v view a is_shown c.apex (ap (λ b. b || (is_same_point c.apex c.v0 || is_same_point c.apex c.v1)) (eq-same_point c.apex c.apex refl))
+    (record { x = w.apex_x; y = w.apex_y }) x first in
+    let j = corner-number v view a is_shown c.v0
+    (ap (λ b. is_same_point c.v0 c.apex || (b || is_same_point c.v0 c.v1)) (eq-same_point c.v0 c.v0 refl) ∙ or-true (is_same_point c.v0 c.apex))
+    (record { x = w.v0_x; y = w.v0_y }) y second in
+    let k = corner-number v view a is_shown c.v1
+    (ap (λ b. is_same_point c.v1 c.apex || (is_same_point c.v1 c.v0 || b)) (eq-same_point c.v1 c.v1 refl)
+    ∙ ap (λ b. is_same_point c.v1 c.apex || b) (or-true (is_same_point c.v1 c.v0)) ∙ or-true (is_same_point c.v1 c.apex))
+    (record { x = w.v1_x; y = w.v1_y }) z third in
+    fields-line 102 _ _ _ x.field y.field z.field first.field_is second.field_is third.field_is
+    ∙ ap (λ m. numbers_line 102 m (get_or v.numbers.now y.place 0) (get_or v.numbers.now z.place 0)) i
+    ∙ ap (λ m. numbers_line 102 (vertex_number (vertices_of v.wedges.now.n v.leaves.now) c.apex) m (get_or v.numbers.now z.place 0)) j
+    ∙ ap (λ m. numbers_line 102 (vertex_number (vertices_of v.wedges.now.n v.leaves.now) c.apex) (vertex_number (vertices_of v.wedges.now.n v.leaves.now) c.v0) m) k
+
+-- a list without an entry
+pub none-there : {A : Type 0} (xs : List A) → length xs ≡ 0 → xs ≡ []
+none-there [] none = refl
+none-there (x ∷ xs) none = absurd (omega arith)

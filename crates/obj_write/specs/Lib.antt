@@ -1,7 +1,11 @@
+pub mod Faces
+pub mod Field
 pub mod LinesLeft
 pub mod MeshView
 pub mod Numbers
 pub mod Page
+pub mod Row
+pub mod Scan
 pub mod Table
 pub mod VertexMarks
 pub mod Written

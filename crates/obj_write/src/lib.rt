@@ -8,9 +8,13 @@
 
 #![tactic(auto)]
 
+mod faces;
+mod field;
 mod lines;
 mod mesh;
 mod page;
+mod row;
+mod scan;
 mod table;
 mod vertices;
 mod walk;

@@ -1,31 +1,30 @@
 //! The lines of a mesh, one after another.
 
-ghost use Rattle.std.specs.Prelude.{◌≡◌, ℕ, ◌+◌, ◌*◌, ◌^◌, ◌<◌, ◌≤◌, ◌++◌, [], true, false, All, length, slice_index};
+ghost use Rattle.std.specs.Prelude.{◌≡◌, ℕ, ◌+◌, ◌*◌, ◌^◌, ◌<◌, ◌≤◌, ◌++◌, [], Some, true, false, All, length};
 ghost use Rattle.arrayvec.specs.ArrayVec.{array_vec_len};
-ghost use Rattle.mesh_defs.specs.HeightField.{side_of};
 ghost use Rattle.mesh_defs.specs.Triangle.{level_of, corners_of};
-ghost use Rattle.mesh_defs.specs.MeshText.{numbers_line, vertex_line, vertex_number, face_line, group_line, is_mark_before, triangle_mark, vertices_of};
-ghost use Rattle.bintree_laws.specs.Corners.{IsInSquare};
-ghost use Rattle.mesh_defs.specs.declared.level.TheConstants.{GREATEST_LEVEL};
+ghost use Rattle.mesh_defs.specs.MeshText.{face_line, group_line, is_mark_before, triangle_mark, vertices_of};
 ghost use Rattle.wedgie_tree.specs.declared.wedges.TheConstants.{GREATEST_SPACING};
 ghost use Rattle.obj_write.specs.Numbers.{numbers_of};
 ghost use Rattle.obj_write.specs.MeshView.{view_text, IsView, IsShown, group_text};
-ghost use Rattle.obj_write.specs.LinesLeft.{vertex_text, face_text};
-ghost use Rattle.obj_write.specs.VertexMarks.{place_point, is_vertex};
+ghost use Rattle.obj_write.specs.LinesLeft.{face_text};
+ghost use Rattle.obj_write.specs.Faces.{AreFaces};
+ghost use Rattle.obj_write.specs.declared.faces.TheConstants.{LEVELS};
 ghost use Rattle.obj_write.specs.declared.lines.TheConstants.{LONGEST_LINE, LONGEST_GROUP, LONGEST_PIECE};
 
+use crate::faces::{Face, LEVELS, base_of, first_faces, half_face, make_known};
 use crate::mesh::MeshView;
-use crate::vertices::place;
+use crate::page::Page;
+use crate::row::{Row, first_row, put_vertex};
+use crate::scan::first_numbered;
 use arrayvec::ArrayVec;
-use bintree_addr::{Point, Tri};
-use cull_marks::Planes;
+use bintree_addr::Tri;
 use mesh_defs::Mark;
-use pgm_grid::side_for;
-use roam_num::{push_bytes, push_number};
+use roam_num::push_bytes;
 use std::marker::Model;
 
 /// No line is longer: a letter, three blanks, three numbers of at most 20 digits, and the line's end.
-const LONGEST_LINE: usize = 65;
+pub(crate) const LONGEST_LINE: usize = 65;
 
 /// The longest group line.
 const LONGEST_GROUP: usize = 10;
@@ -41,16 +40,22 @@ pub struct MeshLines<'a> {
     view: MeshView<'a>,
     /// The place from which on vertices are to come.
     place: usize,
+    /// The row of the vertex that came last.
+    row: Row,
     /// How many triangles have come.
     face: usize,
-    /// The mark of the triangle that came last.
+    /// The mark of the triangle that came last, where a plane is in force.
     before: Option<Mark>,
+    /// The last triangles on the way to those that came.
+    faces: [Face; LEVELS],
 }
 
 impl<'a> Model for MeshLines<'a> {
     ghost use Rattle.std.specs.Prelude.{◌+◌, ◌-◌, ◌≤◌, ◌++◌, length};
     ghost use Rattle.obj_write.specs.MeshView.{IsView};
     ghost use Rattle.obj_write.specs.LinesLeft.{LinesLeft, vertex_text, face_text};
+    ghost use Rattle.obj_write.specs.Faces.{AreFaces};
+    ghost use Rattle.obj_write.specs.Row.{IsRow};
 
     ghost Value = { LinesLeft };
 
@@ -59,7 +64,9 @@ impl<'a> Model for MeshLines<'a> {
       most = (length l.view.numbers.now - l.place) + (length l.view.leaves.now - l.face);
     } };
 
-    ghost invariant = { λ l. IsView l.view × (l.place ≤ length l.view.numbers.now) × (l.face ≤ length l.view.leaves.now) };
+    ghost invariant = { λ l. IsView l.view × (l.place ≤ length l.view.numbers.now) × (l.face ≤ length l.view.leaves.now)
+        × IsRow l.view.wedges.now.n l.view.spacing l.row × (l.row.start ≤ l.place)
+        × AreFaces l.view.wedges.now.n l.view.numbers.now l.faces };
 }
 
 impl<'a> MeshLines<'a> {
@@ -72,11 +79,14 @@ impl<'a> MeshLines<'a> {
         ensures text { result.text ≡ view_text view.entry }
         ensures most { result.most ≡ length view.entry.numbers.now + length view.entry.leaves.now }
     {
+        let faces = first_faces(view.numbers, view.wedges.grid().n());
         MeshLines {
             view,
             place: 0,
+            row: first_row(),
             face: 0,
             before: None,
+            faces,
         }
     }
 
@@ -91,9 +101,24 @@ impl<'a> MeshLines<'a> {
         ensures fewer { result ≡ true → self.new.most < self.old.most }
         ensures ended { result ≡ false → (self.old.text ≡ []) × (self.new.text ≡ []) }
     {
-        self.place = first_numbered(&self.view, self.place);
+        let mut piece: Page<LONGEST_PIECE> = Page::new();
+        let more = self.put_next(&mut piece);
+        push_bytes(page, piece.text());
+        more
+    }
+
+    /// Puts the next line, a face line with the group line before it, on a page that has room for the longest.
+    #[inline(always)]
+    pub(crate) fn put_next<const ROOM: usize>(&mut self, page: &mut Page<ROOM>) -> bool
+        requires room { length page.old + LONGEST_PIECE ≤ ROOM }
+        ensures text { page.new ++ self.new.text ≡ page.old ++ self.old.text }
+        ensures short { length page.new ≤ length page.old + LONGEST_PIECE }
+        ensures fewer { result ≡ true → self.new.most < self.old.most }
+        ensures ended { result ≡ false → (self.old.text ≡ []) × (self.new.text ≡ []) }
+    {
+        self.place = first_numbered(self.view.numbers, self.place);
         if self.place < self.view.numbers.len() {
-            push_vertex(&self.view, self.place, page);
+            put_vertex(&self.view, &mut self.row, self.place, page);
             self.place += 1;
             return true;
         }
@@ -101,62 +126,41 @@ impl<'a> MeshLines<'a> {
             return false;
         }
         let leaf = self.view.leaves[self.face];
-        let mark = leaf_mark(&self.view, leaf);
-        push_group(self.view.planes, self.before, mark, page);
-        push_face(&self.view, leaf, page);
+        self.before = put_group(&self.view, self.before, leaf, page);
+        put_face(&self.view, &mut self.faces, leaf, page);
         self.face += 1;
-        self.before = Some(mark);
         true
     }
 }
 
-/// The first place from this one on where a vertex stands, or the number of places.
-fn first_numbered(view: &MeshView<'_>, from: usize) -> usize
+/// Puts a group line on a page where a plane is in force and the triangle's mark differs from the one before; answers its mark then.
+///
+/// Without a plane no mark is asked for.
+#[inline(always)]
+fn put_group<const ROOM: usize>(
+    view: &MeshView<'_>,
+    before: Option<Mark>,
+    leaf: Tri,
+    page: &mut Page<ROOM>,
+) -> Option<Mark>
     requires view { IsView view.now }
-    requires within { from ≤ length view.now.numbers.now }
-    ensures later { from ≤ result }
-    ensures within { result ≤ length view.now.numbers.now }
-    ensures text { vertex_text view.now result ≡ vertex_text view.now from }
-    ensures vertex { result < length view.now.numbers.now → slice_index view.now.numbers.now result ≡ 0 → ⊥ }
+    requires level { level_of leaf ≤ 2 * view.now.wedges.now.n }
+    requires room { length page.old + LONGEST_GROUP ≤ ROOM }
+    ensures text { page.new ≡ page.old ++ group_line view.now.planes.now before (triangle_mark view.now.wedges.now.n
+        view.now.wedges.now.heights view.now.spacing view.now.planes.now leaf) }
+    ensures short { length page.new ≤ length page.old + LONGEST_GROUP }
+    // The text behind is that behind the triangle's mark.
+    ensures before { (i : ℕ) → face_text view.now i result ≡ face_text view.now i (Some (triangle_mark
+        view.now.wedges.now.n view.now.wedges.now.heights view.now.spacing view.now.planes.now leaf)) }
 {
-    let numbers = view.numbers;
-    for at in from..numbers.len() {
-        if numbers[at] != 0 {
-            return at;
-        }
+    if view.planes.len() == 0 {
+        return before;
     }
-    numbers.len()
-}
-
-/// Appends the line of the vertex at a place.
-fn push_vertex<const ROOM: usize>(view: &MeshView<'_>, at: usize, page: &mut ArrayVec<u8, ROOM>)
-    requires view { IsView view.now }
-    requires below { at < side_of view.now.wedges.now.n * side_of view.now.wedges.now.n }
-    requires room { array_vec_len page.old + LONGEST_LINE ≤ ROOM }
-    ensures items { let grid = view.now.wedges.now in page.new.items ≡ page.old.items
-        ++ vertex_line grid.n grid.heights view.now.spacing (place_point grid.n at) }
-    ensures short { array_vec_len page.new ≤ array_vec_len page.old + LONGEST_LINE }
-{
-    let vertex = point_at(view.wedges.grid().n(), at);
-    let spacing = u64::from(view.spacing);
-    let x = spacing * u64::from(vertex.x);
-    let y = spacing * u64::from(vertex.y);
-    let height = u64::from(view.wedges.grid().height(vertex.x, vertex.y));
-    push_numbers(page, b'v', x, y, height)
-}
-
-/// The point at a place.
-fn point_at(n: u32, at: usize) -> Point
-    requires in_grid { n ≤ GREATEST_LEVEL }
-    requires below { at < side_of n * side_of n }
-    ensures value { result ≡ place_point n at }
-    ensures within { IsInSquare (2 ^ n) result }
-{
-    let side = side_for(n);
-    Point {
-        x: (at % side) as u32,
-        y: (at / side) as u32,
+    let mark = leaf_mark(view, leaf);
+    if !is_before(before, mark) {
+        page.push_bytes(group_text(mark));
     }
+    Some(mark)
 }
 
 /// The mark of a triangle under the planes in force.
@@ -167,23 +171,6 @@ fn leaf_mark(view: &MeshView<'_>, leaf: Tri) -> Mark
         view.now.planes.now leaf }
 {
     view.planes.mark(&view.wedges.cuboid(leaf, view.spacing))
-}
-
-/// Appends a group line where a plane is in force and the mark differs from the one before.
-fn push_group<const ROOM: usize>(
-    planes: &Planes,
-    before: Option<Mark>,
-    mark: Mark,
-    page: &mut ArrayVec<u8, ROOM>,
-)
-    requires room { array_vec_len page.old + LONGEST_GROUP ≤ ROOM }
-    ensures items { page.new.items ≡ page.old.items ++ group_line planes.now before mark }
-    ensures short { array_vec_len page.new ≤ array_vec_len page.old + LONGEST_GROUP }
-{
-    if planes.len() == 0 || is_before(before, mark) {
-        return;
-    }
-    push_bytes(page, group_text(mark));
 }
 
 /// Whether the mark is the one before.
@@ -208,52 +195,35 @@ fn group_text(mark: Mark) -> &'static [u8]
     }
 }
 
-/// Appends the line of a face: the vertex numbers of apex, `v0` and `v1`.
-fn push_face<const ROOM: usize>(view: &MeshView<'_>, leaf: Tri, page: &mut ArrayVec<u8, ROOM>)
+/// Puts the line of a face on a page: the vertex numbers of apex, `v0` and `v1`, which are corners of its parent and the
+/// midpoint of the parent's base.
+#[inline(always)]
+fn put_face<const ROOM: usize>(
+    view: &MeshView<'_>,
+    faces: &mut [Face],
+    leaf: Tri,
+    page: &mut Page<ROOM>,
+)
     requires view { IsView view.now }
     requires level { level_of leaf ≤ 2 * view.now.wedges.now.n }
     requires shown { IsShown view.now.wedges.now.n view.now.leaves.now leaf }
-    requires room { array_vec_len page.old + LONGEST_LINE ≤ ROOM }
-    ensures items { let n = view.now.wedges.now.n in page.new.items ≡ page.old.items
+    requires count { length faces.old ≡ LEVELS }
+    requires known { AreFaces view.now.wedges.now.n view.now.numbers.now faces.old }
+    requires room { length page.old + LONGEST_LINE ≤ ROOM }
+    ensures text { let n = view.now.wedges.now.n in page.new ≡ page.old
         ++ face_line (vertices_of n view.now.leaves.now) (corners_of n leaf) }
-    ensures short { array_vec_len page.new ≤ array_vec_len page.old + LONGEST_LINE }
+    ensures short { length page.new ≤ length page.old + LONGEST_LINE }
+    ensures count { length faces.new ≡ LEVELS }
+    ensures known { AreFaces view.now.wedges.now.n view.now.numbers.now faces.new }
 {
-    let corners = leaf.corners(view.wedges.grid().n());
-    let apex = number_of(view, corners.apex);
-    let first = number_of(view, corners.v0);
-    let second = number_of(view, corners.v1);
-    push_numbers(page, b'f', apex, first, second)
-}
-
-/// The number of a vertex.
-fn number_of(view: &MeshView<'_>, vertex: Point) -> u64
-    requires view { IsView view.now }
-    requires within { IsInSquare (2 ^ view.now.wedges.now.n) vertex }
-    requires shown { is_vertex view.now.wedges.now.n view.now.leaves.now vertex ≡ true }
-    ensures { result ≡ vertex_number (vertices_of view.now.wedges.now.n view.now.leaves.now) vertex }
-{
-    let place = place(view.wedges.grid().n(), vertex);
-    u64::from(view.numbers[place])
-}
-
-/// Appends a line of three numbers behind a letter, with one blank before each.
-fn push_numbers<const ROOM: usize>(
-    page: &mut ArrayVec<u8, ROOM>,
-    letter: u8,
-    first: u64,
-    second: u64,
-    third: u64,
-)
-    requires room { array_vec_len page.old + LONGEST_LINE ≤ ROOM }
-    ensures items { page.new.items ≡ page.old.items ++ numbers_line letter first second third }
-    ensures short { array_vec_len page.new ≤ array_vec_len page.old + LONGEST_LINE }
-{
-    push_bytes(page, &[letter]);
-    push_bytes(page, b" ");
-    push_number(page, first);
-    push_bytes(page, b" ");
-    push_number(page, second);
-    push_bytes(page, b" ");
-    push_number(page, third);
-    push_bytes(page, b"\n");
+    let n = view.wedges.grid().n();
+    let Some(above) = leaf.parent() else {
+        let half = half_face(view.numbers, n, leaf);
+        page.push_line(b'f', &half.apex.field, &half.v0.field, &half.v1.field);
+        return;
+    };
+    make_known(faces, view.numbers, n, above);
+    let parent = &faces[above.level() as usize];
+    let (v0, v1) = base_of(parent, leaf);
+    page.push_line(b'f', &parent.middle.field, &v0.field, &v1.field);
 }

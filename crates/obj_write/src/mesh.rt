@@ -12,8 +12,7 @@ ghost use Rattle.obj_write.specs.Written.{mesh_with, Grows, GrowsByPart, IsPartO
 ghost use Rattle.obj_write.specs.MeshView.{view_text, IsView};
 
 use crate::lines::MeshLines;
-use crate::page::{Page, make_room, write_rest};
-use arrayvec::ArrayVec;
+use crate::page::{PAGE_ROOM, Page, make_room, write_rest};
 use bintree_addr::Tri;
 use cull_marks::Planes;
 use roam_edge::{Failed, MeshSink};
@@ -67,26 +66,30 @@ pub fn write_mesh<M: MeshSink>(
     ensures faults { HasCause (M.faults out.old) (M.faults out.new) result }
 {
     out.begin(prefix, number)?;
-    let mut page = ArrayVec::new();
+    let mut page = Page::new();
     write_lines(view, &mut page, out)?;
     write_rest(&page, out)?;
     out.finish()
 }
 
 /// Writes the lines of the mesh.
-fn write_lines<M: MeshSink>(view: &MeshView<'_>, page: &mut Page, out: &mut M) -> Result<(), Failed>
+fn write_lines<M: MeshSink>(
+    view: &MeshView<'_>,
+    page: &mut Page<PAGE_ROOM>,
+    out: &mut M,
+) -> Result<(), Failed>
     requires view { IsView view.now }
     requires under_way { M.under_way out.old ≡ true }
-    ensures ok { OnOk result (Passed (M.meshes out.old) (M.meshes out.new) page.old.items page.new.items
+    ensures ok { OnOk result (Passed (M.meshes out.old) (M.meshes out.new) page.old page.new
         (view_text view.now)) }
     ensures err { OnErr result (Broken (M.meshes out.old) (M.meshes out.new)
-        (page.old.items ++ view_text view.now)) }
+        (page.old ++ view_text view.now)) }
     ensures under_way { M.under_way out.new ≡ true }
     ensures faults { HasCause (M.faults out.old) (M.faults out.new) result }
 {
     let mut lines = MeshLines::new(*view);
     make_room(page, out)?;
-    'lines: while lines.push_next(page) {
+    'lines: while lines.put_next(page) {
         make_room(page, out)?;
     }
     Ok(())

@@ -6,10 +6,8 @@ ghost use Rattle.mesh_defs.specs.declared.level.TheConstants.{GREATEST_LEVEL};
 ghost use Rattle.bintree_laws.specs.Corners.{IsWithin};
 ghost use Rattle.obj_write.specs.Walk.{AreCorners};
 
+use crate::faces::LEVELS;
 use bintree_addr::{Corners, Tri, child_corners};
-
-/// How many levels triangles have.
-const LEVELS: usize = 23;
 
 /// A triangle with its corners.
 #[derive(Clone, Copy, Debug)]

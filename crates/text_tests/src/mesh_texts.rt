@@ -22,6 +22,12 @@ const HALVES: [u32; 2] = [2, 3];
 /// Their children.
 const QUARTERS: [u32; 4] = [4, 5, 6, 7];
 
+/// All finest triangles of a square of side 2, depth first.
+const EIGHTHS: [u32; 8] = [8, 9, 10, 11, 12, 13, 14, 15];
+
+/// Triangles of several levels, in no order.
+const MIXED: [u32; 4] = [15, 2, 8, 3];
+
 const HALVES_TEXT: &str = "v 0 0 0\nv 2 0 0\nv 0 2 0\nv 2 2 0\nf 1 2 3\nf 4 3 2\n";
 
 const QUARTERS_TEXT: &str =
@@ -38,6 +44,14 @@ const LAST_INSIDE: &str =
 
 const SECOND_OUTSIDE: &str =
     "v 0 0 0\nv 2 0 0\nv 1 1 10\nv 0 2 0\nv 2 2 0\ng cut\nf 3 1 2\ng outside\nf 3 4 1\ng cut\nf 3 5 4\nf 3 2 5\n";
+
+/// Three vertices a row, and a plane that cuts, whose group lines stand before the faces.
+const EIGHTHS_AT_50: &str =
+    "v 0 0 0\nv 50 0 0\nv 100 0 0\nv 0 50 0\nv 50 50 10\nv 100 50 0\nv 0 100 0\nv 50 100 0\nv 100 100 0\n\
+g cut\nf 2 5 1\ng inside\nf 2 3 5\ng cut\nf 4 5 7\nf 4 1 5\ng inside\nf 8 5 9\ng cut\nf 8 7 5\ng inside\nf 6 5 3\nf 6 9 5\n";
+
+const MIXED_TEXT: &str =
+    "v 0 0 0\nv 1 0 0\nv 2 0 0\nv 1 1 10\nv 2 1 0\nv 0 2 0\nv 2 2 0\nf 5 7 4\nf 1 3 6\nf 2 4 1\nf 7 6 3\n";
 
 /// The vertex numbers of these triangles of the square of side 2, and how many there are.
 fn vertex_numbers(alloc: Global, numbers: &[u32]) -> Result<([u32; 9], u32), Fail> {
@@ -157,13 +171,15 @@ fn is_written_as(
 
 #[test]
 fn a_mesh_is_written_as_its_text(rt: HostRuntime) -> Result<(), Fail> {
-    let cases: [(&[u32], u32, Option<i64>, &str); 6] = [
+    let cases: [(&[u32], u32, Option<i64>, &str); 8] = [
         (&HALVES, 1, None, HALVES_TEXT),
         (&QUARTERS, 1, None, QUARTERS_TEXT),
         (&QUARTERS, 3, None, QUARTERS_AT_3),
         (&QUARTERS, 1, Some(0), ALL_INSIDE),
         (&QUARTERS, 1, Some(-1), LAST_INSIDE),
         (&QUARTERS, 1, Some(-2), SECOND_OUTSIDE),
+        (&EIGHTHS, 50, Some(-50), EIGHTHS_AT_50),
+        (&MIXED, 1, None, MIXED_TEXT),
     ];
     let wedges = middle(rt.alloc())?;
     for (numbers, spacing, offset, want) in cases {

@@ -8,8 +8,8 @@ use Rattle.obj_write.proofs.mesh.write_lines.Goals as goal
 pub returns-in_err-make_room-2-clause-err : goal.returns-in_err-make_room-2-clause-err
 returns-in_err-make_room-2-clause-err g c =
     let p = err_from_is_err_and c.from_residual-in_err-make_room-2.result c.from_residual-in_err-make_room-2.ensures.1 in
-    let lines = subst (λ t. Passed (g.M.MeshSink.meshes c.args.out.now) (g.M.MeshSink.meshes c.lines.out) c.args.page.now.items t
-    (view_text c.args.view.now)) (sym c.push_next.ensures.text) c.lines.invariant.passed in
+    let lines = subst (λ t. Passed (g.M.MeshSink.meshes c.args.out.now) (g.M.MeshSink.meshes c.lines.out) c.args.page.now t
+    (view_text c.args.view.now)) (sym c.put_next.ensures.text) c.lines.invariant.passed in
     rw p.1 (broken-on (g.M.MeshSink.meshes c.args.out.now) (g.M.MeshSink.meshes c.lines.out)
-    (g.M.MeshSink.meshes c.make_room-in-lines.new.out) c.args.page.now.items c.push_next.new.page.items c.push_next.new.self.text
+    (g.M.MeshSink.meshes c.make_room-in-lines.new.out) c.args.page.now c.put_next.new.page c.put_next.new.self.text
     (view_text c.args.view.now) lines c.in_err-make_room-2.ensures.err)

@@ -1,5 +1,4 @@
-use Rattle.std.proofs.Common.{◌≡◌, ◌+◌, ◌≤◌, ◌++◌, true}
-use Rattle.arrayvec.specs.ArrayVec.{array_vec_len}
+use Rattle.std.proofs.Common.{◌≡◌, ◌+◌, ◌≤◌, ◌++◌, true, length}
 use Rattle.obj_write.specs.Page.{Passed}
 use Rattle.obj_write.specs.MeshView.{view_text}
 use Rattle.obj_write.specs.declared.page.TheConstants.{PAGE_ROOM}
@@ -11,8 +10,8 @@ abbrev pub invariant-lines : goal.invariant-lines
 invariant-lines g l = record {
   under_way : g.M.MeshSink.under_way l.out ≡ true;
   calm : g.M.MeshSink.faults l.out ≡ g.M.MeshSink.faults l.fn.out;
-  room : array_vec_len l.page + LONGEST_PIECE ≤ PAGE_ROOM;
-  passed : Passed (g.M.MeshSink.meshes l.fn.out) (g.M.MeshSink.meshes l.out) l.fn.page.items (l.page.items ++ l.lines.text)
+  room : length l.page + LONGEST_PIECE ≤ PAGE_ROOM;
+  passed : Passed (g.M.MeshSink.meshes l.fn.out) (g.M.MeshSink.meshes l.out) l.fn.page (l.page ++ l.lines.text)
       (view_text l.view);
 }
 

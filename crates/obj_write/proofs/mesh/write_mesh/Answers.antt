@@ -16,27 +16,27 @@ pub returns-in_err-write_rest-clause-err : goal.returns-in_err-write_rest-clause
 returns-in_err-write_rest-clause-err g c =
     let p = err_from_is_err_and c.from_residual-in_err-write_rest.result c.from_residual-in_err-write_rest.ensures.1 in
     let lines = subst (λ page. Passed (g.M.MeshSink.meshes c.begin.new.self) (g.M.MeshSink.meshes c.write_lines.new.out)
-    page c.write_lines.new.page.items (view_text c.args.view.now)) c.new-page.ensures c.in_ok-write_lines.ensures.ok in
+    page c.write_lines.new.page (view_text c.args.view.now)) c.new-page.ensures c.in_ok-write_lines.ensures.ok in
     rw p.1 (part-rest _ (g.M.MeshSink.meshes c.begin.new.self) _ _ _ _ c.in_ok-begin.ensures.mesh.ok
-    (g.M.MeshSink.meshes c.write_lines.new.out) c.write_lines.new.page.items lines c.in_err-write_rest.ensures.mesh.failed)
+    (g.M.MeshSink.meshes c.write_lines.new.out) c.write_lines.new.page lines c.in_err-write_rest.ensures.mesh.failed)
 
 pub returns-clause-ok : goal.returns-clause-ok
 returns-clause-ok g c =
     let lines = subst (λ page. Passed (g.M.MeshSink.meshes c.begin.new.self) (g.M.MeshSink.meshes c.write_lines.new.out)
-    page c.write_lines.new.page.items (view_text c.args.view.now)) c.new-page.ensures c.in_ok-write_lines.ensures.ok in
+    page c.write_lines.new.page (view_text c.args.view.now)) c.new-page.ensures c.in_ok-write_lines.ensures.ok in
     on_ok_weaker c.finish.result
     (whole-mesh _ (g.M.MeshSink.meshes c.begin.new.self) (g.M.MeshSink.meshes c.write_rest.new.out) _ _ _ c.in_ok-begin.ensures.mesh.ok
-    (g.M.MeshSink.meshes c.write_lines.new.out) c.write_lines.new.page.items lines (g.M.MeshSink.meshes c.finish.new.self)
+    (g.M.MeshSink.meshes c.write_lines.new.out) c.write_lines.new.page lines (g.M.MeshSink.meshes c.finish.new.self)
     c.in_ok-write_rest.ensures.mesh.ok)
     c.finish.ensures.mesh.ok
 
 pub returns-clause-err : goal.returns-clause-err
 returns-clause-err g c =
     let lines = subst (λ page. Passed (g.M.MeshSink.meshes c.begin.new.self) (g.M.MeshSink.meshes c.write_lines.new.out)
-    page c.write_lines.new.page.items (view_text c.args.view.now)) c.new-page.ensures c.in_ok-write_lines.ensures.ok in
+    page c.write_lines.new.page (view_text c.args.view.now)) c.new-page.ensures c.in_ok-write_lines.ensures.ok in
     on_err_weaker c.finish.result
     (part-finish _ (g.M.MeshSink.meshes c.begin.new.self) (g.M.MeshSink.meshes c.write_rest.new.out) _ _ _ c.in_ok-begin.ensures.mesh.ok
-    (g.M.MeshSink.meshes c.write_lines.new.out) c.write_lines.new.page.items lines (g.M.MeshSink.meshes c.finish.new.self)
+    (g.M.MeshSink.meshes c.write_lines.new.out) c.write_lines.new.page lines (g.M.MeshSink.meshes c.finish.new.self)
     c.in_ok-write_rest.ensures.mesh.ok)
     c.finish.ensures.mesh.failed
 
@@ -51,16 +51,16 @@ pub returns-in_err-write_rest-clause-begun : goal.returns-in_err-write_rest-clau
 returns-in_err-write_rest-clause-begun g c =
     let p = err_from_is_err_and c.from_residual-in_err-write_rest.result c.from_residual-in_err-write_rest.ensures.1 in
     let lines = subst (λ page. Passed (g.M.MeshSink.meshes c.begin.new.self) (g.M.MeshSink.meshes c.write_lines.new.out)
-    page c.write_lines.new.page.items (view_text c.args.view.now)) c.new-page.ensures c.in_ok-write_lines.ensures.ok in
+    page c.write_lines.new.page (view_text c.args.view.now)) c.new-page.ensures c.in_ok-write_lines.ensures.ok in
     rw p.1 (λ _. begun-rest _ (g.M.MeshSink.meshes c.begin.new.self) _ _ _ _ c.in_ok-begin.ensures.mesh.ok
-    (g.M.MeshSink.meshes c.write_lines.new.out) c.write_lines.new.page.items lines c.in_err-write_rest.ensures.mesh.failed)
+    (g.M.MeshSink.meshes c.write_lines.new.out) c.write_lines.new.page lines c.in_err-write_rest.ensures.mesh.failed)
 
 pub returns-clause-begun : goal.returns-clause-begun
 returns-clause-begun g c =
     let lines = subst (λ page. Passed (g.M.MeshSink.meshes c.begin.new.self) (g.M.MeshSink.meshes c.write_lines.new.out)
-    page c.write_lines.new.page.items (view_text c.args.view.now)) c.new-page.ensures c.in_ok-write_lines.ensures.ok in
+    page c.write_lines.new.page (view_text c.args.view.now)) c.new-page.ensures c.in_ok-write_lines.ensures.ok in
     on_err_weaker c.finish.result
     (λ same _. begun-finish _ (g.M.MeshSink.meshes c.begin.new.self) (g.M.MeshSink.meshes c.write_rest.new.out) _ _ _ c.in_ok-begin.ensures.mesh.ok
-    (g.M.MeshSink.meshes c.write_lines.new.out) c.write_lines.new.page.items lines (g.M.MeshSink.meshes c.finish.new.self)
+    (g.M.MeshSink.meshes c.write_lines.new.out) c.write_lines.new.page lines (g.M.MeshSink.meshes c.finish.new.self)
     c.in_ok-write_rest.ensures.mesh.ok same)
     c.finish.ensures.mesh.failed

@@ -1,0 +1,71 @@
+//! The next place at which a number stands.
+
+ghost use Rattle.std.specs.Prelude.{◌≡◌, ℕ, ◌+◌, ◌<◌, ◌≤◌, length, slice_index};
+ghost use Rattle.obj_write.specs.Scan.{IsClear, IsFirstIn, first_set};
+ghost use Rattle.obj_write.specs.declared.scan.TheConstants.{LANES};
+
+use std::simd::prelude::*;
+
+/// How many places are looked at together.
+const LANES: usize = 16;
+
+/// The first place from this one on with a number other than 0, or the number of places.
+///
+/// Cost (not proved): a step for each sixteen places that are passed.
+#[inline(always)]
+pub(crate) fn first_numbered(numbers: &[u32], from: usize) -> usize
+    requires { from ≤ length numbers.now }
+    ensures later { from ≤ result }
+    ensures within { result ≤ length numbers.now }
+    ensures clear { IsClear numbers.now from result }
+    ensures number { result < length numbers.now → slice_index numbers.now result ≡ 0 → ⊥ }
+{
+    let mut at = from;
+    while numbers.len() - at >= LANES {
+        let passed = clear_lanes(numbers, at);
+        at += passed;
+        if passed < LANES {
+            return at;
+        }
+    }
+    first_left(numbers, at)
+}
+
+/// How many of sixteen places come before the first with a number other than 0; sixteen where there is none.
+#[inline(always)]
+fn clear_lanes(numbers: &[u32], at: usize) -> usize
+    requires { at + LANES ≤ length numbers.now }
+    ensures { IsFirstIn numbers.now at LANES result }
+{
+    let lanes = u32x16::from_slice(&numbers[at..]);
+    let some = lanes.simd_ne(u32x16::splat(0));
+    first_set(some.to_bitmask(), LANES)
+}
+
+/// The place of the lowest bit that is set, or the number of lanes.
+#[inline(always)]
+fn first_set(mask: u64, lanes: usize) -> usize
+    ensures { result ≡ first_set mask lanes }
+{
+    if mask == 0 {
+        lanes
+    } else {
+        mask.trailing_zeros() as usize
+    }
+}
+
+/// The same of the last places, one after another.
+fn first_left(numbers: &[u32], from: usize) -> usize
+    requires { from ≤ length numbers.now }
+    ensures later { from ≤ result }
+    ensures within { result ≤ length numbers.now }
+    ensures clear { IsClear numbers.now from result }
+    ensures number { result < length numbers.now → slice_index numbers.now result ≡ 0 → ⊥ }
+{
+    for at in from..numbers.len() {
+        if numbers[at] != 0 {
+            return at;
+        }
+    }
+    numbers.len()
+}
