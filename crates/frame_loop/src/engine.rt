@@ -182,6 +182,7 @@ impl Engine {
         ensures value { result ≡ self.now.state.budget }
         ensures low { 2 ≤ result }
         ensures high { result ≤ self.now.most }
+        ensures few { result ≤ MOST_LEAVES }
     {
         self.budget
     }

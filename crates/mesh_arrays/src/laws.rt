@@ -19,7 +19,8 @@ pub fn index_laws()
 
 /// The leaves of a set stand depth first; and of two lists before, less what it has alone, with what after has alone, is after.
 pub fn change_laws()
-    ensures leaves { (n : ℕ) (has : ℕ → Bool) → n ≤ GREATEST_LEVEL → IsDepthFirst (leaves_of n has) }
+    ensures leaves { (n : ℕ) (has : ℕ → Bool) → n ≤ GREATEST_LEVEL →
+        IsDepthFirst (leaves_of n has) }
     ensures after { (before after : List ℕ) (a : ℕ) → among after a
         ≡ ((among before a && not (among (alone before after) a)) || among (alone after before) a) }
 {}

@@ -1,3 +1,4 @@
+pub mod ArrayLemmas
 pub mod FaceLemmas
 pub mod FieldLemmas
 pub mod LineLemmas

@@ -1,3 +1,4 @@
+pub mod Arrays
 pub mod Faces
 pub mod Field
 pub mod LinesLeft
@@ -8,5 +9,5 @@ pub mod Row
 pub mod Scan
 pub mod Table
 pub mod VertexMarks
-pub mod Written
 pub mod Walk
+pub mod Written

@@ -8,6 +8,7 @@
 
 #![tactic(auto)]
 
+mod arrays;
 mod faces;
 mod field;
 mod lines;
@@ -19,6 +20,7 @@ mod table;
 mod vertices;
 mod walk;
 
+pub use arrays::{write_places, write_positions};
 pub use lines::{LONGEST_PIECE, MeshLines};
 pub use mesh::{MeshView, write_mesh};
 pub use table::VertexTable;

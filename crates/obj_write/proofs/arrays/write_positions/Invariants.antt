@@ -1,0 +1,16 @@
+-- The positions of the vertices before a place stand in the first places.
+use Rattle.std.proofs.Common.{◌≡◌, ◌+◌, ◌*◌, ◌++◌, length, take, drop, flat_map}
+use Rattle.mesh_defs.specs.MeshText.{vertices_of}
+use Rattle.obj_write.specs.Arrays.{position_of, positions_of}
+use Rattle.obj_write.proofs.ArrayLemmas.{vertices_from}
+use Rattle.obj_write.proofs.arrays.write_positions.Given as goal
+
+abbrev pub invariant-loop-k : goal.invariant-loop-k
+invariant-loop-k l =
+    let grid = l.view.wedges.now in let triangles = l.view.leaves.now in
+    record {
+      room : l.at + 3 * length (vertices_from grid.n triangles l.k) ≡ 3 * length (vertices_of grid.n triangles);
+      so_far : take l.at l.out ++ flat_map (position_of grid.n grid.heights l.view.spacing) (vertices_from grid.n triangles l.k)
+          ≡ positions_of grid.n grid.heights l.view.spacing triangles;
+      rest : drop l.at l.out ≡ drop l.at l.initial.out;
+    }
