@@ -119,8 +119,8 @@ cat <<TABLE
 |---|---|---|---|---|
 | flat grid of side 2049, budget 2, one frame: time | 8,396,821 bytes, 8,388,606 splittable triangles | $large s | cat of the grid $read_alone s | |
 | flat grid of side 2049, budget 2, one frame: peak memory | 8,396,802 bytes of heights | $memory MB | | |
-| info on a grid of side 2049: time | 8,396,821 bytes, 16,777,214 triangles | $info s | | under 0.6 s |
-| info on a grid of side 2049: peak memory | 8,396,802 bytes of heights | $info_memory MB | | under 150 MB beyond the grid |
+| info on a grid of side 2049: time | 8,396,821 bytes, 16,777,214 triangles | $info s | | under 0.1 s |
+| info on a grid of side 2049: peak memory | 8,396,802 bytes of heights | $info_memory MB | | under 10 MB beyond the grid |
 | the Jacksboro grid, side 257, budget 2,000, one frame | 131,070 splittable triangles | $small_budget s, $small_budget_memory MB | | |
 | the Jacksboro grid, side 257, budget 20,000, one frame | 131,070 splittable triangles | $large_budget s, $large_budget_memory MB | | under 1 s |
 | a flight of 50 frames over the Jacksboro grid, budget 20,000 | a camera move before each frame | $flight s, $flight_memory MB | | |
@@ -161,7 +161,7 @@ if [ -x "$single" ]; then
     echo "| $kernel | 20 times 8,396,802 bytes of samples | $(rate 8396802 $kernel "$alone") | its plain twin $(rate 8396802 "${kernel}_plain" "$alone") | |"
   done
   read -r _ _ calls _ found _ building <<<"$(fastest wedges)"
-  echo "| the wedges of a rough grid, n = 11, the filling of the grid with it | $calls call | $building s | | under 0.5 s |"
+  echo "| the wedges of a rough grid, n = 11, the filling of the grid with it | $calls call | $building s | | under 0.05 s |"
   read -r _ _ calls _ found _ seconds <<<"$(fastest ranks)"
   echo "| the rank of every triangle of that grid without planes, n = 11 | $calls calls, $found positive | $(awk -v s="$seconds" -v b="$building" -v n="$calls" 'BEGIN { printf "%.1f", 1000000000 * (s - b) / n }') ns a call | | under 60 ns |"
   # Edits of heights over that grid, the generated grid and lines of scripts, beside the same calls in plain Rust.

@@ -17,6 +17,8 @@ mod headers;
 #[cfg(test)]
 mod marks;
 #[cfg(test)]
+mod mended;
+#[cfg(test)]
 mod nine;
 #[cfg(test)]
 mod priorities;

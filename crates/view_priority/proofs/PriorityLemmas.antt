@@ -10,7 +10,9 @@ use Rattle.mesh_defs.specs.Thickness.{thickness_of}
 use Rattle.mesh_defs.specs.BoundingBox.{BoundingBox, CameraAt, IsRoot, root_of, distance_of, box_of}
 use Rattle.mesh_defs.specs.View.{View, ViewPlane, mark_of}
 use Rattle.mesh_defs.specs.Priority.{seen_ratio, priority_of}
+use Rattle.cull_marks.specs.Cuboid.{as_box}
 use Rattle.cull_marks.specs.Nesting.{IsInside, IsOrdered}
+use Rattle.bintree_addr.specs.declared.cuboid.Cuboid.{Cuboid}
 use Rattle.mesh_defs.specs.State.{move_length}
 use Rattle.view_priority.specs.Camera.{view_from}
 use Rattle.view_priority.specs.Bounds.{priority_at}
@@ -62,6 +64,11 @@ no_rank-before priority b le (inl more) = omega arith
 no_rank-before priority b le (inr (same, less)) = omega arith
 
 -- ---- for the code
+
+-- the box of a cuboid, by its six ends
+pub as_box-is : (c : Cuboid) (b : BoundingBox) → c.x0 ≡ b.x0 → c.x1 ≡ b.x1 → c.y0 ≡ b.y0 → c.y1 ≡ b.y1 → c.z0 ≡ b.z0 →
+    c.z1 ≡ b.z1 → as_box c ≡ b
+as_box-is c b x0 x1 y0 y1 z0 z1 = rw (x0, x1, y0, y1, z0, z1) refl
 
 -- the priority from the parts that the code finds
 pub priority_of-by_parts : (n : ℕ) (heights : List ℕ) (camera : CameraAt) (spacing : ℕ) (planes : List ViewPlane)

@@ -12,16 +12,16 @@ ghost use Rattle.view_priority.specs.Bounds.{priority_at};
 
 use crate::ratio::seen_priority;
 use crate::sight::{Sight, sight_of};
-use crate::{Bounds, Camera, Meter, distance_laws, priority_laws};
+use crate::{Bounds, Camera, Meter, distance, distance_laws, priority_laws};
 use bintree_addr::{Rank, Tri};
 use cull_marks::Planes;
-use wedgie_tree::Wedges;
+use wedgie_tree::{Wedges, wedge_laws};
 
 /// A triangle with its priority in a view. The meter counts one more.
 ///
 /// No child ranks before its parent.
 /// Cost (not proved): a step a level, the corners of the box at each plane, and a square root; of a
-/// triangle without thickness none of these.
+/// triangle without thickness a step a level at most, and of a finest one none of these.
 pub fn rank(
     w: &Wedges,
     camera: &Camera,
@@ -41,14 +41,18 @@ pub fn rank(
     ensures count { meter.new ≡ counted meter.old }
 {
     priority_laws();
+    wedge_laws();
     meter.tick();
-    // From nowhere is a flat triangle worth a split.
-    if w.thickness(t) == 0 {
+    // From nowhere is a flat triangle worth a split, and a finest one is flat.
+    if t.level() == 2 * w.grid().n() {
         return Rank { p: 0, tri: t };
     }
-    let sight = sight_of(w, camera, spacing, planes, t);
+    let (thickness, cuboid) = w.thickness_and_cuboid(t, spacing);
+    if thickness == 0 {
+        return Rank { p: 0, tri: t };
+    }
     Rank {
-        p: seen_priority(sight.mark, sight.thickness, sight.distance),
+        p: seen_priority(planes.mark(&cuboid), thickness, distance(&cuboid, camera)),
         tri: t,
     }
 }

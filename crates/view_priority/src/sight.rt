@@ -33,10 +33,10 @@ pub(crate) fn sight_of(w: &Wedges, camera: &Camera, spacing: u32, planes: &Plane
     ensures distance { result.distance ≡ distance_of (box_of w.now.n w.now.heights spacing t) camera.now }
     ensures bounded { result.distance < 2 ^ 31 }
 {
-    let cuboid = w.cuboid(t, spacing);
+    let (thickness, cuboid) = w.thickness_and_cuboid(t, spacing);
     Sight {
         mark: planes.mark(&cuboid),
-        thickness: w.thickness(t),
+        thickness,
         distance: distance(&cuboid, camera),
     }
 }

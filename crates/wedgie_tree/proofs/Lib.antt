@@ -9,3 +9,4 @@ pub mod EditLemmas
 pub mod MendLemmas
 pub mod PointLemmas
 pub mod RowLemmas
+pub mod FineLemmas

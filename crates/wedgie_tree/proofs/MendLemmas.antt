@@ -6,7 +6,7 @@ use Rattle.mesh_defs.specs.State.{Area, is_in_area}
 use Rattle.mesh_defs.specs.Triangle.{level_of, corners_of, IsSplittable}
 use Rattle.bintree_laws.specs.Corners.{IsWithin}
 use Rattle.wedgie_tree.specs.declared.wedge.Wedge.{Wedge}
-use Rattle.wedgie_tree.specs.Table.{HasEntry, AllUnder, IsTable, IsRightOff}
+use Rattle.wedgie_tree.specs.Table.{HasEntry, AllUnder, IsTable, IsRightOff, IsKept, kept_levels}
 use Rattle.bintree_laws.specs.Areas.{MeetsArea, IsInRectangle}
 use Rattle.wedgie_tree.specs.Edits.{IsClearOf, area_of}
 use Rattle.wedgie_tree.proofs.AreaLemmas.{AddressLaws}
@@ -22,13 +22,19 @@ IsClearOf-apart laws n a area c is some fits apart = λ r held in_area.
     let P : Corners → Type 0 = λ d. IsInRectangle d r in
     apart (r, record { in_rectangle = subst P (sym is) within; in_area = in_area })
 
+-- a kept triangle is splittable
+IsSplittable-kept : (n a : ℕ) → IsKept n a → IsSplittable n a
+IsSplittable-kept n a kept = record { low = kept.low; coarse = omega (arith, kept.coarse) }
+
 -- where a triangle holds no point of the area, all entries under it are right
 pub AllUnder-clear : AddressLaws → (g : HeightField) (area : Area) (table : List Wedge) → IsRightOff g area table →
-    (levels a : ℕ) → 2 ≤ a → level_of a + levels ≡ 2 * g.n → IsClearOf g.n area a → AllUnder levels (HasEntry g table) a
+    (levels a : ℕ) → 2 ≤ a → level_of a + levels ≤ kept_levels g.n → IsClearOf g.n area a →
+    AllUnder levels (HasEntry g table) a
 AllUnder-clear laws g area table right zero a some level clear = tt
 AllUnder-clear laws g area table right (suc levels) a some level clear =
-    let split : IsSplittable g.n a = record { low = some; coarse = omega arith } in (
-      right a split clear,
+    let kept : IsKept g.n a = record { low = some; coarse = omega arith } in
+    let split : IsSplittable g.n a = IsSplittable-kept g.n a kept in (
+      right a kept clear,
       AllUnder-clear laws g area table right levels (2 * a) (omega arith) (omega (arith, laws.left a some))
           (λ r held. clear r (held-left laws g.n a split r held)),
       AllUnder-clear laws g area table right levels (2 * a + 1) (omega arith) (omega (arith, laws.right a some))
@@ -38,17 +44,17 @@ AllUnder-clear laws g area table right (suc levels) a some level clear =
 -- entries that are right stay right along a walk
 pub IsRightOff-kept : (g : HeightField) (area : Area) (one two : List Wedge) → ((a : ℕ) → HasEntry g one a → HasEntry g two a) →
     IsRightOff g area one → IsRightOff g area two
-IsRightOff-kept g area one two keeps right = λ a split clear. keeps a (right a split clear)
+IsRightOff-kept g area one two keeps right = λ a kept clear. keeps a (right a kept clear)
 
 -- after heights of an area changed, the entries of the triangles that hold none of its points are right
 pub IsRightOff-edited : AddressLaws → (g h : HeightField) (area : Area) (table : List Wedge) → g.n ≡ h.n → IsTable g table →
     ((i j : ℕ) → i ≤ 2 ^ g.n → j ≤ 2 ^ g.n → (is_in_area area i j ≡ true → ⊥) →
     height_at g.n h.heights i j ≡ height_at g.n g.heights i j) → IsRightOff h area table
-IsRightOff-edited laws g h area table same right others = λ a split clear d.
-    let some : 2 ≤ a = split.low in
-    let coarse : level_of a < 2 * h.n = split.coarse in
+IsRightOff-edited laws g h area table same right others = λ a kept clear d.
+    let some : 2 ≤ a = kept.low in
+    let coarse : level_of a < kept_levels h.n = kept.coarse in
     let fits : level_of a ≤ 2 * g.n = omega (arith, same) in
-    let before : IsSplittable g.n a = record { low = some; coarse = omega (arith, same) } in
+    let before : IsKept g.n a = record { low = some; coarse = omega (arith, same) } in
     let Clear : ℕ → Type 0 = λ n. IsClearOf n area a in
     let free : IsClearOf g.n area a = subst Clear (sym same) clear in
     IsWedge-same laws g h a (slice_index_or table a d) same some fits
@@ -58,12 +64,12 @@ IsRightOff-edited laws g h area table same right others = λ a split clear d.
 -- each triangle holds a point of the whole square, so nothing is asked of a table that is filled
 pub IsRightOff-whole : AddressLaws → (g : HeightField) (side : ℕ) (table : List Wedge) → side ≡ 2 ^ g.n →
     IsRightOff g (area_of 0 0 side side) table
-IsRightOff-whole laws g side table is = λ a split clear.
-    let coarse : level_of a < 2 * g.n = split.coarse in
+IsRightOff-whole laws g side table is = λ a kept clear.
+    let coarse : level_of a < kept_levels g.n = kept.coarse in
     let w : IsWithin (2 ^ g.n) (corners_of g.n a) = laws.within g.n a in
     let x : (corners_of g.n a).apex.x ≤ side = omega (arith, w.apex_x) in
     let y : (corners_of g.n a).apex.y ≤ side = omega (arith, w.apex_y) in
-    absurd (clear (corners_of g.n a).apex (apex-passes laws g.n a split.low (omega arith))
+    absurd (clear (corners_of g.n a).apex (apex-passes laws g.n a kept.low (omega arith))
     (made-area (area_of 0 0 side side) (corners_of g.n a).apex.x (corners_of g.n a).apex.y
     (record { left = omega arith; right = x; bottom = omega arith; top = y })))
 

@@ -9,6 +9,7 @@
 #![tactic(auto)]
 
 mod area;
+mod fine;
 mod heights;
 mod laws;
 mod shape;

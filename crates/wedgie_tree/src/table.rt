@@ -3,39 +3,36 @@
 ghost use Rattle.std.specs.Prelude.{◌≡◌, ℕ, ◌+◌, ◌-◌, ◌*◌, ◌^◌, ◌<◌, ◌≤◌, length};
 ghost use Rattle.mesh_defs.specs.Triangle.{level_of, corners_of};
 ghost use Rattle.mesh_defs.specs.declared.level.TheConstants.{GREATEST_LEVEL};
-ghost use Rattle.wedgie_tree.specs.Table.{IsWedge, HasEntry, AllUnder, IsTable, IsRightOff};
+ghost use Rattle.wedgie_tree.specs.Table.{kept_levels, IsWedge, HasEntry, AllUnder, IsTable, IsRightOff};
 
 use crate::Area;
+use crate::fine::fine_wedge;
 use crate::laws::wedge_laws;
-use crate::shape::{deviation_of, height_at};
+use crate::shape::deviation_of;
 use crate::wedge::Wedge;
 use bintree_addr::{Corners, Tri, child_corners, corner_laws, level_laws};
 use pgm_grid::Grid;
 
-/// The number of places in the table: one for each address below the finest level, and two unused ones.
-pub fn places(n: u32) -> usize
+/// How many of the last splittable levels have no place in the table, at most: a wedge there is made from its
+/// heights, which costs less than a read of memory that is far away.
+///
+/// Each further level halves the table and doubles the heights that a wedge is made from.
+pub const LEFT_OUT: u32 = 4;
+
+/// The number of levels that the table has.
+pub fn levels(n: u32) -> u32
     requires { n ≤ GREATEST_LEVEL }
-    ensures { result ≡ 2 ^ (2 * n + 1) }
+    ensures { result ≡ kept_levels n }
 {
-    1 << (2 * n + 1)
+    (2 * n).saturating_sub(LEFT_OUT)
 }
 
-/// The wedge of a finest triangle, which holds no points but its corners.
-pub fn finest_wedge(grid: &Grid, tri: Tri, corners: Corners) -> Wedge
-    requires finest { level_of tri ≡ 2 * grid.now.n }
-    requires of_tri { corners ≡ corners_of grid.now.n tri }
-    ensures { IsWedge grid.now tri result }
+/// The number of places in the table: one for each address of its levels, and two unused ones.
+pub fn places(n: u32) -> usize
+    requires { n ≤ GREATEST_LEVEL }
+    ensures { result ≡ 2 ^ (kept_levels n + 1) }
 {
-    corner_laws();
-    wedge_laws();
-    let apex = height_at(grid, corners.apex);
-    let v0 = height_at(grid, corners.v0);
-    let v1 = height_at(grid, corners.v1);
-    Wedge {
-        thickness: 0,
-        low: apex.min(v0.min(v1)),
-        high: apex.max(v0.max(v1)),
-    }
+    1 << (levels(n) + 1)
 }
 
 /// The wedge of a splittable triangle by those of its children.
@@ -59,23 +56,23 @@ pub fn joined(grid: &Grid, tri: Tri, corners: Corners, left: Wedge, right: Wedge
 
 /// Mends the entries of a triangle and of all its descendants, and answers its own wedge.
 ///
-/// Entries that are right stay right. A finest triangle has no entry.
+/// Entries that are right stay right. A triangle of the last levels has no entry.
 /// Cost (not proved): a step for each descendant that meets the area, and for each child of one. The
 /// recursion is as deep as there are levels.
 pub fn mend_under(table: &mut [Wedge], grid: &Grid, area: Area, tri: Tri, corners: Corners) -> Wedge
-    requires room { length table.old ≡ 2 ^ (2 * grid.now.n + 1) }
+    requires room { length table.old ≡ 2 ^ (kept_levels grid.now.n + 1) }
     requires level { level_of tri ≤ 2 * grid.now.n }
     requires of_tri { corners ≡ corners_of grid.now.n tri }
     requires clear { IsRightOff grid.now area table.old }
     ensures value { IsWedge grid.now tri result }
-    ensures under { AllUnder (2 * grid.now.n - level_of tri) (HasEntry grid.now table.new) tri }
+    ensures under { AllUnder (kept_levels grid.now.n - level_of tri) (HasEntry grid.now table.new) tri }
     ensures others { (a : ℕ) → HasEntry grid.now table.old a → HasEntry grid.now table.new a }
     ensures clear { IsRightOff grid.now area table.new }
 {
     corner_laws();
     level_laws();
-    if tri.level() == 2 * grid.n() {
-        return finest_wedge(grid, tri, corners);
+    if levels(grid.n()) <= tri.level() {
+        return fine_wedge(grid, tri, corners);
     }
     if !area.meets(corners) {
         return table[tri.number() as usize];
@@ -89,7 +86,7 @@ pub fn mend_under(table: &mut [Wedge], grid: &Grid, area: Area, tri: Tri, corner
 
 /// Mends the entries of all triangles that hold a point of the area; the others are right.
 pub fn mend(table: &mut [Wedge], grid: &Grid, area: Area)
-    requires room { length table.old ≡ 2 ^ (2 * grid.now.n + 1) }
+    requires room { length table.old ≡ 2 ^ (kept_levels grid.now.n + 1) }
     requires clear { IsRightOff grid.now area table.old }
     ensures { IsTable grid.now table.new }
 {
@@ -104,7 +101,7 @@ pub fn mend(table: &mut [Wedge], grid: &Grid, area: Area)
 
 /// Fills the whole table: each triangle meets the whole square.
 pub fn fill(table: &mut [Wedge], grid: &Grid)
-    requires { length table.old ≡ 2 ^ (2 * grid.now.n + 1) }
+    requires { length table.old ≡ 2 ^ (kept_levels grid.now.n + 1) }
     ensures { IsTable grid.now table.new }
 {
     let side = 1 << grid.n();

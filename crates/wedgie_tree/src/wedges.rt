@@ -3,19 +3,20 @@
 ghost use Rattle.std.specs.Prelude.{◌≡◌, ℕ, ◌+◌, ◌*◌, ◌<◌, ◌≤◌, ◌^◌, IfOk, pos, negsuc, ◌≤ℤ◌, true, length, slice_index, slice_set, All};
 ghost use Rattle.mesh_defs.specs.HeightField.{IsHeightField, height_at, place_of};
 ghost use Rattle.mesh_defs.specs.State.{is_in_area, raised_heights};
-ghost use Rattle.mesh_defs.specs.Triangle.{level_of};
+ghost use Rattle.mesh_defs.specs.Triangle.{level_of, corners_of};
 ghost use Rattle.mesh_defs.specs.Thickness.{thickness_of};
 ghost use Rattle.mesh_defs.specs.BoundingBox.{low_of, high_of, box_of};
 ghost use Rattle.wedgie_tree.specs.declared.wedges.TheConstants.{GREATEST_SPACING};
 ghost use Rattle.wedgie_tree.specs.Edits.{with_row};
 
 use crate::Area;
+use crate::fine::fine_wedge;
 use crate::heights::{put_row, raise_heights};
 use crate::laws::wedge_laws;
 use crate::shape::box_around;
-use crate::table::{fill, finest_wedge, mend, places};
+use crate::table::{fill, levels, mend, places};
 use crate::wedge::Wedge;
-use bintree_addr::{Cuboid, Tri, level_laws};
+use bintree_addr::{Corners, Cuboid, Tri, level_laws};
 use pgm_grid::Grid;
 use roam_edge::NoMemory;
 use std::alloc::Global;
@@ -147,7 +148,7 @@ impl Wedges {
         if t.level() == 2 * self.grid.n() {
             0
         } else {
-            self.table[t.number() as usize].thickness
+            self.wedge(t).thickness
         }
     }
 
@@ -169,6 +170,36 @@ impl Wedges {
         ensures { result ≡ high_of self.now.n self.now.heights t }
     {
         self.wedge(t).high
+    }
+
+    /// What `thickness` and `cuboid` answer, for one walk down to the corners.
+    ///
+    /// Cost (not proved): that of `Tri::corners`, and at the last levels a step for each of at most 15 heights.
+    pub fn thickness_and_cuboid(&self, t: Tri, spacing: u32) -> (u32, Cuboid)
+        requires level { level_of t ≤ 2 * self.now.n }
+        requires spacing_low { 1 ≤ spacing }
+        requires spacing_high { spacing ≤ GREATEST_SPACING }
+        ensures thickness { result.0 ≡ thickness_of self.now.n self.now.heights t }
+        ensures x0 { result.1.x0 ≡ (box_of self.now.n self.now.heights spacing t).x0 }
+        ensures x1 { result.1.x1 ≡ (box_of self.now.n self.now.heights spacing t).x1 }
+        ensures y0 { result.1.y0 ≡ (box_of self.now.n self.now.heights spacing t).y0 }
+        ensures y1 { result.1.y1 ≡ (box_of self.now.n self.now.heights spacing t).y1 }
+        ensures z0 { result.1.z0 ≡ (box_of self.now.n self.now.heights spacing t).z0 }
+        ensures z1 { result.1.z1 ≡ (box_of self.now.n self.now.heights spacing t).z1 }
+
+        // Lower ends are at least 0, and at most the upper ends, which are at most 2^21.
+        ensures x_from_0 { pos 0 ≤ℤ result.1.x0 }
+        ensures y_from_0 { pos 0 ≤ℤ result.1.y0 }
+        ensures z_from_0 { pos 0 ≤ℤ result.1.z0 }
+        ensures x_small { result.1.x1 ≤ℤ pos (2 ^ 21) }
+        ensures y_small { result.1.y1 ≤ℤ pos (2 ^ 21) }
+        ensures z_small { result.1.z1 ≤ℤ pos (2 ^ 21) }
+    {
+        wedge_laws();
+        let corners = t.corners(self.grid.n());
+        let wedge = self.wedge_at(t, corners);
+        let cuboid = box_around(corners, spacing, wedge.low, wedge.high);
+        (wedge.thickness, cuboid)
     }
 
     /// The box around a triangle's part of the surface, in world units, where a grid step has so many of
@@ -194,22 +225,35 @@ impl Wedges {
         ensures y_small { result.y1 ≤ℤ pos (2 ^ 21) }
         ensures z_small { result.z1 ≤ℤ pos (2 ^ 21) }
     {
-        wedge_laws();
-        let wedge = self.wedge(t);
-        box_around(t.corners(self.grid.n()), spacing, wedge.low, wedge.high)
+        let (_, cuboid) = self.thickness_and_cuboid(t, spacing);
+        cuboid
     }
 
     ghost use Rattle.wedgie_tree.specs.Table.{IsWedge};
 
-    // The wedge of a triangle: from the table, or of a finest one from its corners.
+    // The wedge of a triangle: from the table, or at the last levels from its heights.
     fn wedge(&self, t: Tri) -> Wedge
         requires { level_of t ≤ 2 * self.now.n }
         ensures { IsWedge self.now t result }
     {
         level_laws();
         let n = self.grid.n();
-        if t.level() == 2 * n {
-            finest_wedge(&self.grid, t, t.corners(n))
+        if levels(n) <= t.level() {
+            fine_wedge(&self.grid, t, t.corners(n))
+        } else {
+            self.table[t.number() as usize]
+        }
+    }
+
+    // The same, where the corners are known.
+    fn wedge_at(&self, t: Tri, corners: Corners) -> Wedge
+        requires level { level_of t ≤ 2 * self.now.n }
+        requires of_tri { corners ≡ corners_of self.now.n t }
+        ensures { IsWedge self.now t result }
+    {
+        level_laws();
+        if levels(self.grid.n()) <= t.level() {
+            fine_wedge(&self.grid, t, corners)
         } else {
             self.table[t.number() as usize]
         }

@@ -1,6 +1,6 @@
-use Rattle.std.proofs.Common.{ℕ, ◌^◌, ◌+◌, ◌-◌, ◌*◌, ◌<◌, ◌≤◌, sym, subst, arith, slice_index_or, set}
+use Rattle.std.proofs.Common.{ℕ, ◌^◌, ◌+◌, ◌-◌, ◌<◌, ◌≤◌, sym, subst, arith, slice_index_or, set}
 use Rattle.mesh_defs.specs.Triangle.{level_of}
-use Rattle.wedgie_tree.specs.Table.{IsWedge}
+use Rattle.wedgie_tree.specs.Table.{IsWedge, kept_levels}
 use Rattle.wedgie_tree.proofs.PlaceLemmas.{IsWithin-of}
 use Rattle.wedgie_tree.proofs.AreaLemmas.{address_laws}
 use Rattle.wedgie_tree.proofs.MendLemmas.{IsClearOf-apart, AllUnder-clear, IsRightOff-kept}
@@ -24,10 +24,10 @@ child_corners-requires-2 t c = record {
 pub returns-clause-under : goal.returns-clause-under
 returns-clause-under t c =
     let low : 2 ≤ c.args.tri = omega arith in
-    let coarse : level_of c.args.tri < 2 * c.args.grid.now.n = omega arith in
-    let place : c.args.tri < 2 ^ (2 * c.args.grid.now.n + 1) =
-    (c.level_laws.ensures.below c.args.tri (2 * c.args.grid.now.n) low).0 coarse in
-    AllUnder-filled c.args.grid.now c.args.tri c.left.result c.right.result c.number-2.result c.mend_under-left.new.table
+    let coarse : level_of c.args.tri < kept_levels c.args.grid.now.n = omega arith in
+    let place : c.args.tri < 2 ^ (kept_levels c.args.grid.now.n + 1) =
+    (c.level_laws.ensures.below c.args.tri (kept_levels c.args.grid.now.n) low).0 coarse in
+    AllUnder-filled c.args.grid.now (kept_levels c.args.grid.now.n) c.args.tri c.left.result c.right.result c.number-2.result c.mend_under-left.new.table
     c.mend_under-right.new.table c.joined-wedge.result c.left.ensures.value c.right.ensures.value c.left.ensures.level
     c.right.ensures.level coarse c.mend_under-left.ensures.under c.mend_under-right.ensures.others c.mend_under-right.ensures.under
     c.number-2.ensures.value (omega arith) c.joined-wedge.ensures
@@ -35,8 +35,8 @@ returns-clause-under t c =
 pub returns-clause-others : goal.returns-clause-others
 returns-clause-others t c =
     let low : 2 ≤ c.args.tri = omega arith in
-    let place : c.args.tri < 2 ^ (2 * c.args.grid.now.n + 1) =
-    (c.level_laws.ensures.below c.args.tri (2 * c.args.grid.now.n) low).0 (omega arith) in
+    let place : c.args.tri < 2 ^ (kept_levels c.args.grid.now.n + 1) =
+    (c.level_laws.ensures.below c.args.tri (kept_levels c.args.grid.now.n) low).0 (omega arith) in
     let wedge : IsWedge c.args.grid.now c.number-2.result c.joined-wedge.result =
     rw c.number-2.ensures.value c.joined-wedge.ensures in
     λ a has. HasEntry-set c.args.grid.now c.mend_under-right.new.table c.number-2.result c.joined-wedge.result (omega arith)
@@ -49,7 +49,7 @@ is_clear t c = IsClearOf-apart address_laws c.args.grid.now.n c.args.tri c.args.
 
 pub returns-then-not-meets-clause-value : goal.returns-then-not-meets-clause-value
 returns-then-not-meets-clause-value t c =
-    let coarse : level_of c.args.tri < 2 * c.args.grid.now.n = omega arith in
+    let coarse : level_of c.args.tri < kept_levels c.args.grid.now.n = omega arith in
     let Own : ℕ → Type 0 = λ i. IsWedge c.args.grid.now c.args.tri (slice_index_or c.args.table.now i record { thickness = 0; low = 0; high = 0 }) in
     subst Own (sym c.number.ensures.value)
     (c.requires.clear c.args.tri (record { low = omega arith; coarse = coarse }) (is_clear t c) (record { thickness = 0; low = 0; high = 0 }))
@@ -57,7 +57,7 @@ returns-then-not-meets-clause-value t c =
 pub returns-then-not-meets-clause-under : goal.returns-then-not-meets-clause-under
 returns-then-not-meets-clause-under t c =
     AllUnder-clear address_laws c.args.grid.now c.args.area c.args.table.now c.requires.clear
-    (2 * c.args.grid.now.n - level_of c.args.tri) c.args.tri (omega arith) (omega arith) (is_clear t c)
+    (kept_levels c.args.grid.now.n - level_of c.args.tri) c.args.tri (omega arith) (omega arith) (is_clear t c)
 
 pub returns-clause-clear : goal.returns-clause-clear
 returns-clause-clear t c =
