@@ -100,11 +100,13 @@ int main(int argc, char **argv) {
         return held != 0;
     }
     uint32_t *index = malloc(12 * room), *leaf = malloc(4 * room), *before = malloc(4 * room), *gone = malloc(4 * room), *come = malloc(4 * room);
-    if (!index || !leaf || !before || !gone || !come) return 1;
+    uint32_t *point = malloc(12 * (room + 2));
+    char *text = malloc(48 + 30 * room);
+    if (!index || !leaf || !before || !gone || !come || !point || !text) return 1;
     must(roam_camera(&terrain, x, y, z));
     told_frames("first", 1, frame());
 
-    double in_frame = 0, in_indices = 0, in_leaves = 0, in_changes = 0;
+    double in_frame = 0, in_indices = 0, in_leaves = 0, in_changes = 0, in_positions = 0, in_compact = 0, in_strip = 0;
     size_t count = 0, befores = 0;
     must(roam_leaves(&terrain, before, room, &befores));
     for (int k = 1; k <= 10; k++) {
@@ -116,6 +118,12 @@ int main(int argc, char **argv) {
         in_indices += now() - start, start = now();
         must(roam_leaves(&terrain, leaf, room, &count));
         in_leaves += now() - start, start = now();
+        must(roam_positions(&terrain, point, 3 * (room + 2), &count));
+        in_positions += now() - start, start = now();
+        must(roam_compact(&terrain, index, 3 * room, &count));
+        in_compact += now() - start, start = now();
+        must(roam_strip(&terrain, index, 3 * room, &count));
+        in_strip += now() - start, start = now();
         roam_changes(before, befores, leaf, count, gone, room, come, room, &both);
         in_changes += now() - start;
         uint32_t *swap = before;
@@ -123,6 +131,21 @@ int main(int argc, char **argv) {
     }
     told_frames("later", 10, in_frame);
     tell("indices", 10, in_indices), tell("leaves", 10, in_leaves), tell("changes", 10, in_changes);
+    tell("positions", 10, in_positions), tell("compact", 10, in_compact), tell("strip", 10, in_strip);
+
+    /* How far the mesh is off; the best mesh of the budget by its error, and the one within 100 units; a certificate. */
+    roam_deviation_note off;
+    roam_fit_note found;
+    size_t length;
+    start = now();
+    must(roam_deviation(&terrain, &off));
+    tell("deviation", 1, now() - start), start = now();
+    must(roam_fit(&terrain, 0, budget, index, 3 * room, &found));
+    tell("fit_budget", 1, now() - start), start = now();
+    must(roam_fit(&terrain, 100000, budget, index, 3 * room, &found));
+    tell("fit_error", 1, now() - start), start = now();
+    must(roam_certificate(&terrain, x, y, z, text, 48 + 30 * room, &length));
+    tell("certificate", 1, now() - start);
 
     /* A view of four planes that turns in each frame. */
     in_frame = 0;
@@ -153,6 +176,6 @@ int main(int argc, char **argv) {
     tell("raise", 20, now() - start);
     told_frames("edited", 1, frame());
     must(roam_close(&terrain));
-    free(heights), free(index), free(leaf), free(before), free(gone), free(come);
+    free(heights), free(index), free(leaf), free(before), free(gone), free(come), free(point), free(text);
     return 0;
 }

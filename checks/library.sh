@@ -220,6 +220,16 @@ if has library_python python3; then
     python=(env PYTHONPATH="$path${PYTHONPATH:+:$PYTHONPATH}" PYTHONDONTWRITEBYTECODE=1 ROAM_LIBRARY="$prefix/lib/libroam.so" python3)
     runs "library_python_doctest_$kind" '' "${python[@]}" -m doctest "$prefix/lib/python/roam.py"
     runs "library_python_jacksboro_$kind" 'outside 193' "${python[@]}" "$uses/jacksboro.py"
+    mkdir "found_$kind"
+    runs "library_python_mesh_$kind" 'off by at most' "${python[@]}" "$uses/jacksboro.py" "found_$kind"
+    runs "library_python_obj_$kind" '' cmp "found_$kind/mesh.obj" "$top/examples/jacksboro/expected/out000001.obj"
+    runs "library_python_certificate_$kind" certified python3 "$top/checks/certificates.py" "$jacksboro" "found_$kind/mesh.obj" "found_$kind/certificate" 2000 90
+    if [ -x "$program" ]; then
+      "$program" certify make "$jacksboro" 0 0 0 2000 90 >of_program
+      runs "library_python_certificate_of_program_$kind" '' cmp "found_$kind/certificate" of_program
+    else
+      skip "library_python_certificate_of_program_$kind" 'the program is not built'
+    fi
     runs "library_python_refusals_$kind" '' "${python[@]}" "$tests/refusals.py"
     runs "library_python_threads_$kind" 'threads of Python' "${python[@]}" "$tests/threads.py"
     { echo 'heights, path = [7] * 81, [(1, 2, 3.5)] * 3'; block python; echo 'print(note.triangles)'; } >loop.py

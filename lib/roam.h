@@ -34,12 +34,14 @@ enum roam_answer {
     ROAM_BAD_CHANGE = 9,      /* dz beyond -65535 .. 65535 */
     ROAM_WORN = 10,           /* 1000000 frames were made, or the camera has gone more than 2^61 units: open the engine anew */
     ROAM_NO_ROOM = 11,        /* the array has too few places */
-    ROAM_IS_EMPTY = 12        /* the handle has no engine */
+    ROAM_IS_EMPTY = 12,       /* the handle has no engine */
+    ROAM_BAD_TOLERANCE = 13   /* a tolerance above 65535999 thousandths */
 };
 
-/* Owns an engine, or is empty. The fields are the library's. */
+/* Owns an engine, or is empty. The fields are the library's. A handle that nobody has written is nearly always taken as an empty
+ * one, since its first word is not that of a full one; do not rest on it. */
 typedef struct roam_handle {
-    uint8_t full;
+    uint64_t mark;
     void *at;
 } roam_handle;
 #define ROAM_EMPTY { 0, NULL }
@@ -59,6 +61,15 @@ typedef struct roam_changes_note {
     size_t gone, come;
 } roam_changes_note;
 
+typedef struct roam_deviation_note {
+    uint64_t off, over; /* off / over units of height, exactly; over is side - 1 */
+} roam_deviation_note;
+
+typedef struct roam_fit_note {
+    uint64_t off, over;            /* how far the mesh found is off, as in roam_deviation_note */
+    uint32_t triangles, vertices;
+} roam_fit_note;
+
 typedef struct roam_state_note {
     size_t side;          /* points of a side, 2^n + 1 */
     uint64_t way;         /* how far the camera has gone, over the three axes, in world units */
@@ -71,7 +82,8 @@ typedef struct roam_state_note {
 
 /* Opens an engine over `count` heights: rows from the far side (greatest y) to the near one, each from left to right. They are
  * copied. `budget` is the most triangles that a mesh may have, `spacing` the length of a grid step in units of height. All
- * memory is taken here; no other call takes any. A full handle lets go of its engine, unless the call fails. */
+ * memory of an engine is taken here; no other call takes any but roam_strip, roam_fit and roam_certificate, which give it
+ * back. A full handle lets go of its engine, unless the call fails. */
 int32_t roam_open(roam_handle *h, const uint16_t *heights, size_t count, uint32_t budget, uint32_t spacing);
 
 /* Lets go of the engine; the handle is empty then. Answers ROAM_OK, or ROAM_IS_EMPTY if it was empty before. */
@@ -104,6 +116,36 @@ int32_t roam_indices(roam_handle *h, uint32_t *out, size_t places, size_t *trian
 
 /* Writes the address of each triangle, in the same order: a number from 2 to 2^24 - 1 that names it in every frame. */
 int32_t roam_leaves(roam_handle *h, uint32_t *out, size_t places, size_t *triangles);
+
+/* Writes the vertices of the mesh alone, for who does not want all grid points on the card: x, y and z of each, in world units
+ * and units of height, as whole numbers below 2^22 (a card takes them as floats without loss). They stand by y and then by x,
+ * as the v lines of the mesh's OBJ file do. `places` is the length of `out`: three for each of a frame's `vertices`, of which
+ * there are never more than triangles and 2. Costs a look at each grid point. */
+int32_t roam_positions(roam_handle *h, uint32_t *out, size_t places, size_t *vertices);
+
+/* Writes three numbers for each triangle, depth first and counterclockwise as roam_indices, but by the vertices of
+ * roam_positions, counted from 0: index one vertex buffer of these positions. Costs as much as roam_indices. */
+int32_t roam_compact(roam_handle *h, uint32_t *out, size_t places, size_t *triangles);
+
+/* Writes what roam_indices writes, with the triangles in the order of one strip: each two neighbours share a whole edge, and so
+ * do the last and the first. Takes 4 bytes a triangle and gives them back. Costs a move of each triangle for each level. */
+int32_t roam_strip(roam_handle *h, uint32_t *out, size_t places, size_t *triangles);
+
+/* Tells how far the heights are from the last frame's mesh at a grid point, at most, exactly. Costs a step a grid point. */
+int32_t roam_deviation(roam_handle *h, roam_deviation_note *out);
+
+/* Finds the mesh of fewest triangles that is off by no more than a tolerance, in thousandths of a unit of height, over the heights
+ * as they are, whatever the camera; where it would have more than `budget` triangles, the mesh of that budget that is off by the
+ * least. Writes its indices as roam_indices does. A tolerance of 0 asks for the best mesh of the budget; a budget of
+ * 2 (side - 1)^2 or more is no bound. `places` has to be 3 times the budget, or 3 times that bound where it is less. Takes 14
+ * bytes a grid point, and 16 a triangle of a budget that is a bound, and gives them back. The engine is as before. */
+int32_t roam_fit(roam_handle *h, uint32_t thousandths, uint32_t budget, uint32_t *out, size_t places, roam_fit_note *told);
+
+/* Writes the certificate of the best mesh from (x, y, z), without planes and of the budget in force, as text: that of
+ * `roam certify make` for the same grid, camera, budget and spacing, which `roam certify check` or a checker of your own can check.
+ * 48 + 30 times the budget bytes always suffice. Takes the memory and the time of an engine of this grid and budget and its first
+ * frame, and gives the memory back. The engine is as before. */
+int32_t roam_certificate(roam_handle *h, int64_t x, int64_t y, int64_t z, char *out, size_t room, size_t *length);
 
 /* Of two lists that roam_leaves wrote for one grid: the addresses of the first alone, and of the second alone, and how many
  * there are. Those for which there is no room are counted all the same. */

@@ -6,6 +6,7 @@
 #ifndef ROAM_HPP
 #define ROAM_HPP
 #include "roam.h"
+#include <algorithm>
 #include <cstddef>
 #include <cstdint>
 #include <iterator>
@@ -24,8 +25,8 @@ inline const char *text_of(int32_t answer) noexcept {
         "a coordinate of the camera is beyond 2^30", "a slope of the plane is beyond 2^20, or its offset beyond 2^50",
         "six planes are in force", "a point is outside the grid, or the area is empty", "the change is beyond 65535",
         "the engine has made 1000000 frames, or its camera has gone 2^61 units", "the array has too few places",
-        "there is no engine"};
-    return answer >= 0 && answer <= ROAM_IS_EMPTY ? texts[answer] : "an unknown answer";
+        "there is no engine", "the tolerance is above 65535999 thousandths"};
+    return answer >= 0 && answer <= ROAM_BAD_TOLERANCE ? texts[answer] : "an unknown answer";
 }
 
 #ifdef ROAM_ANSWERS
@@ -53,6 +54,10 @@ class engine {
     static uint32_t *room(uint32_t *at) noexcept { // never null
         static uint32_t none;
         return at ? at : &none;
+    }
+    using list = int32_t (*)(roam_handle *, uint32_t *, std::size_t, std::size_t *);
+    result listed(list call, uint32_t *out, std::size_t places, std::size_t &count, const char *name) {
+        return told(call(&h, room(out), out ? places : 0, &count), name);
     }
 
 public:
@@ -90,12 +95,19 @@ public:
     }
     result frame(roam_frame_note &out) { return told(roam_frame(&h, &out), "frame"); }
     result state(roam_state_note &out) { return told(roam_state(&h, &out), "state"); }
-    /// Three places in the heights for each triangle, into memory of the caller's, such as a mapped buffer.
-    result indices(uint32_t *out, std::size_t places, std::size_t &triangles) {
-        return told(roam_indices(&h, room(out), out ? places : 0, &triangles), "indices");
+    result deviation(roam_deviation_note &out) { return told(roam_deviation(&h, &out), "deviation"); }
+    /// Numbers into memory of the caller's, such as a mapped buffer, and how many triangles or vertices they are.
+    result indices(uint32_t *out, std::size_t places, std::size_t &n) { return listed(roam_indices, out, places, n, "indices"); }
+    result leaves(uint32_t *out, std::size_t places, std::size_t &n) { return listed(roam_leaves, out, places, n, "leaves"); }
+    result positions(uint32_t *out, std::size_t places, std::size_t &n) { return listed(roam_positions, out, places, n, "positions"); }
+    result compact(uint32_t *out, std::size_t places, std::size_t &n) { return listed(roam_compact, out, places, n, "compact"); }
+    result strip(uint32_t *out, std::size_t places, std::size_t &n) { return listed(roam_strip, out, places, n, "strip"); }
+    result fit(uint32_t thousandths, uint32_t budget, uint32_t *out, std::size_t places, roam_fit_note &found) {
+        return told(roam_fit(&h, thousandths, budget, room(out), out ? places : 0, &found), "fit");
     }
-    result leaves(uint32_t *out, std::size_t places, std::size_t &triangles) {
-        return told(roam_leaves(&h, room(out), out ? places : 0, &triangles), "leaves");
+    result certificate(int64_t x, int64_t y, int64_t z, char *out, std::size_t bytes, std::size_t &length) {
+        static char none;
+        return told(roam_certificate(&h, x, y, z, out ? out : &none, out ? bytes : 0, &length), "certificate");
     }
 
 #ifndef ROAM_ANSWERS
@@ -110,18 +122,39 @@ public:
         state(out);
         return out;
     }
-    /// The same as a vector, made as long as is needed. Kept from frame to frame, it takes memory once.
-    void indices(std::vector<uint32_t> &out) {
-        std::size_t triangles = 0;
-        out.resize(3 * std::size_t{state().most});
-        indices(out.data(), out.size(), triangles);
-        out.resize(3 * triangles);
+    roam_deviation_note deviation() {
+        roam_deviation_note out;
+        deviation(out);
+        return out;
     }
-    void leaves(std::vector<uint32_t> &out) {
-        std::size_t triangles = 0;
-        out.resize(state().most);
-        leaves(out.data(), out.size(), triangles);
-        out.resize(triangles);
+    /// The same as vectors, made as long as is needed. Kept from frame to frame, they take memory once.
+    void indices(std::vector<uint32_t> &out) { fill(roam_indices, out, 3, state().most, "indices"); }
+    void leaves(std::vector<uint32_t> &out) { fill(roam_leaves, out, 1, state().most, "leaves"); }
+    void positions(std::vector<uint32_t> &out) { fill(roam_positions, out, 3, std::size_t{state().most} + 2, "positions"); }
+    void compact(std::vector<uint32_t> &out) { fill(roam_compact, out, 3, state().most, "compact"); }
+    void strip(std::vector<uint32_t> &out) { fill(roam_strip, out, 3, state().most, "strip"); }
+    roam_fit_note fit(uint32_t thousandths, uint32_t budget, std::vector<uint32_t> &out) {
+        const std::size_t steps = state().side - 1;
+        roam_fit_note found;
+        out.resize(3 * std::min(std::size_t{budget}, 2 * steps * steps));
+        fit(thousandths, budget, out.data(), out.size(), found);
+        out.resize(3 * std::size_t{found.triangles});
+        return found;
+    }
+    std::string certificate(int64_t x, int64_t y, int64_t z) {
+        std::string out(48 + 30 * std::size_t{state().budget}, ' ');
+        std::size_t length = 0;
+        certificate(x, y, z, &out[0], out.size(), length);
+        out.resize(length);
+        return out;
+    }
+
+private:
+    void fill(list call, std::vector<uint32_t> &out, std::size_t each, std::size_t most, const char *name) {
+        std::size_t count = 0;
+        out.resize(each * most);
+        listed(call, out.data(), out.size(), count, name);
+        out.resize(each * count);
     }
 #endif
 };

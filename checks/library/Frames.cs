@@ -19,6 +19,18 @@ static class Frames {
         Must(engine.Indices(indices) == 4 && indices[0] == 4 && indices[1] == 6 && indices[2] == 8 && indices[12] == 77, "its indices");
         var leaves = new uint[4];
         Must(engine.Leaves(leaves) == 4 && leaves[0] == 4 && leaves[3] == 7, "its addresses");
+        var positions = new uint[15];
+        Must(engine.Positions(positions) == 5 && positions[6] == 10 && positions[7] == 10 && positions[8] == 100 && positions[14] == 0, "its vertices");
+        var compact = new uint[12];
+        Must(engine.Compact(compact) == 4 && compact[0] == 2 && compact[1] == 0 && compact[2] == 1, "their numbers");
+        Must(engine.Strip(indices) == 4 && indices[12] == 77, "its strip");
+        Deviation deviation = engine.Deviation();
+        Must(deviation.Off == 0 && deviation.Over == 2, "how far it is off");
+        Found found = engine.Fit(0, 8, new uint[24]);
+        Must(found.Triangles == 4 && found.Vertices == 5 && found.Off == 0, "the mesh for tolerance 0");
+        found = engine.Fit(100000, 8, new uint[24]);
+        Must(found.Triangles == 2 && found.Off == 200 && found.Over == 2, "the mesh for tolerance 100");
+        Must(engine.Certificate(10, 10, 150).StartsWith("camera 10 10 150\nleaf 4\n"), "a certificate");
         engine.Set(0, 0, 900);
         engine.Raise(0, 0, 2, 2, -50);
         engine.Budget(5);
@@ -31,6 +43,7 @@ static class Frames {
         Must(AnswerOf(() => new Engine(new ushort[0], 8, 10)) == Answer.BadGrid, "an empty grid");
         Must(AnswerOf(() => engine.Indices(new uint[0])) == Answer.NoRoom, "no room");
         Must(AnswerOf(() => engine.Camera(1L << 31, 0, 0)) == Answer.BadCamera, "a far camera");
+        Must(AnswerOf(() => engine.Fit(65536000, 2, new uint[6])) == Answer.BadTolerance, "a tolerance of 65536");
         Note there = note;
         var beside = new Thread(() => {
             there = engine.Frame();

@@ -57,9 +57,10 @@ static size_t below(size_t end) {
 
 /* --- What a call has to answer, and what has to hold after it. --- */
 
-enum { OPEN, CLOSE, CAMERA, ADD_PLANE, CLEAR_PLANES, BUDGET, SET, RAISE, FRAME, INDICES, LEAVES, CHANGES, STATE, CALLS };
-static const char *const names[CALLS] = { "open", "close", "camera", "add_plane", "clear_planes", "budget", "set", "raise", "frame", "indices", "leaves", "changes", "state" };
-static unsigned long made[CALLS], refused[CALLS][13];
+enum { OPEN, CLOSE, CAMERA, ADD_PLANE, CLEAR_PLANES, BUDGET, SET, RAISE, FRAME, INDICES, LEAVES, CHANGES, STATE, POSITIONS, COMPACT, STRIP, DEVIATION, FIT, CERTIFICATE, CALLS };
+static const char *const names[CALLS] = { "open", "close", "camera", "add_plane", "clear_planes", "budget", "set", "raise", "frame", "indices", "leaves", "changes", "state",
+    "positions", "compact", "strip", "deviation", "fit", "certificate" };
+static unsigned long made[CALLS], refused[CALLS][14];
 static int call; /* the one that is being made */
 
 static void must(bool holds, const char *what) {
@@ -69,7 +70,7 @@ static void must(bool holds, const char *what) {
 }
 static void answers(int32_t answer, int32_t wanted) {
     made[call]++;
-    if (answer >= 0 && answer <= 12) refused[call][answer]++;
+    if (answer >= 0 && answer <= 13) refused[call][answer]++;
     if (answer == wanted) return;
     fprintf(stderr, "calls: roam_%s answers %d, not %d\n", names[call], (int)answer, (int)wanted);
     abort();
@@ -82,7 +83,8 @@ static struct engine {
     bool is_open;
     roam_state_note state;
     int64_t camera[3];
-    uint32_t triangles, before_count, before[MOST]; /* of the last frame, and the leaves that were written last */
+    uint16_t height[POINTS]; /* as they are, where the grid has no more */
+    uint32_t spacing, triangles, vertices, before_count, before[MOST]; /* of the last frame, and the leaves that were written last */
 } engines[ENGINES];
 static uint32_t list[ROOM], other[ROOM], gone[ROOM], come[ROOM];
 
@@ -131,7 +133,8 @@ static void do_open(struct engine *e, const uint16_t *from, size_t count, uint32
         memset(e->camera, 0, sizeof e->camera);
         e->state.side = ((size_t)1 << level_of(count)) + 1;
         e->state.most = e->state.budget = budget;
-        e->is_open = true, e->triangles = 2, e->before_count = 0;
+        e->is_open = true, e->triangles = 2, e->vertices = 4, e->before_count = 0, e->spacing = spacing;
+        if (count <= POINTS) memcpy(e->height, from, count * sizeof *from);
     }
     test_state(e);
 }
@@ -187,6 +190,7 @@ static void do_set(struct engine *e, uint32_t x, uint32_t y, uint16_t height) {
     call = SET;
     bool is_point = x < e->state.side && y < e->state.side;
     answers(roam_set(&e->handle, x, y, height), !e->is_open ? ROAM_IS_EMPTY : is_point ? ROAM_OK : ROAM_OUTSIDE_GRID);
+    if (e->is_open && is_point && e->state.side <= SIDE) e->height[(e->state.side - 1 - y) * e->state.side + x] = height;
     test_state(e);
 }
 
@@ -195,6 +199,11 @@ static void do_raise(struct engine *e, uint32_t x0, uint32_t y0, uint32_t x1, ui
     bool is_area = x0 <= x1 && y0 <= y1 && x1 < e->state.side && y1 < e->state.side;
     int32_t wanted = !e->is_open ? ROAM_IS_EMPTY : !is_area ? ROAM_OUTSIDE_GRID : is_within(dz, 65535) ? ROAM_OK : ROAM_BAD_CHANGE;
     answers(roam_raise(&e->handle, x0, y0, x1, y1, dz), wanted);
+    if (wanted == ROAM_OK && e->state.side <= SIDE) for (uint32_t y = y0; y <= y1; y++) for (uint32_t x = x0; x <= x1; x++) {
+        uint16_t *at = &e->height[(e->state.side - 1 - y) * e->state.side + x];
+        int32_t z = *at + dz;
+        *at = (uint16_t)(z < 0 ? 0 : z > 65535 ? 65535 : z);
+    }
     test_state(e);
 }
 
@@ -211,7 +220,7 @@ static void do_frame(struct engine *e) {
         must(it.triangles - e->triangles == it.splits - it.merges, "splits and merges do not lead to the mesh");
         must(it.inside + it.cut + it.outside == it.triangles && (e->state.planes > 0 || it.inside == it.triangles), "the counts by planes");
         must(it.spare == 0, "spare");
-        e->triangles = it.triangles;
+        e->triangles = it.triangles, e->vertices = it.vertices;
         e->state.frames++;
     } else {
         must(is_filled(&it, sizeof it), "a refused call has written");
@@ -318,6 +327,203 @@ static void do_changes(const struct engine *a, const struct engine *b, size_t go
     test_alone(other, afters, list, befores, come, come_room, it.come);
 }
 
+/* Whether memory ran out during a call that takes some. */
+static int32_t or_no_memory(int32_t wanted) { left = -1; return wanted == ROAM_OK && has_failed ? ROAM_NO_MEMORY : wanted; }
+
+/* The mesh again, as indices in `other`. */
+static void indices_again(struct engine *e) {
+    size_t triangles;
+    int was = call;
+    call = INDICES;
+    answers(roam_indices(&e->handle, other, ROOM, &triangles), ROAM_OK);
+    call = was;
+}
+
+static void do_vertices(struct engine *e, size_t places, bool is_compact) {
+    call = is_compact ? COMPACT : POSITIONS;
+    size_t count, wanted_count = is_compact ? e->triangles : e->vertices, side = e->state.side;
+    fill(list, sizeof list), fill(&count, sizeof count);
+    int32_t answer = is_compact ? roam_compact(&e->handle, list, places, &count) : roam_positions(&e->handle, list, places, &count);
+    int32_t wanted = !e->is_open ? ROAM_IS_EMPTY : places < 3 * wanted_count ? ROAM_NO_ROOM : ROAM_OK;
+    answers(answer, wanted);
+    size_t written = wanted == ROAM_OK ? 3 * wanted_count : 0;
+    must(is_filled(list + written, sizeof list - written * sizeof *list), "places were written that the mesh has not");
+    if (wanted != ROAM_OK) {
+        must(is_filled(&count, sizeof count), "a refused call has written");
+        test_state(e);
+        return;
+    }
+    must(count == wanted_count, "the count is not that of the frame");
+    if (!is_compact) for (size_t k = 0; k < count; k++) { /* by y and then by x, each at its height */
+        const uint32_t *v = list + 3 * k, *before = v - 3;
+        must(v[0] % e->spacing == 0 && v[1] % e->spacing == 0, "a vertex is no grid point");
+        size_t x = v[0] / e->spacing, y = v[1] / e->spacing;
+        must(x < side && y < side && v[2] == e->height[(side - 1 - y) * side + x], "a vertex has another height");
+        must(k == 0 || before[1] < v[1] || (before[1] == v[1] && before[0] < v[0]), "the vertices do not stand in order");
+    }
+    if (is_compact) { /* the vertices of the indices, one by one */
+        size_t vertices;
+        call = POSITIONS;
+        answers(roam_positions(&e->handle, gone, ROOM, &vertices), ROAM_OK);
+        call = COMPACT;
+        indices_again(e);
+        for (size_t k = 0; k < written; k++) {
+            must(list[k] < vertices, "a vertex that the mesh has not");
+            size_t x = gone[3 * list[k]] / e->spacing, y = gone[3 * list[k] + 1] / e->spacing;
+            must((side - 1 - y) * side + x == other[k], "a vertex is another than that of the indices");
+        }
+    }
+    test_state(e);
+}
+
+static int by_corners(const void *a, const void *b) { return memcmp(a, b, 3 * sizeof(uint32_t)); }
+static bool share_an_edge(const uint32_t *a, const uint32_t *b) {
+    int shared = 0;
+    for (int i = 0; i < 3; i++) for (int j = 0; j < 3; j++) shared += a[i] == b[j];
+    return shared == 2;
+}
+
+static void do_strip(struct engine *e, size_t places) {
+    call = STRIP;
+    long held = blocks;
+    size_t triangles, count = e->triangles;
+    fill(list, sizeof list), fill(&triangles, sizeof triangles);
+    has_failed = false;
+    int32_t answer = roam_strip(&e->handle, list, places, &triangles);
+    int32_t wanted = or_no_memory(!e->is_open ? ROAM_IS_EMPTY : places < 3 * count ? ROAM_NO_ROOM : ROAM_OK);
+    answers(answer, wanted);
+    must(blocks == held, "the call has left memory behind");
+    size_t written = wanted == ROAM_OK ? 3 * count : 0;
+    must(is_filled(list + written, sizeof list - written * sizeof *list), "places were written that no triangle has");
+    if (wanted == ROAM_OK) {
+        must(triangles == count, "the count is not that of the frame");
+        for (size_t k = 0; k < count; k++) must(share_an_edge(list + 3 * k, list + 3 * ((k + 1) % count)) || count == 2, "neighbours share no edge");
+        indices_again(e);
+        qsort(list, count, 3 * sizeof *list, by_corners), qsort(other, count, 3 * sizeof *other, by_corners);
+        must(memcmp(list, other, 3 * count * sizeof *list) == 0, "the triangles of the strip are not those of the mesh");
+    } else {
+        must(is_filled(&triangles, sizeof triangles), "a refused call has written");
+    }
+    test_state(e);
+}
+
+/* Twice the area of a triangle of points, counterclockwise. */
+static int64_t doubled(const int64_t p[2], const int64_t q[2], const int64_t r[2]) {
+    return (q[0] - p[0]) * (r[1] - p[1]) - (r[0] - p[0]) * (q[1] - p[1]);
+}
+
+/* How far the heights are from these triangles at most, times side - 1; they have to cover the square. */
+static uint64_t deviation_of(const struct engine *e, const uint32_t *index, size_t triangles) {
+    int64_t side = (int64_t)e->state.side, over = side - 1, most = 0, all = 0;
+    for (size_t k = 0; k < triangles; k++, index += 3) {
+        int64_t p[3][2], z[3], low[2] = { side, side }, high[2] = { 0, 0 };
+        for (int c = 0; c < 3; c++) {
+            must(index[c] < (size_t)(side * side), "an index is no place in the heights");
+            p[c][0] = index[c] % side, p[c][1] = over - index[c] / side, z[c] = e->height[index[c]];
+            for (int a = 0; a < 2; a++) {
+                if (p[c][a] < low[a]) low[a] = p[c][a];
+                if (p[c][a] > high[a]) high[a] = p[c][a];
+            }
+        }
+        int64_t area = doubled(p[0], p[1], p[2]);
+        must(area > 0, "a triangle does not turn counterclockwise");
+        all += area;
+        for (int64_t y = low[1]; y <= high[1]; y++) for (int64_t x = low[0]; x <= high[0]; x++) {
+            int64_t r[2] = { x, y }, a = doubled(r, p[1], p[2]), b = doubled(r, p[2], p[0]), c = doubled(r, p[0], p[1]);
+            if (a < 0 || b < 0 || c < 0) continue;
+            int64_t off = over * e->height[(over - y) * side + x] - over * (a * z[0] + b * z[1] + c * z[2]) / area;
+            if (off < 0) off = -off;
+            if (off > most) most = off;
+        }
+    }
+    must(all == 2 * over * over, "the triangles do not cover the square");
+    return (uint64_t)most;
+}
+
+static void do_deviation(struct engine *e) {
+    call = DEVIATION;
+    roam_deviation_note it;
+    fill(&it, sizeof it);
+    answers(roam_deviation(&e->handle, &it), e->is_open ? ROAM_OK : ROAM_IS_EMPTY);
+    if (!e->is_open) {
+        must(is_filled(&it, sizeof it), "a refused call has written");
+    } else {
+        must(it.over == e->state.side - 1, "over is another");
+        indices_again(e);
+        must(it.off == deviation_of(e, other, e->triangles), "off is another");
+    }
+    test_state(e);
+}
+
+static void do_fit(struct engine *e, uint32_t thousandths, uint32_t budget, size_t places) {
+    call = FIT;
+    long held = blocks;
+    roam_fit_note it;
+    size_t steps = e->is_open ? e->state.side - 1 : 1, room = budget < 2 * steps * steps ? budget : 2 * steps * steps;
+    fill(list, sizeof list), fill(&it, sizeof it);
+    has_failed = false;
+    int32_t answer = roam_fit(&e->handle, thousandths, budget, list, places, &it);
+    int32_t wanted = or_no_memory(!e->is_open ? ROAM_IS_EMPTY : budget < 2 ? ROAM_BAD_BUDGET : places < 3 * room ? ROAM_NO_ROOM
+                                  : thousandths > 65535999 ? ROAM_BAD_TOLERANCE : ROAM_OK);
+    answers(answer, wanted);
+    must(blocks == held, "the call has left memory behind");
+    size_t written = wanted == ROAM_OK ? 3 * (size_t)it.triangles : 0;
+    must(is_filled(list + written, sizeof list - written * sizeof *list), "places were written that no triangle has");
+    if (wanted == ROAM_OK) {
+        must(it.triangles <= budget && it.over == steps, "more triangles than the budget, or over is another");
+        must(it.off == deviation_of(e, list, it.triangles), "off is another");
+        must(budget < 2 * steps * steps || it.off * 1000 <= thousandths * (uint64_t)steps, "not within the tolerance");
+        uint32_t vertices = 0;
+        bool is_vertex[POINTS] = { false };
+        for (size_t k = 0; k < written; k++) if (!is_vertex[list[k]]) is_vertex[list[k]] = true, vertices++;
+        must(it.vertices == vertices, "the vertices are others");
+    } else {
+        must(is_filled(&it, sizeof it), "a refused call has written");
+    }
+    test_state(e);
+}
+
+static char text[48 + 30 * 2 * MOST + 8];
+static void do_certificate(struct engine *e, int64_t x, int64_t y, int64_t z, size_t room) {
+    call = CERTIFICATE;
+    long held = blocks;
+    size_t length, leaves = 0, reasons = 0;
+    const int64_t end = (int64_t)1 << 30;
+    if (room > sizeof text) room = sizeof text;
+    fill(text, sizeof text), fill(&length, sizeof length);
+    has_failed = false;
+    int32_t answer = roam_certificate(&e->handle, x, y, z, text, room, &length);
+    bool is_place = is_within(x, end) && is_within(y, end) && is_within(z, end);
+    int32_t wanted = or_no_memory(!e->is_open ? ROAM_IS_EMPTY : is_place ? ROAM_OK : ROAM_BAD_CAMERA);
+    if (answer == ROAM_NO_ROOM && wanted == ROAM_OK) { /* by as much as is enough at first, else by one byte */
+        must(room < 48 + 30 * (size_t)e->state.budget, "there is room enough");
+        answers(answer, ROAM_NO_ROOM);
+        must(is_filled(text, sizeof text) && is_filled(&length, sizeof length), "a refused call has written");
+        test_state(e);
+        return;
+    }
+    answers(answer, wanted);
+    must(blocks == held, "the call has left memory behind");
+    if (wanted == ROAM_OK) {
+        must(length <= room && text[length - 1] == '\n', "the text has no end");
+        must(is_filled(text + length, sizeof text - length), "bytes were written behind the text");
+        char first[80];
+        int size = sprintf(first, "camera %lld %lld %lld\n", (long long)x, (long long)y, (long long)z);
+        must(strncmp(text, first, (size_t)size) == 0, "the first line is another");
+        for (char *line = text + size, *next; line < text + length; line = next) {
+            next = memchr(line, '\n', (size_t)(text + length - line)), next++;
+            unsigned address;
+            if (sscanf(line, "leaf %u", &address) == 1) must(reasons == 0, "a leaf behind a reason"), list[leaves++] = address;
+            else must(sscanf(line, "want %u", &address) == 1 || sscanf(line, "parent %u", &address) == 1 || sscanf(line, "mate %u", &address) == 1, "a line of no kind"), reasons++;
+        }
+        must(leaves <= e->state.budget && reasons < e->state.budget, "more leaves or reasons than the budget");
+        test_leaves(list, (uint32_t)leaves, e->state.side);
+    } else {
+        must(is_filled(text, sizeof text) && is_filled(&length, sizeof length), "a refused call has written");
+    }
+    test_state(e);
+}
+
 /* --- Arguments at the ends of their ranges, and random ones. --- */
 
 #define OF(table) (table)[below(sizeof(table) / sizeof *(table))]
@@ -389,6 +595,24 @@ static void step(void) {
         do_changes(e, b, room_for(e->before_count), room_for(b->before_count), below(4) == 0);
         break;
     }
+    case POSITIONS: do_vertices(e, room_for(3 * (size_t)e->vertices), false); break;
+    case COMPACT: do_vertices(e, room_for(3 * (size_t)e->triangles), true); break;
+    case STRIP:
+        if (below(16) == 0) left = 0;
+        do_strip(e, room_for(3 * (size_t)e->triangles));
+        break;
+    case DEVIATION: do_deviation(e); break;
+    case FIT: {
+        uint32_t most = 2 * (side - 1) * (side - 1), budget = below(2) ? number(most) : 2 + (uint32_t)below(60);
+        uint32_t thousandths = below(2) ? number(65535999) : (uint32_t)below(400000);
+        if (below(16) == 0) left = (long)below(8);
+        do_fit(e, thousandths, budget, room_for(3 * (size_t)(budget < most ? budget : most)));
+        break;
+    }
+    case CERTIFICATE:
+        if (below(16) == 0) left = (long)below(40);
+        do_certificate(e, place_number(), place_number(), place_number(), below(4) ? sizeof text : below(4000));
+        break;
     default: test_state(e); break;
     }
 }
@@ -397,6 +621,7 @@ static void start(void) {
     const roam_handle empty = ROAM_EMPTY;
     memset(engines, 0, sizeof engines);
     engines[0].handle = empty;
+    fill(&engines[1].handle, sizeof engines[1].handle); /* a handle that nobody has written */
     for (int k = 0; k < POINTS; k++) heights[k] = (uint16_t)(k * 7919 % 211);
 }
 static void finish(void) {
@@ -451,10 +676,31 @@ static void test_refused_allocations(void) {
         do_close(e);
     }
     must(count >= 3, "hardly any allocation was refused");
-    left = 0; /* no call but open takes memory */
+    left = 0; /* closing takes none */
     do_close(e);
     left = -1;
     printf("%ld allocations, each refused in turn\n", count);
+}
+
+/* Calls that take memory and give it back, with each allocation refused in turn; the others take none. */
+static void test_refused_in_calls(void) {
+    struct engine *e = &engines[0];
+    do_open(e, heights, 289, 60, 5);
+    for (int which = 0; which < 3; which++)
+        for (long count = 0;; count++) {
+            left = count;
+            if (which == 0) do_strip(e, ROOM);
+            else if (which == 1) do_fit(e, 2000, 50, ROOM);
+            else do_certificate(e, 3, 4, 500, sizeof text);
+            if (!has_failed) {
+                must(count >= 1, "a call takes no memory");
+                break;
+            }
+        }
+    left = 0;
+    do_frame(e), do_vertices(e, ROOM, false), do_vertices(e, ROOM, true), do_deviation(e), do_list(e, ROOM, 3), do_list(e, ROOM, 1);
+    left = -1;
+    do_close(e);
 }
 
 static void test_worn(void) {
@@ -470,7 +716,7 @@ static void test_worn(void) {
 int main(int argc, char **argv) {
     start();
     if (argc == 2 && strcmp(argv[1], "ends") == 0) {
-        test_sides(), test_refused_allocations(), test_worn();
+        test_sides(), test_refused_in_calls(), test_refused_allocations(), test_worn();
         finish();
         return 0;
     }
@@ -484,7 +730,7 @@ int main(int argc, char **argv) {
     finish();
     for (int k = 0; k < CALLS; k++) {
         printf("%s %lu", names[k], made[k]);
-        for (int a = 1; a <= 12; a++) if (refused[k][a] > 0) printf(" %d:%lu", a, refused[k][a]);
+        for (int a = 1; a <= 13; a++) if (refused[k][a] > 0) printf(" %d:%lu", a, refused[k][a]);
         printf("\n");
     }
     return 0;

@@ -38,7 +38,14 @@ CASES = [
     (ValueError, "out has 5 places, and has to have at least 6", lambda: engine.indices(array.array("I", bytes(20)))),
     (TypeError, "out has to be a writable array of 32-bit numbers", lambda: engine.indices(array.array("H", bytes(40)))),
     (TypeError, "out has to be a writable array of 32-bit numbers", lambda: engine.leaves([1, 2, 3])),
+    (ValueError, "out has 11 places, and has to have at least 12", lambda: engine.positions(array.array("I", bytes(44)))),
+    (ValueError, "tolerance in thousandths is -1, and has to be from 0 to 65535999", lambda: engine.fit(-0.001)),
+    (ValueError, "tolerance in thousandths is 65536000, and has to be from 0 to 65535999", lambda: engine.fit(65_536)),
+    (ValueError, "budget is 1, and has to be from 2 to 4294967295", lambda: engine.fit(budget=1)),
+    (ValueError, "x is 1073741825, and has to be from -1073741824 to 1073741824", lambda: engine.certificate(2 ** 30 + 1, 0, 0)),
     (ValueError, "the engine is closed", closed.frame),
+    (ValueError, "the engine is closed", closed.deviation),
+    (ValueError, "the engine is closed", closed.fit),
     (ValueError, "the engine is closed", closed.state),
 ]
 

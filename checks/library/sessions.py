@@ -1,16 +1,20 @@
 #!/usr/bin/env python3
 """Random sessions of the library against the definitions (terrain.py, frames.py), of which it knows nothing: after each
-frame the addresses of the mesh, its indices and each number of the note; between frames what changed.
+frame the addresses of the mesh, its indices, vertices and strip, how far it is off, and each number of the note; between frames
+what changed, and now and then the mesh for a tolerance and a budget, and a certificate.
 
 usage: sessions.py SEED COUNT      with roam.py on PYTHONPATH"""
 import os
 import random
 import sys
+from fractions import Fraction
 
 sys.path.insert(0, os.path.dirname(os.path.dirname(os.path.abspath(__file__))))
 
-from frames import View, frame_of, leaves_of, run_of_steps, vertices_of  # noqa: E402
+import certifying  # noqa: E402
+from frames import View, forced, frame_of, leaves_of, run_of_steps, vertices_of  # noqa: E402
 from scripts import carry_out  # noqa: E402
+from strips import deviation, strip_of  # noqa: E402
 from terrain import Terrain  # noqa: E402
 
 import roam  # noqa: E402
@@ -19,6 +23,25 @@ import roam  # noqa: E402
 def flat(found):
     """The numbers of an array or of a list of tuples."""
     return [int(k) for row in found for k in row]
+
+
+def settled(terrain, tolerance, errors):
+    """The least closed set of which no leaf is off by more than the tolerance, times m."""
+    split = set()
+    while True:
+        worse = next((a for a in leaves_of(split) if errors[a] > tolerance), None)
+        if worse is None:
+            return split
+        split |= forced(terrain, split, worse)
+
+
+def fitted(terrain, thousandths, budget):
+    """The leaves of the mesh for a tolerance, or of the mesh of the budget that is off by the least."""
+    errors = {a: deviation(terrain, [a]) for a in terrain.addresses}
+    for tolerance in [thousandths * terrain.m // 1000] + sorted(set(errors.values())):
+        split = settled(terrain, tolerance, errors)
+        if len(split) + 2 <= budget:
+            return leaves_of(split)
 
 
 class Session:
@@ -67,6 +90,32 @@ class Session:
             self.engine.clear_planes()
         carry_out(self.terrain, kind, values)
 
+    def places(self, triangles):
+        return [(self.side - 1 - y) * self.side + x for a in triangles for x, y in self.terrain.corners[a]]
+
+    def fit(self):
+        """A mesh for a tolerance and a budget, and what is wrong with it."""
+        draw, terrain = self.draw, self.terrain
+        thousandths = draw.choice([0, 65_535_999, draw.randint(0, 300_000), draw.randint(0, 65_535_999)])
+        budget = draw.choice([2, 2 ** 32 - 1, draw.randint(2, 2 * 4 ** terrain.n)])
+        leaves = fitted(terrain, thousandths, budget)
+        found = self.engine.fit(Fraction(thousandths, 1000), budget)
+        assert flat(found.triangles) == self.places(leaves), "the fitted mesh is another"
+        assert found.vertices == len(vertices_of(terrain, leaves)), "its vertices are others"
+        assert found.deviation == Fraction(deviation(terrain, leaves), terrain.m), "its deviation is another"
+
+    def certify(self):
+        """A certificate from some place, and what is wrong with it."""
+        terrain, (camera, planes) = self.terrain, (self.terrain.camera, self.terrain.planes)
+        place = tuple(self.draw.randint(-self.reach, self.reach) for _ in range(3))
+        text = self.engine.certificate(*place)
+        terrain.camera, terrain.planes = place, []
+        told, leaves, reasons = certifying.read(text.encode(), terrain)
+        assert told == place, "the certificate is of another place"
+        assert leaves == leaves_of(frame_of(terrain, View(terrain))[0]), "the certificate is of another mesh"
+        certifying.check(terrain, leaves, reasons)
+        terrain.camera, terrain.planes = camera, planes
+
     def frame(self):
         """One frame, and what is wrong with it."""
         terrain, note = self.terrain, self.engine.frame()
@@ -79,8 +128,14 @@ class Session:
         counts = (marks.count(kind) for kind in ("inside", "cut", "outside"))
         wanted = roam.Note(view.worst(leaves), len(leaves), len(vertices_of(terrain, leaves)), splits, merges, *(blocked or (0, 0)), *counts)
         assert note == wanted, f"the note is {note}, not {wanted}"
-        places = [(self.side - 1 - y) * self.side + x for a in leaves for x, y in terrain.corners[a]]
-        assert flat(self.engine.indices()) == places, "the indices are others"
+        assert flat(self.engine.indices()) == self.places(leaves), "the indices are others"
+        vertices = vertices_of(terrain, leaves)
+        positions = [k for x, y in vertices for k in (x * terrain.spacing, y * terrain.spacing, terrain.heights[x, y])]
+        assert flat(self.engine.positions()) == positions, "the vertices are others"
+        number = {point: k for k, point in enumerate(vertices)}
+        assert flat(self.engine.compact()) == [number[point] for a in leaves for point in terrain.corners[a]], "their numbers are others"
+        assert flat(self.engine.strip()) == self.places(strip_of(split)), "the strip is another"
+        assert self.engine.deviation() == Fraction(deviation(terrain, leaves), terrain.m), "the deviation is another"
         found = self.engine.leaves()
         assert [int(a) for a in found] == leaves, f"the mesh is {list(found)}, not {leaves}"
         gone, come = roam.changes(self.leaves if len(self.leaves) else found, found)
@@ -103,7 +158,10 @@ def main(seed, count):
                     session.change()
                 try:
                     session.frame()
-                except AssertionError as why:
+                    if frame % 4 == 1:
+                        session.fit()
+                        session.certify()
+                except (AssertionError, certifying.Rejected) as why:
                     sys.exit(f"session {k} of seed {seed}, frame {frame + 1}: {why}")
     print(f"{count} sessions")
 

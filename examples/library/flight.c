@@ -67,6 +67,20 @@ static void test_mesh(const uint32_t *index, size_t triangles, size_t side, unsi
     must(twice == 2 * (long)((side - 1) * (side - 1)), "the triangles do not cover the square once");
 }
 
+/* The strip has the triangles of the mesh, one beside the other: they sum to the square, and neighbours share two vertices. */
+static void test_strip(const uint32_t *strip, size_t triangles, size_t side) {
+    long twice = 0;
+    for (size_t k = 0; k < triangles; k++) {
+        const uint32_t *a = strip + 3 * k, *b = strip + 3 * ((k + 1) % triangles);
+        struct point p = point_of(a[0], side), q = point_of(a[1], side), r = point_of(a[2], side);
+        int shared = 0;
+        twice += (q.x - p.x) * (r.y - p.y) - (r.x - p.x) * (q.y - p.y);
+        for (int i = 0; i < 9; i++) shared += a[i / 3] == b[i % 3];
+        must(shared == 2, "neighbours of the strip share no edge");
+    }
+    must(twice == 2 * (long)((side - 1) * (side - 1)), "the strip does not cover the square");
+}
+
 static int by_number(const void *a, const void *b) {
     uint32_t x = *(const uint32_t *)a, y = *(const uint32_t *)b;
     return x < y ? -1 : x > y;
@@ -118,6 +132,8 @@ int main(int argc, char **argv) {
         must(triangles == note.triangles && leaves == triangles && triangles <= budget, "counts");
         must(note.blocking == 0 ? note.worst == 0 : note.need > budget, "the certificate");
         test_mesh(index, triangles, side, is_vertex);
+        must(roam_strip(&terrain, index, 3 * (size_t)budget, &triangles) == ROAM_OK, "strip");
+        test_strip(index, triangles, side);
         if (k > 0) {
             roam_changes(before, befores, leaf, leaves, gone, budget, come, budget, &told);
             test_changes(before, befores, leaf, leaves, gone, come, told);

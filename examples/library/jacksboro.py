@@ -1,8 +1,8 @@
 #!/usr/bin/env python3
 """The Jacksboro fault from Python: the first frame of examples/jacksboro, and the flight of examples/flight, whose reports
-were made by another program. Each frame's line is compared with theirs.
+were made by another program. Each frame's line is compared with theirs, and the first mesh is written as an OBJ file.
 
-usage: jacksboro.py      with roam.py on PYTHONPATH"""
+usage: jacksboro.py [FOLDER]      with roam.py on PYTHONPATH; in FOLDER it leaves mesh.obj and its certificate"""
 import array
 import os
 import sys
@@ -45,6 +45,25 @@ def report(heights, name):
                 getattr(engine, calls[command])(*map(int, words))
 
 
+def obj_text(engine):
+    """The mesh as an OBJ file: the vertices of the mesh alone, and triangles that count them from 1."""
+    lines = ["v %d %d %d" % tuple(vertex) for vertex in engine.positions()]
+    lines += ["f " + " ".join(str(int(k) + 1) for k in triangle) for triangle in engine.compact()]
+    return "".join(line + "\n" for line in lines)
+
+
+def write_mesh(heights, folder):
+    """The mesh from the camera of examples/jacksboro, and the proof that none of 2,000 triangles is better."""
+    with roam.Engine(heights, budget=2000, spacing=90) as engine:
+        engine.frame()
+        with open(os.path.join(folder, "mesh.obj"), "w") as file:
+            file.write(obj_text(engine))
+        with open(os.path.join(folder, "certificate"), "w") as file:
+            file.write(engine.certificate(0, 0, 0))
+        fit = engine.fit(tolerance=50, budget=100_000)
+        print(f"off by at most {float(engine.deviation())} units; {len(fit.triangles)} triangles are off by at most {float(fit.deviation)}")
+
+
 def main():
     heights = read_grid(os.path.join(examples, "jacksboro", "grid.pgm"))
     for name in ("jacksboro", "flight"):
@@ -53,6 +72,8 @@ def main():
                 print(line)
                 if line != wanted.rstrip("\n"):
                     sys.exit(f"{name}: the report has '{wanted.strip()}'")
+    if len(sys.argv) > 1:
+        write_mesh(heights, sys.argv[1])
 
 
 if __name__ == "__main__":

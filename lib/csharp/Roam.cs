@@ -6,7 +6,8 @@ using System.Runtime.InteropServices;
 
 namespace Roam {
     public enum Answer {
-        Ok, NoMemory, BadGrid, BadBudget, BadSpacing, BadCamera, BadPlane, TooManyPlanes, OutsideGrid, BadChange, Worn, NoRoom, IsEmpty
+        Ok, NoMemory, BadGrid, BadBudget, BadSpacing, BadCamera, BadPlane, TooManyPlanes, OutsideGrid, BadChange, Worn, NoRoom, IsEmpty,
+        BadTolerance
     }
 
     public sealed class RoamException : Exception {
@@ -27,9 +28,21 @@ namespace Roam {
         public uint Frames, Most, Budget, Planes;
     }
 
+    /// How far the surface is off at most: Off over Over units of height.
+    [StructLayout(LayoutKind.Sequential)]
+    public struct Deviation {
+        public ulong Off, Over;
+    }
+
+    [StructLayout(LayoutKind.Sequential)]
+    public struct Found {
+        public ulong Off, Over;
+        public uint Triangles, Vertices;
+    }
+
     public sealed class Engine : IDisposable {
         [StructLayout(LayoutKind.Sequential)]
-        struct Handle { byte full; IntPtr at; }
+        struct Handle { ulong mark; IntPtr at; }
         Handle h;
 
         static class C {
@@ -46,6 +59,12 @@ namespace Roam {
             [DllImport(Library)] public static extern int roam_indices(ref Handle h, [Out] uint[] to, UIntPtr places, out UIntPtr triangles);
             [DllImport(Library)] public static extern int roam_leaves(ref Handle h, [Out] uint[] to, UIntPtr places, out UIntPtr triangles);
             [DllImport(Library)] public static extern int roam_state(ref Handle h, out State state);
+            [DllImport(Library)] public static extern int roam_positions(ref Handle h, [Out] uint[] to, UIntPtr places, out UIntPtr vertices);
+            [DllImport(Library)] public static extern int roam_compact(ref Handle h, [Out] uint[] to, UIntPtr places, out UIntPtr triangles);
+            [DllImport(Library)] public static extern int roam_strip(ref Handle h, [Out] uint[] to, UIntPtr places, out UIntPtr triangles);
+            [DllImport(Library)] public static extern int roam_deviation(ref Handle h, out Deviation deviation);
+            [DllImport(Library)] public static extern int roam_fit(ref Handle h, uint thousandths, uint budget, [Out] uint[] to, UIntPtr places, out Found found);
+            [DllImport(Library)] public static extern int roam_certificate(ref Handle h, long x, long y, long z, [Out] byte[] to, UIntPtr room, out UIntPtr length);
         }
 
         static void Must(int answer) { if (answer != 0) throw new RoamException((Answer)answer); }
@@ -69,17 +88,37 @@ namespace Roam {
         public Note Frame() { Note note; Must(C.roam_frame(ref h, out note)); return note; }
         public State State() { State state; Must(C.roam_state(ref h, out state)); return state; }
 
-        /// Writes three places in the heights for each triangle, and answers how many triangles there are.
-        public int Indices(uint[] to) {
-            UIntPtr triangles;
-            Must(C.roam_indices(ref h, There(to, "to"), (UIntPtr)to.Length, out triangles));
-            return (int)triangles;
+        public Deviation Deviation() { Deviation deviation; Must(C.roam_deviation(ref h, out deviation)); return deviation; }
+
+        delegate int Call(ref Handle h, uint[] to, UIntPtr places, out UIntPtr count);
+        int Fill(Call call, uint[] to) {
+            UIntPtr count;
+            Must(call(ref h, There(to, "to"), (UIntPtr)to.Length, out count));
+            return (int)count;
         }
-        /// Writes the addresses of the triangles, in the same order.
-        public int Leaves(uint[] to) {
-            UIntPtr triangles;
-            Must(C.roam_leaves(ref h, There(to, "to"), (UIntPtr)to.Length, out triangles));
-            return (int)triangles;
+        /// Writes three places in the heights for each triangle, and answers how many triangles there are.
+        public int Indices(uint[] to) { return Fill(C.roam_indices, to); }
+        /// The same in the order of one strip.
+        public int Strip(uint[] to) { return Fill(C.roam_strip, to); }
+        /// Writes the addresses of the triangles, in the order of the indices.
+        public int Leaves(uint[] to) { return Fill(C.roam_leaves, to); }
+        /// Writes x, y and z of each vertex of the mesh, and answers how many vertices there are.
+        public int Positions(uint[] to) { return Fill(C.roam_positions, to); }
+        /// Writes three places among these vertices for each triangle.
+        public int Compact(uint[] to) { return Fill(C.roam_compact, to); }
+
+        /// Writes the indices of the mesh of fewest triangles for a tolerance, or of the best one of the budget.
+        public Found Fit(uint thousandths, uint budget, uint[] to) {
+            Found found;
+            Must(C.roam_fit(ref h, thousandths, budget, There(to, "to"), (UIntPtr)to.Length, out found));
+            return found;
+        }
+        /// The certificate of the best mesh from a place, as text.
+        public string Certificate(long x, long y, long z) {
+            var text = new byte[48 + 30 * (long)State().Budget];
+            UIntPtr length;
+            Must(C.roam_certificate(ref h, x, y, z, text, (UIntPtr)text.Length, out length));
+            return System.Text.Encoding.ASCII.GetString(text, 0, (int)length);
         }
     }
 }

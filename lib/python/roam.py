@@ -29,7 +29,8 @@ import array
 import ctypes
 import operator
 import os
-from ctypes import POINTER, byref, c_int32, c_int64, c_size_t, c_uint8, c_uint16, c_uint32, c_uint64
+from fractions import Fraction
+from ctypes import POINTER, byref, c_int32, c_int64, c_size_t, c_uint16, c_uint32, c_uint64
 from typing import Any, NamedTuple, Optional, Sequence
 
 try:
@@ -37,10 +38,11 @@ try:
 except ImportError:
     numpy = None
 
-__all__ = ["Changes", "Engine", "Note", "State", "Worn", "changes"]
+__all__ = ["Changes", "Engine", "Fit", "Note", "State", "Worn", "changes"]
 
 MOST_TRIANGLES, MOST_SPACING, MOST_COORDINATE = 1_048_576, 1024, 1 << 30
 MOST_SLOPE, MOST_OFFSET, MOST_CHANGE = 1 << 20, 1 << 50, 65_535
+MOST_TOLERANCE, MOST_BUDGET = 65_535_999, (1 << 32) - 1
 SIDES = [2 ** n + 1 for n in range(1, 12)]
 
 
@@ -79,8 +81,23 @@ class Changes(NamedTuple):
     come: Any
 
 
+class Fit(NamedTuple):
+    """The mesh of fewest triangles for a tolerance, or the best one of a budget."""
+    triangles: Any       #: three places in the heights for each triangle, as `indices` gives them
+    vertices: int
+    deviation: Fraction  #: how far the heights are from it at most, in units of height, exactly
+
+
 class _Handle(ctypes.Structure):
-    _fields_ = [("full", c_uint8), ("at", ctypes.c_void_p)]
+    _fields_ = [("mark", c_uint64), ("at", ctypes.c_void_p)]
+
+
+class _Deviation(ctypes.Structure):
+    _fields_ = [("off", c_uint64), ("over", c_uint64)]
+
+
+class _Fit(ctypes.Structure):
+    _fields_ = [("off", c_uint64), ("over", c_uint64), ("triangles", c_uint32), ("vertices", c_uint32)]
 
 
 class _Note(ctypes.Structure):
@@ -110,6 +127,10 @@ def _load() -> ctypes.CDLL:
         "raise": [handle] + 4 * [c_uint32] + [c_int32], "frame": [handle, POINTER(_Note)],
         "indices": [handle, numbers, c_size_t, count], "leaves": [handle, numbers, c_size_t, count],
         "changes": 4 * [numbers, c_size_t] + [POINTER(_Changes)], "state": [handle, POINTER(_State)],
+        "positions": [handle, numbers, c_size_t, count], "compact": [handle, numbers, c_size_t, count],
+        "strip": [handle, numbers, c_size_t, count], "deviation": [handle, POINTER(_Deviation)],
+        "fit": [handle, c_uint32, c_uint32, numbers, c_size_t, POINTER(_Fit)],
+        "certificate": [handle] + 3 * [c_int64] + [ctypes.c_char_p, c_size_t, count],
     }.items():
         call = getattr(library, "roam_" + name)
         call.argtypes, call.restype = words, None if name == "changes" else c_int32
@@ -191,7 +212,7 @@ class Engine:
         heights = _heights(heights)
         count = heights.size if numpy is not None else len(heights)
         self._call("open", _pointer(heights, c_uint16), count, budget, spacing)
-        self._most, self._side, self._triangles = budget, SIDES[[s * s for s in SIDES].index(count)], 2
+        self._most, self._side, self._triangles, self._vertices = budget, SIDES[[s * s for s in SIDES].index(count)], 2, 4
 
     def _call(self, name: str, *words: Any) -> None:
         """One call, and the answer as an exception."""
@@ -253,23 +274,37 @@ class Engine:
         """Makes the best mesh of what stands now, and tells of it."""
         note = _Note()
         self._call("frame", byref(note))
-        self._triangles = note.triangles
+        self._triangles, self._vertices = note.triangles, note.vertices
         return Note(*(getattr(note, name) for name in Note._fields))
 
-    def _list(self, name: str, out: Any, each: int) -> Any:
-        """What a call writes into `out`, or into an array of its own, as long as it is."""
+    def _list(self, name: str, out: Any, places: int, each: int) -> Any:
+        """What a call writes into `out`, or into an array of its own of so many places, as long as it is."""
         count = c_size_t()
         if out is None:
-            out = _room(each * self._triangles)
+            out = _room(places)
         else:
             fits = out.dtype == numpy.uint32 and out.flags.c_contiguous and out.flags.writeable \
                 if numpy is not None and isinstance(out, numpy.ndarray) else getattr(out, "typecode", "") == "I"
             if not fits:
                 raise TypeError("out has to be a writable array of 32-bit numbers (numpy.uint32 or typecode 'I') in rows")
-            if self._places(out) < each * self._triangles:
-                raise ValueError(f"out has {self._places(out)} places, and has to have at least {each * self._triangles}")
+            if self._places(out) < places:
+                raise ValueError(f"out has {self._places(out)} places, and has to have at least {places}")
         self._call(name, _pointer(out, c_uint32), self._places(out), byref(count))
-        return out.reshape(-1)[:each * count.value] if hasattr(out, "reshape") else memoryview(out)[:each * count.value]
+        return self._first(out, each * count.value)
+
+    @staticmethod
+    def _first(out: Any, places: int) -> Any:
+        return out.reshape(-1)[:places] if hasattr(out, "reshape") else memoryview(out)[:places]
+
+    def _threes(self, name: str, out: Any, count: int) -> Any:
+        """A list of three numbers each: of shape (count, 3), or without numpy a list of tuples."""
+        return self._rows(self._list(name, out, 3 * count, 3), out is not None)
+
+    @staticmethod
+    def _rows(found: Any, is_flat: bool) -> Any:
+        if hasattr(found, "reshape"):
+            return found.reshape(-1, 3)
+        return found if is_flat else list(zip(found[::3], found[1::3], found[2::3]))
 
     @staticmethod
     def _places(out: Any) -> int:
@@ -281,14 +316,49 @@ class Engine:
         A numpy array of shape (triangles, 3), or without numpy a list of tuples. `out`, a numpy.uint32 array or an array.array('I')
         of three places a triangle, is written into, and the part of it that was written is what comes back: nothing is copied.
         """
-        found = self._list("indices", out, 3)
-        if hasattr(found, "reshape"):
-            return found.reshape(-1, 3)
-        return found if out is not None else list(zip(found[::3], found[1::3], found[2::3]))
+        return self._threes("indices", out, self._triangles)
 
     def leaves(self, out: Optional[Any] = None) -> Any:
         """The addresses of the triangles, in the same order: numbers that name them in every frame."""
-        return self._list("leaves", out, 1)
+        return self._list("leaves", out, self._triangles, 1)
+
+    def positions(self, out: Optional[Any] = None) -> Any:
+        """x, y and z of each vertex of the last frame's mesh alone, in world units and units of height; as `indices`."""
+        return self._threes("positions", out, self._vertices)
+
+    def compact(self, out: Optional[Any] = None) -> Any:
+        """Three places among the rows of `positions` for each triangle, in the order of `indices`."""
+        return self._threes("compact", out, self._triangles)
+
+    def strip(self, out: Optional[Any] = None) -> Any:
+        """The triangles of `indices` in the order of one strip: neighbours share an edge, and so do the last and the first."""
+        return self._threes("strip", out, self._triangles)
+
+    def deviation(self) -> Fraction:
+        """How far the heights are from the last frame's mesh at a grid point, at most, in units of height, exactly."""
+        it = _Deviation()
+        self._call("deviation", byref(it))
+        return Fraction(it.off, it.over)
+
+    def fit(self, tolerance: float = 0, budget: Optional[int] = None) -> Fit:
+        """The mesh of fewest triangles that is off by at most the tolerance, whatever the camera; the engine is as before.
+
+        tolerance: in units of height, to thousandths, from 0 to 65535.999.
+        budget: the most triangles, 2 or more, by default the one at opening. Where the tolerance asks for more, the mesh of the
+            budget that is off by the least comes back; `deviation` of the answer says by how much.
+        """
+        thousandths = _whole("tolerance in thousandths", round(1000 * tolerance), 0, MOST_TOLERANCE)
+        budget = self._most if budget is None else _whole("budget", budget, 2, MOST_BUDGET)
+        out, it = _room(3 * min(budget, 2 * (self._side - 1) ** 2)), _Fit()
+        self._call("fit", thousandths, budget, _pointer(out, c_uint32), len(out), byref(it))
+        return Fit(self._rows(self._first(out, 3 * it.triangles), False), it.vertices, Fraction(it.off, it.over))
+
+    def certificate(self, x: float, y: float, z: float) -> str:
+        """A proof, as text, that no mesh of the budget in force is better from a place, without planes: that of `roam certify make`."""
+        place = [_coordinate(name, value) for name, value in zip("xyz", (x, y, z))]
+        text, count = ctypes.create_string_buffer(48 + 30 * self.state().budget), c_size_t()
+        self._call("certificate", *place, text, len(text), byref(count))
+        return text.raw[:count.value].decode("ascii")
 
     def state(self) -> State:
         """How the engine stands."""

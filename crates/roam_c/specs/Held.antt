@@ -1,13 +1,14 @@
 -- What a handle owns.
 -- All of it is this project's own.
--- Words: Kept, token, held, held_if.
-use Rattle.std.specs.Prelude.{Bool, true, false, Option, Some, None}
+-- Words: Kept, token, held, is_mark, held_if.
+use Rattle.std.specs.Prelude.{ℕ, nat_eq, Bool, true, false, Option, Some, None}
 use mir.Syntax.{Ty}
 use base.Fml.{Fml, ftrue, ffalse}
 use denote.RawPtr.{Ptr}
 use Rattle.std.specs.contracts.impls.GlobalAllocator.TheImpl.{ghosts}
 use Rattle.std.specs.Box.Ownership.{box_owns}
 use Rattle.frame_loop.specs.contracts.engine.Engine as engine
+use Rattle.roam_c.specs.declared.mark.TheConstants.{MARK}
 
 -- an engine, as contracts see it
 abbrev pub Kept : Type 0
@@ -20,6 +21,10 @@ token = ghosts.dealloc_token (record { memory = record { seal = tt } })
 -- the engine on the heap, and the right to free it
 abbrev pub held : Ptr → Kept → Fml
 held at value = box_owns token engine.the_row at value
+
+-- the number at the head of a handle is that of a full one
+abbrev pub is_mark : ℕ → Bool
+is_mark mark = nat_eq mark MARK
 
 -- the same where the handle is full, and nothing where it is empty
 abbrev pub held_if : Bool → Ptr → Option Kept → Fml

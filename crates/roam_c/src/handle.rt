@@ -1,26 +1,28 @@
 //! The handle of C: a struct of the caller's that owns an engine or is empty.
 
 ghost use Rattle.std.specs.Prelude.{◌≡◌, Option, Some, None, MatchOption};
-ghost use Rattle.roam_c.specs.Held.{held_if, Kept};
+ghost use Rattle.roam_c.specs.Held.{held_if, is_mark, Kept};
 
+use crate::mark::MARK;
 use frame_loop::Engine;
 use std::alloc::Global;
 use std::marker::Model;
 use std::mem::replace;
 use std::ptr::null_mut;
 
-/// What C holds: whether there is an engine, and where it is on the heap.
+/// What C holds: the mark of a full handle, or any other number, and where the engine is on the heap.
 ///
-/// A struct of zeros is an empty handle. `value` is what clauses see: the engine, or none.
+/// A struct of zeros is an empty handle, and so is nearly every one that nobody has written. `value` is what clauses see: the
+/// engine, or none.
 #[repr(C)]
 pub struct Handle {
-    pub(crate) full: bool,
+    pub(crate) mark: u64,
     pub(crate) at: *mut u8,
     pub ghost value: { Option Kept },
 }
 
 impl Model for Handle {
-    ghost also_owns = { λ h. held_if h.full h.at h.value };
+    ghost also_owns = { λ h. held_if (is_mark h.mark) h.at h.value };
 }
 
 // An engine names no thread, so a handle may move from one to another, and be used by one at a time.
@@ -35,7 +37,7 @@ fn nowhere() -> *mut u8 {
 fn hollow(at: *mut u8) -> Handle
     ensures { result.value ≡ None }
 {
-    Handle { full: false, at }
+    Handle { mark: 0, at }
 }
 
 /// A handle that owns the engine.
@@ -44,7 +46,7 @@ fn around(b: Box<Engine>) -> Handle
 {
     let at = Box::into_raw(b);
     Handle {
-        full: true,
+        mark: MARK,
         at: at as *mut u8,
     }
 }
@@ -53,8 +55,8 @@ fn around(b: Box<Engine>) -> Handle
 fn open(h: Handle, alloc: Global) -> Option<Box<Engine>>
     ensures { MatchOption result (h.value ≡ None) (λ b. h.value ≡ Some b.value) }
 {
-    let Handle { full, at } = h;
-    if full {
+    let Handle { mark, at } = h;
+    if mark == MARK {
         Some(unsafe { Box::from_raw(alloc, at as *mut Engine) })
     } else {
         None

@@ -2,21 +2,26 @@
 //!
 //! Each function takes the engine out of the handle, makes one call of `roam_embed`, puts the engine back, and answers the
 //! number of that call's answer. None has a `requires`, so no argument that C may pass breaks a rule. What C owes for its
-//! pointers stands in the head of `roam.h`. No function but `roam_open` takes memory.
+//! pointers stands in the head of `roam.h`. Only `roam_open` takes memory for good.
 
 #![tactic(auto)]
 
+mod found;
 mod handle;
 mod life;
 mod lists;
+mod mark;
+mod shapes;
 mod state;
 mod told;
 
+pub use found::{roam_certificate, roam_fit};
 pub use handle::{Handle, crossing};
 pub use life::{roam_close, roam_open};
 pub use lists::{roam_changes, roam_indices, roam_leaves};
 pub use mesh_arrays::Changes;
-pub use roam_embed::{Frame, Standing};
+pub use roam_embed::{Deviation, Fitted, Frame, Standing};
+pub use shapes::{roam_compact, roam_deviation, roam_positions, roam_strip};
 pub use state::{
     roam_add_plane, roam_budget, roam_camera, roam_clear_planes, roam_raise, roam_set,
 };

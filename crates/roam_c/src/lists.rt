@@ -20,7 +20,8 @@ pub extern "C" fn roam_indices(
 ) -> i32
     ensures full { OnFull h.old.value h.new.value result (λ was now answer.
         (now ≡ was) × AreIndicesTold was out.old out.new triangles.old triangles.new answer) }
-    ensures empty { OnEmpty h.old.value h.new.value result ((out.new ≡ out.old) × (triangles.new ≡ triangles.old)) }
+    ensures empty { OnEmpty h.old.value h.new.value result
+        ((out.new ≡ out.old) × (triangles.new ≡ triangles.old)) }
 {
     match take(h, alloc) {
         Some(engine) => {
@@ -42,7 +43,8 @@ pub extern "C" fn roam_leaves(
 ) -> i32
     ensures full { OnFull h.old.value h.new.value result (λ was now answer.
         (now ≡ was) × AreLeavesTold was out.old out.new triangles.old triangles.new answer) }
-    ensures empty { OnEmpty h.old.value h.new.value result ((out.new ≡ out.old) × (triangles.new ≡ triangles.old)) }
+    ensures empty { OnEmpty h.old.value h.new.value result
+        ((out.new ≡ out.old) × (triangles.new ≡ triangles.old)) }
 {
     match take(h, alloc) {
         Some(engine) => {

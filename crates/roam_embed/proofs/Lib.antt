@@ -1,1 +1,2 @@
+pub mod CertificateLemmas
 pub mod OpenLemmas

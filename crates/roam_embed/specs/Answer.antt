@@ -1,7 +1,7 @@
 -- The numbers of the answers, as C knows them. This project's own.
 use Rattle.std.specs.Prelude.{ℤ, pos}
 use Rattle.roam_embed.specs.declared.answer.Answer.{Answer}
-use Rattle.roam_embed.specs.declared.answer.Answer.TheVariants.{Done, NoMemory, BadGrid, BadBudget, BadSpacing, BadCamera, BadPlane, TooManyPlanes, OutsideGrid, BadChange, Worn, NoRoom, IsEmpty}
+use Rattle.roam_embed.specs.declared.answer.Answer.TheVariants.{Done, NoMemory, BadGrid, BadBudget, BadSpacing, BadCamera, BadPlane, TooManyPlanes, OutsideGrid, BadChange, Worn, NoRoom, IsEmpty, BadTolerance}
 
 -- the number of an answer
 abbrev pub number_of : Answer → ℤ
@@ -18,3 +18,4 @@ number_of BadChange = pos 9
 number_of Worn = pos 10
 number_of NoRoom = pos 11
 number_of IsEmpty = pos 12
+number_of BadTolerance = pos 13

@@ -32,6 +32,8 @@ pub enum Answer {
     NoRoom,
     /// There is no engine.
     IsEmpty,
+    /// The tolerance is above 65,535.999 units of height.
+    BadTolerance,
 }
 
 impl Answer {
@@ -53,6 +55,7 @@ impl Answer {
             Answer::Worn => 10,
             Answer::NoRoom => 11,
             Answer::IsEmpty => 12,
+            Answer::BadTolerance => 13,
         }
     }
 }

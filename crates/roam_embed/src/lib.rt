@@ -7,17 +7,24 @@
 #![tactic(auto)]
 
 mod answer;
+mod bytes;
+mod certificate;
+mod fitting;
 mod frames;
 mod ground;
 mod make;
 mod mesh;
 mod notes;
+mod shapes;
 mod view;
 
 pub use answer::Answer;
+pub use certificate::tell_certificate;
+pub use fitting::{GREATEST_TOLERANCE, tell_fit};
 pub use frames::{MOST_FRAMES, make_frame, tell_standing};
 pub use ground::{GREATEST_CHANGE, put_height, raise_area};
 pub use make::open_engine;
 pub use mesh::{tell_indices, tell_leaves};
-pub use notes::{Frame, Standing};
+pub use notes::{Deviation, Fitted, Frame, Standing};
+pub use shapes::{tell_compact, tell_deviation, tell_positions, tell_strip};
 pub use view::{LONGEST_WAY, MOST_PLANES, add_plane, clear_planes, move_camera, put_budget};

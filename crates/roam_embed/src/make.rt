@@ -76,7 +76,8 @@ fn make_engine(
     ensures state { IfOk result (λ engine. engine.value.state ≡ start_state
         (record { n = n; maxval = 65535; heights = heights.now }) spacing budget) }
     ensures most { IfOk result (λ engine. engine.value.most ≡ budget) }
-    ensures base { IfOk result (λ engine. (a : ℕ) → split_set engine.value.mesh.pool.pairs a ≡ false) }
+    ensures base { IfOk result (λ engine. (a : ℕ) →
+        split_set engine.value.mesh.pool.pairs a ≡ false) }
     ensures stamps { IfOk result (λ engine. (a : ℕ) → stamp_of engine.value.mesh a ≡ None) }
     ensures odometer { IfOk result (λ engine. engine.value.odometer ≡ 0) }
     ensures frames { IfOk result (λ engine. engine.value.frames ≡ 0) }

@@ -47,3 +47,27 @@ pub struct Standing {
     /// How many planes are in force.
     pub planes: u32,
 }
+
+/// How far the surface is from the mesh at most: `off` over `over`, in units of height.
+#[repr(C)]
+#[derive(Clone, Copy, Debug, PartialEq, Eq)]
+pub struct Deviation {
+    /// The greatest distance at a grid point, times `over`.
+    pub off: u64,
+    /// Steps of a side, 2^n.
+    pub over: u64,
+}
+
+/// The mesh that was found for a tolerance or a budget.
+#[repr(C)]
+#[derive(Clone, Copy, Debug, PartialEq, Eq)]
+pub struct Fitted {
+    /// How far the surface is from the mesh at a grid point, at most, times `over`.
+    pub off: u64,
+    /// Steps of a side, 2^n.
+    pub over: u64,
+    /// How many triangles the mesh has.
+    pub triangles: u32,
+    /// How many vertices they have.
+    pub vertices: u32,
+}

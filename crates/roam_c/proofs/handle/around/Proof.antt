@@ -1,15 +1,14 @@
 -- `around` takes the pointer out of the box.
-use Rattle.std.proofs.Common.{◌≡◌, List, [], ◌∷◌, ◌++◌, refl, sym, ap, ◌∙◌, subst}
-use mathlib.Core.Bool.{true}
+use Rattle.std.proofs.Common.{◌≡◌, List, [], ◌∷◌, ◌++◌, refl, sym, ap, ◌∙◌, subst, lit<, w64}
 use mir.Raw.{raw as bare}
-use mir.Val.{Val, vbool, vptr}
+use mir.Val.{Val, vint, vptr}
 use base.Fraction.{full_share}
 use base.Logic.{SProp, ent, emp, never, id⊢, fst∗}
 use base.Fml.{ftrue, flft}
 use prog.Wp.{WpFn}
 use types.Logic.{sem}
 use types.Kit.{‵, raw, ◌⊛◌, some, later, ◌$◌, ◌∵◌, !, qed, by, move, keep, drop, split, join, fsplit, fjoin, pick, suffices, use0, use1, await, feq_l, rewrite}
-use types.Run.{true_lit, of_opd, no_more, and_then, returns, enter}
+use types.Run.{of_opd, no_more, and_then, returns, enter}
 use types.ByLocal.{alloc_all, pass_all, free_all, look_at, get, sets, lands_as}
 use types.Part.{agg}
 use contract.BorrowLft.{◌⊑◌, ⊑_static}
@@ -42,8 +41,9 @@ use Rattle.std_alloc.proofs.boxed.Box.into_raw.Met.{met}
 use Rattle.roam_c.proofs.Destruct++none.drop.Symbol.{glues}
 use Rattle.frame_loop.specs.contracts.engine.Engine as engine
 use Rattle.roam_c.specs.Held.{Kept, token, held}
+use Rattle.roam_c.specs.declared.mark.TheConstants.{MARK}
 use Rattle.roam_c.proofs.Calls.{R, L, Z, LZ, drops, no_drop, box_laws, glue}
-use Rattle.roam_c.proofs.HandleValues.{two, handle_good, handle_in}
+use Rattle.roam_c.proofs.HandleValues.{two, big_lit, handle_good, handle_in}
 use Rattle.roam_c.specs.contracts.handle.around.{ended, clauses}
 use Rattle.roam_c.specs.contracts.handle.around.Key.{name as #self}
 use Rattle.roam_c.proofs.handle.around.Statement.{statement}
@@ -73,6 +73,6 @@ around_spec {M = M} 𝓤 𝓛 𝓜 𝓡 wired =
     in_a_block ! r (λ p. held p v.value) (fst∗ 𝓤 (never 𝓤) (sem 𝓛 (token (bare (layout R)) null_ptr))) (λ b' o' at. move ! (1 ∷ []) $ split ! $ drop ! $ feq_l ! (λ eu.
     let p : Ptr = block_ptr b' o' in let it : Option Kept = Some v.value in
     lands_as ! (ap only eu ∙ ap ptr_val at) refl (tt, tt) $ sets ! (of_opd ! (get ! refl)) refl (tt, tt) $
-    sets ! (agg ! (and_then ! (true_lit !) (and_then ! (get ! refl) (no_more !)))) refl (handle_good true p) $
-    handle_in ! true p it $ use0 𝓛 (raw (fact 𝓤 (it ≡ it))) (fact_i 𝓤 (it ≡ it) (emp 𝓤) refl) $ nothing ! $ nothing ! $ fjoin ! $
-    returns ! (look_at ! 0 refl) $ free_all ! refl $ keep ! (3 ∷ 0 ∷ 2 ∷ 1 ∷ []) $ by ! (leaves 𝓛 En hs c z (two (vbool true) (vptr b' o')) (record { full = true; at = p; value = it }) (tt, tt) (tt, tt)))))))))
+    sets ! (agg ! (and_then ! (big_lit ! (record { fits = lit< tt })) (and_then ! (get ! refl) (no_more !)))) refl (handle_good MARK (lit< tt) p) $
+    handle_in ! MARK (lit< tt) p it $ use0 𝓛 (raw (fact 𝓤 (it ≡ it))) (fact_i 𝓤 (it ≡ it) (emp 𝓤) refl) $ nothing ! $ nothing ! $ fjoin ! $
+    returns ! (look_at ! 0 refl) $ free_all ! refl $ keep ! (3 ∷ 0 ∷ 2 ∷ 1 ∷ []) $ by ! (leaves 𝓛 En hs c z (two (vint w64 MARK) (vptr b' o')) (record { mark = MARK; at = p; value = it }) (tt, tt) (tt, tt)))))))))

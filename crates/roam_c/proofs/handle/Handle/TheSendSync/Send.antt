@@ -13,7 +13,7 @@ use Rattle.std.specs.declared.option.Option.TheVariants.{None, Some}
 use Rattle.std_alloc.proofs.SendSync.{quiet, lies}
 use Rattle.frame_loop.specs.contracts.engine.Engine as engine
 use Rattle.frame_loop.proofs.engine.Engine.TheSendSync.{the_send as engine_send}
-use Rattle.roam_c.specs.Held.{Kept, held_if}
+use Rattle.roam_c.specs.Held.{Kept, is_mark, held_if}
 use Rattle.roam_c.specs.contracts.handle.Handle.{the_row, the_type}
 
 held_if-keyless : (full : Bool) (at : Ptr) (value : Option Kept) → Keyless (held_if full at value)
@@ -25,5 +25,5 @@ held_if-keyless false at None = tt
 pub send : IsSend the_row
 send =
     let all : AllSend (fields the_type) = (search sendable, (search sendable, tt)) in
-    owning_send the_type all (λ d. held_if-keyless d.full d.at d.value)
+    owning_send the_type all (λ d. held_if-keyless (is_mark d.mark) d.at d.value)
     (λ k. quiet (to the_type) (exits_of k (fields the_type)) ((struct_send (shape the_type) all).leaving k))
