@@ -3,7 +3,6 @@ use Rattle.std.proofs.Common.{zero, suc, [], inl, inr, ◌≡◌, ◌≢◌, ◌
 use Rattle.std.specs.Option.{option_map}
 use Rattle.std.proofs.Math.Nat.{pow-succ', mod-lt, mul-sub, div-lt_iff_lt-mul}
 use Rattle.std.proofs.Math.Seq.{drop-length, drop-append_seam, take-append_seam}
-use Rattle.std.proofs.Math.ListN.{drop_of_length-le}
 use Rattle.std.proofs.lemmas.Nat.{mul-pow, div-add-mod', pow_pos}
 use Rattle.std.proofs.lemmas.Bool.Decides.{eqb_tells}
 use Rattle.std.proofs.lemmas.Option.{none-some}
@@ -11,7 +10,7 @@ use Rattle.std.proofs.lemmas.List.Elements.{All-nil, All-cons, All-head, All-tai
 use Rattle.text_laws.specs.Digits.{IsDigit, value_of}
 use Rattle.text_laws.specs.Numbers.{IsDecText, number_in}
 use Rattle.text_laws.proofs.NumberLemmas.{number-to, number-from}
-use Rattle.roam_num.specs.Laws.{IsFractionText, FractionsAreExact}
+use Rattle.roam_num.specs.Laws.{FractionsAreExact}
 use Rattle.roam_num.specs.Places.{until_point, with_places, thousandths_in, IsThousandthsOf, fraction_digits, behind_point, exact_decimal}
 
 -- where the first point is
@@ -64,21 +63,13 @@ until-behind (byte ∷ whole) digits all =
     until-later byte (whole ++ 46 ∷ digits) (digit-other byte (All-head IsDigit byte whole all))
     ∙ ap (λ (l : List ℕ). byte ∷ l) (until-behind whole digits (All-tail IsDigit byte whole all))
 
--- the bytes are gone through one by one: none is the point, one is, or they end
+-- a byte that is no point
 pub point-later : (bytes : List ℕ) (i : ℕ) → i < length bytes → get_or bytes i 0 ≢ 46
     → length (until_point (drop i bytes)) ≡ suc (length (until_point (drop (i + 1) bytes)))
 point-later bytes i below other =
     ap (λ (l : List ℕ). length (until_point l)) (drop-cons bytes i 0 below)
     ∙ (ap (λ (l : List ℕ). length l) (until-later (get_or bytes i 0) (drop (suc i) bytes) other)
     ∙ ap (λ (k : ℕ). suc (length (until_point (drop k bytes)))) (sym (add-one i)))
-
-pub point-here : (bytes : List ℕ) (i : ℕ) → i < length bytes → get_or bytes i 0 ≡ 46 → length (until_point (drop i bytes)) ≡ 0
-point-here bytes i below is =
-    ap (λ (l : List ℕ). length (until_point l)) (drop-cons bytes i 0 below)
-    ∙ ap (λ (l : List ℕ). length l) (until-here (get_or bytes i 0) (drop (suc i) bytes) is)
-
-pub point-none : (bytes : List ℕ) (i : ℕ) → length bytes ≤ i → length (until_point (drop i bytes)) ≡ 0
-point-none bytes i all = ap (λ (l : List ℕ). length (until_point l)) (drop_of_length-le bytes all)
 
 -- thousandths
 
@@ -365,6 +356,7 @@ module _ (over : ℕ) where
     where
       head : (48 + 10 * suc rest / over) ∷ fraction_digits most (10 * suc rest % over) over ≡ 48 ∷ [] → 48 + 10 * suc rest / over ≡ 48
       head e = cc
+
       tail : (48 + 10 * suc rest / over) ∷ fraction_digits most (10 * suc rest % over) over ≡ 48 ∷ [] → fraction_digits most (10 * suc rest % over) over ≡ []
       tail e = cc
   fraction-last (suc most) (suc rest) q below ends (b ∷ before) is =

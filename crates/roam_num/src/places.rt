@@ -93,12 +93,7 @@ fn power(n: u32) -> u64
 }
 
 /// Appends a point and the digits of `rest` / `over`, a fraction below 1, or nothing where it is 0.
-fn push_fraction<const ROOM: usize>(
-    text: &mut ArrayVec<u8, ROOM>,
-    rest: u64,
-    over: u64,
-    most: u32,
-)
+fn push_fraction<const ROOM: usize>(text: &mut ArrayVec<u8, ROOM>, rest: u64, over: u64, most: u32)
     requires below { rest < over }
     requires small { over ≤ 2 ^ MOST_PLACES }
     requires places { most ≤ MOST_PLACES }
@@ -114,12 +109,7 @@ fn push_fraction<const ROOM: usize>(
 }
 
 /// Appends the digits of `rest` / `over` behind the point, until nothing is left.
-fn push_digits<const ROOM: usize>(
-    text: &mut ArrayVec<u8, ROOM>,
-    rest: u64,
-    over: u64,
-    most: u32,
-)
+fn push_digits<const ROOM: usize>(text: &mut ArrayVec<u8, ROOM>, rest: u64, over: u64, most: u32)
     requires below { rest < over }
     requires small { over ≤ 2 ^ MOST_PLACES }
     requires room { array_vec_len text.old + most ≤ ROOM }

@@ -1,6 +1,6 @@
 //! A mesh that was fitted to a grid.
 
-ghost use Rattle.std.specs.Prelude.{◌≡◌, ◌*◌, ◌^◌, ◌≤◌, IfOk};
+ghost use Rattle.std.specs.Prelude.{◌≡◌, ◌*◌, ◌≤◌, IfOk};
 ghost use Rattle.mesh_defs.specs.declared.level.TheConstants.{GREATEST_LEVEL};
 ghost use Rattle.run_laws.specs.Words.{greatest_error};
 ghost use Rattle.run_laws.specs.Fit.{tolerance_of};

@@ -1,6 +1,6 @@
 //! The command `fit`.
 
-ghost use Rattle.std.specs.Prelude.{◌≡◌, ◌≢◌, ◌+◌, ◌^◌, ◌<◌, ◌≤◌, List, None, Some, false, length, OnOk, OnErr};
+ghost use Rattle.std.specs.Prelude.{◌≡◌, ◌≢◌, ◌+◌, ◌^◌, ◌<◌, ◌≤◌, List, None, Some, false, OnOk, OnErr};
 ghost use Rattle.roam_edge.specs.Shelf.{NamedFile};
 ghost use Rattle.run_laws.specs.Act.{told, Stands, IsCutShort};
 ghost use Rattle.run_laws.specs.Cause.{StatusHasCause, WritesHaveCause};

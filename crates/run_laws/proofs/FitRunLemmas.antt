@@ -12,7 +12,7 @@ use Rattle.run_laws.specs.Words.{Fitting, Fit, Command, OnGrid, has_script}
 use Rattle.run_laws.specs.Fit.{fit_text}
 use Rattle.run_laws.specs.ReportText.{fit_line}
 use Rattle.run_laws.specs.Act.{Told, Stands, IsCutShort}
-use Rattle.run_laws.specs.CutShort.{StandsInMesh, StandsInText}
+use Rattle.run_laws.specs.CutShort.{StandsInMesh}
 use Rattle.run_laws.specs.Outcome.{Outcome, IsFitOutcome, IsGridOutcome, IsWordsOutcome, IsOutcome}
 use Rattle.run_laws.specs.Promise.{Seen, is_complete, EndsRight, LeavesAtReadFault, LeavesAtNoMemory}
 use Rattle.run_laws.specs.Headline.{IsFitRunOf, KeepsFitMesh}

@@ -12,7 +12,7 @@ mod status;
 
 pub use cut_short::cut_short_laws;
 pub use laws::{
-    certify_examples, certify_laws, fitting_laws, measure_examples, run_laws, script_examples, state_laws,
-    turn_count_laws, walk_laws,
+    certify_examples, certify_laws, fitting_laws, measure_examples, run_laws, script_examples,
+    state_laws, turn_count_laws, walk_laws,
 };
 pub use status::Status;

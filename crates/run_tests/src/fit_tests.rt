@@ -83,10 +83,7 @@ fn an_error_is_compared_exactly_and_told_as_a_decimal(rt: HostRuntime) -> Result
 
 /// A fit of the hill in which a call fails: the status, how many meshes there are, how many bytes the last has and whether it is
 /// finished, and how many bytes the report has.
-fn run_failing(
-    alloc: Global,
-    faults: Faults,
-) -> Result<(Status, usize, usize, bool, usize), Fail> {
+fn run_failing(alloc: Global, faults: Faults) -> Result<(Status, usize, usize, bool, usize), Fail> {
     let words = ["fit", "g", "out", "budget", "4", "1"];
     let ran = run_words(alloc, &words, hill(), b"", faults)?;
     let (bytes, finished) = match ran.last() {
@@ -107,14 +104,8 @@ fn a_failing_call_leaves_what_was_written_before_it(rt: HostRuntime) -> Result<(
     // The mesh has 73 bytes, in one piece, and the line 54.
     let (none, failed) = (Status::ReadFault, Status::WriteFault);
     let cases = [
-        (
-            Faults::of_shelf(ShelfCall::Open(1)),
-            (none, 0, 0, false, 0),
-        ),
-        (
-            Faults::of_shelf(ShelfCall::Read(2)),
-            (none, 0, 0, false, 0),
-        ),
+        (Faults::of_shelf(ShelfCall::Open(1)), (none, 0, 0, false, 0)),
+        (Faults::of_shelf(ShelfCall::Read(2)), (none, 0, 0, false, 0)),
         (
             Faults::of_meshes(MeshCall::Begin(1)),
             (failed, 0, 0, false, 0),
@@ -148,6 +139,9 @@ fn a_grid_that_is_refused_has_no_fit(rt: HostRuntime) -> Result<(), Fail> {
     let ran = run_words(rt.alloc(), &words, b"P6", b"", Faults::none())?;
     assert_eq!(rt; ran.status, Status::GridRefused);
     assert_eq!(rt; ran.meshes.len(), 0);
-    assert_eq!(rt; ran.report.as_slice(), b"grid refused: bad magic\n".as_slice());
+    assert_eq!(rt;
+        ran.report.as_slice(),
+        b"grid refused: bad magic\n".as_slice()
+    );
     Ok(())
 }

@@ -1,5 +1,5 @@
 use Rattle.std.proofs.Common.{arith}
-use Rattle.roam_num.proofs.PlacesLemmas.{point-later, point-here, point-none}
+use Rattle.roam_num.proofs.PlacesLemmas.{point-later}
 use Rattle.roam_num.proofs.places.point_at.Goals as goal
 
 pub loop-byte-preserved : goal.loop-byte-preserved

@@ -1,4 +1,4 @@
-use Rattle.std.proofs.Common.{arith, sym, ◌∙◌}
+use Rattle.std.proofs.Common.{arith, sym}
 use Rattle.roam_num.proofs.PlacesLemmas.{three-places}
 use Rattle.roam_num.proofs.places.thousandths_behind.Goals as goal
 

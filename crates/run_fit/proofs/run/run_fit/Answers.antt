@@ -1,7 +1,7 @@
 use Rattle.std.proofs.Common.{Err, ◌∙◌, ap}
 use Rattle.run_laws.specs.Words.{Job, Fit}
 use Rattle.run_laws.specs.ReportText.{grid_refusal}
-use Rattle.run_laws.proofs.GridLemmas.{next_count-one, refused-ends, grid-fault, grid-memory}
+use Rattle.run_laws.proofs.GridLemmas.{next_count-one, refused-ends, grid-fault}
 use Rattle.run_words.specs.FitView.{fitting_seen}
 use Rattle.run_fit.proofs.FittedLemmas.{written-ends, cut-ends}
 use Rattle.run_fit.proofs.run.run_fit.Goals as goal

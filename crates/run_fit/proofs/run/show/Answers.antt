@@ -1,4 +1,4 @@
-use Rattle.std.proofs.Common.{ℕ, ◌*◌, ◌≤◌, List, [], All, refl, sym, ◌∙◌, ap, subst}
+use Rattle.std.proofs.Common.{ℕ, ◌*◌, ◌≤◌, List, All, refl, sym, ◌∙◌, ap, subst}
 use Rattle.std.proofs.lemmas.Result.{err_from_is_err_and, on_ok_weaker, on_err_weaker}
 use Rattle.mesh_defs.specs.Triangle.{level_of}
 use Rattle.mesh_defs.specs.MeshText.{mesh_text}
