@@ -63,6 +63,8 @@ measure measure g s 9 1
 info info g
 try try 2 1
 least least g s out 0 1
+fit_of_an_error fit g out error 0 1
+fit_of_a_budget fit g out budget 9 1
 certify_make certify make hill 0 0 0 4 1
 certify_check certify check hill o c 2 1
 TABLE
