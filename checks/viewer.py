@@ -36,8 +36,8 @@ def decide(name, why):
 class Server:
     """examples/fly over a grid, on a free port, with the lines that it has printed."""
 
-    def __init__(self, grid, triangles):
-        words = [sys.executable, str(TOP / "examples/fly/fly.py"), grid, "--triangles", str(triangles), "--port", "0", "--quiet", "--report"]
+    def __init__(self, grid, triangles, *more):
+        words = [sys.executable, str(TOP / "examples/fly/fly.py"), grid, "--triangles", str(triangles), "--port", "0", "--quiet", *more]
         self.process = subprocess.Popen(words, stdout=subprocess.PIPE, stderr=subprocess.PIPE, text=True)
         first = self.process.stdout.readline()
         if not first.startswith("http://127.0.0.1:"):
@@ -213,11 +213,11 @@ def check_server(server):
         if status != 200:
             return [f"status {status}: {body[:80]}"]
         count = struct.unpack("<I", body[8:12])[0]
-        corners = struct.unpack(f"<{3 * count}I", body[64:64 + 12 * count])
-        names = struct.unpack(f"<{count}I", body[64 + 12 * count:])
+        names = struct.unpack(f"<{count}I", body[64:])
         inside, cut, outside = struct.unpack("<3I", body[32:44])
-        return [text for text, wrong in {"more than the budget": count > 2000, "a corner beyond the grid": max(corners) >= side * side,
+        return [text for text, wrong in {"more than the budget": count > 2000, "a name beyond the finest": not 2 <= min(names) <= max(names) < 4 * (side - 1) ** 2,
                                          "a name twice": len(set(names)) != count,
+                                         "parts of the square that are not one": sum(2 / 2 ** it.bit_length() for it in names) != 1,
                                          "parts do not add up": inside + cut + outside != count}.items() if wrong]
 
     decide("viewer_frame", frame())
@@ -371,7 +371,7 @@ def main():
     words = sys.argv[1:]
     signal.signal(signal.SIGTERM, lambda *_: sys.exit("FAILED viewer_checks_come_to_their_end: they were stopped"))
     timed = len(words) == 3 and words[1] == "--time"
-    server = Server(words[0], 20_000 if timed else 6000)
+    server = Server(words[0], 20_000) if timed else Server(words[0], 6000, "--report")
     try:
         if timed:
             measure(server, int(words[2]))

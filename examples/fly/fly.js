@@ -1,7 +1,7 @@
 // The page of a flight: asks the server for each frame's mesh, draws it, and moves the camera. WebGL 2 alone.
 //
-// The heights are on the card once; a frame sends three places a triangle and its name. The next frame is asked while
-// this one is drawn, so a mesh is drawn with the camera that it was asked for.
+// The heights are on the card once; a frame is the names of its triangles, which say where their corners are. The next frame is
+// asked while this one is drawn, so a mesh is drawn with the camera that it was asked for.
 
 const WORDS = ["triangles", "vertices", "splits", "merges", "blocking", "need", "inside", "cut", "outside", "frameUs", "listUs", "edits"];
 const HEAD = 64, SKY = [0.58, 0.69, 0.82], NEAR = 0.35, REACH = 700; // nearest and farthest that is drawn, in grid steps
@@ -99,6 +99,21 @@ function groundAt(x, y) { // drawn height of the nearest grid point
 $("set").open = innerWidth > 700;
 $("budget").max = most;
 $("budget").value = +(asked.get("triangles") ?? most);
+
+// The corners of triangles, as places in the heights, by their names, which come depth first: 2 and 3 are the halves of the
+// square, those of a are 2a and 2a + 1. A triangle is its apex and the ends of its base, which is cut at its middle.
+function cornersOf(names) {
+  const found = new Uint32Array(3 * names.length), last = side - 1, place = (x, y) => (last - y) * side + x;
+  let k = 0;
+  const walk = (name, x, y, vx, vy, wx, wy) => {
+    if (names[k] === name) return found.set([place(x, y), place(vx, vy), place(wx, wy)], 3 * k++);
+    walk(2 * name, (vx + wx) / 2, (vy + wy) / 2, x, y, vx, vy);
+    walk(2 * name + 1, (vx + wx) / 2, (vy + wy) / 2, wx, wy, x, y);
+  };
+  walk(2, 0, 0, last, 0, 0, last);
+  walk(3, last, last, 0, last, last, 0);
+  return found;
+}
 
 const corners = gl.createBuffer(), marks = gl.createBuffer(), fresh = new Uint8Array(most);
 for (const [buffer, bytes, name] of [[corners, 12 * most, "corners"], [marks, most, "fresh"]]) {
@@ -235,20 +250,21 @@ async function ask(p) {
   const bytes = await call("frame", [budget, p.x, p.y, p.z / lift, ...planes.flatMap(([a, b, c, d]) => [a, b, c * lift, d])]);
   const words = new Uint32Array(bytes, 0, HEAD / 4), note = { worst: words[0] + words[1] * 2 ** 32 };
   WORDS.forEach((name, k) => { note[name] = words[2 + k]; });
-  return { p, lift, budget, planes, note, rows: view.rows, bytes, count: (bytes.byteLength - HEAD) / 16 };
+  return { p, lift, budget, planes, note, rows: view.rows, bytes, count: (bytes.byteLength - HEAD) / 4 };
 }
 
 // Which triangles were not in the last mesh that was drawn: `seen` has the frame of each name.
 const seen = new Uint32Array(4 * (side - 1) ** 2);
 function upload(f, frame) {
-  const names = new Uint32Array(f.bytes, HEAD + 12 * f.count, f.count);
+  const names = new Uint32Array(f.bytes, HEAD, f.count);
+  f.corners = cornersOf(names);
   let changed = 0;
   names.forEach((name, k) => {
     changed += fresh[k] = +(frame > 1 && seen[name] !== frame - 1);
     seen[name] = frame;
   });
   gl.bindBuffer(gl.ARRAY_BUFFER, corners);
-  gl.bufferSubData(gl.ARRAY_BUFFER, 0, new Uint32Array(f.bytes, HEAD, 3 * f.count));
+  gl.bufferSubData(gl.ARRAY_BUFFER, 0, f.corners);
   gl.bindBuffer(gl.ARRAY_BUFFER, marks);
   gl.bufferSubData(gl.ARRAY_BUFFER, 0, fresh, 0, f.count);
   return changed;
@@ -309,6 +325,7 @@ function tell({ note, budget }, changed) {
   ].join("\n");
 }
 
+const adler = ([a, b], byte) => [(a + byte) % 65521, (a + byte + b) % 65521]; // a step of Adler-32, by which corners are compared
 let last = performance.now(), frame = 0, pending = ask(pose);
 async function turn() {
   try {
@@ -323,7 +340,8 @@ async function turn() {
     gl.readPixels(0, 0, 1, 1, gl.RGBA, gl.UNSIGNED_BYTE, pixel); // waits until all is drawn
     drawMs = performance.now() - now;
     tell(f, changed);
-    if (STOP) console.log(`frame ${frame} triangles ${f.count} vertices ${f.note.vertices} worst ${f.note.worst}`);
+    const line = `frame ${frame} triangles ${f.count} vertices ${f.note.vertices} worst ${f.note.worst}`;
+    if (STOP) console.log(`${line} corners ${new Uint8Array(f.corners.buffer).reduce(adler, [1, 0]).reduce((a, b) => b * 65536 + a)}`);
     if (frame === STOP) { await pending; document.title = "done"; return; }
   } catch (why) {
     worry(why);

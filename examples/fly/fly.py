@@ -11,11 +11,11 @@ import http.server
 import pathlib
 import re
 import struct
-import socket
 import sys
 import threading
 import time
 import webbrowser
+import zlib
 
 HERE = pathlib.Path(__file__).resolve().parent
 sys.path.insert(0, str(HERE.parents[1] / "lib" / "python"))
@@ -45,7 +45,7 @@ class Flight:
     def __init__(self, engine_of, side, heights, most, spacing, report):
         self.engine_of, self.side, self.heights, self.spacing, self.most = engine_of, side, heights, spacing, most
         self.report, self.edits, self.frames, self.lock = report, 0, 0, threading.Lock()
-        self.corners, self.names = array.array("I", bytes(12 * most)), array.array("I", bytes(4 * most))
+        self.names = array.array("I", bytes(4 * most))
         self.open()
 
     def open(self):
@@ -53,7 +53,7 @@ class Flight:
         self.engine, self.planes, self.budget = self.engine_of(self.heights, self.most, self.spacing), [], self.most
 
     def frame(self, numbers):
-        """budget, x, y, z, then a, b, c, d of each plane: 16 numbers of 32 bits, three corners and a name a triangle, in parts."""
+        """budget, x, y, z, then a, b, c, d of each plane: 16 numbers of 32 bits, and a name a triangle."""
         if len(numbers) < 4 or len(numbers) % 4:
             raise ValueError(f"a frame is asked with {len(numbers)} numbers, and has to be with 4, 8, .. or 28")
         began, engine = time.perf_counter(), self.engine
@@ -75,12 +75,13 @@ class Flight:
             self.open()
             return self.frame(numbers)
         made = time.perf_counter()
-        corners, names = bytes(engine.indices(self.corners)), bytes(engine.leaves(self.names))
+        names = bytes(engine.leaves(self.names))
         micros = [round(1e6 * (made - began)), round(1e6 * (time.perf_counter() - made))]
         self.frames += 1
         if self.report:
-            print(f"frame {self.frames} triangles {note.triangles} vertices {note.vertices} worst {note.worst}", flush=True)
-        return struct.pack("<Q14I", *note, *micros, self.edits, 0, 0), corners, names
+            told = f"frame {self.frames} triangles {note.triangles} vertices {note.vertices} worst {note.worst}"
+            print(told, "corners", zlib.adler32(bytes(engine.indices(array.array("I", bytes(12 * note.triangles))))), flush=True)
+        return struct.pack("<Q14I", *note, *micros, self.edits, 0, 0) + names
 
     def lift(self, numbers):
         """x, y, radius, dz: a hill of nested squares about a grid point, or a hole where dz is negative."""
@@ -98,11 +99,11 @@ class Flight:
                 for place in range(row * self.side + x0, row * self.side + x1 + 1):
                     self.heights[place] = min(65_535, max(0, self.heights[place] + step))
         self.edits += 1
-        return ()
+        return b""
 
     def ground(self, _):
         """side, spacing, most triangles and edits until now, then the heights, 16 bits each."""
-        return struct.pack("<4I", self.side, self.spacing, self.most, self.edits), self.heights.tobytes()
+        return struct.pack("<4I", self.side, self.spacing, self.most, self.edits) + self.heights.tobytes()
 
 
 class Handler(http.server.BaseHTTPRequestHandler):
@@ -110,14 +111,13 @@ class Handler(http.server.BaseHTTPRequestHandler):
     protocol_version, disable_nagle_algorithm, timeout = "HTTP/1.1", True, 60
     flight = None
 
-    def answer(self, status, *parts, kind="text/plain; charset=utf-8", spent=0.0):
+    def answer(self, status, body, kind="text/plain; charset=utf-8", spent=0.0):
         self.send_response_only(status)
-        for name, value in {"Content-Type": kind, "Content-Length": sum(map(len, parts)), "Cache-Control": "no-store",
+        for name, value in {"Content-Type": kind, "Content-Length": len(body), "Cache-Control": "no-store",
                             "Server-Timing": f"engine;dur={1000 * spent:.3f}"}.items():
             self.send_header(name, str(value))
         self.end_headers()
-        for part in parts:  # not joined: a mesh has hundreds of kilobytes
-            self.wfile.write(part)
+        self.wfile.write(body)
 
     def own(self):
         """Whether it is our page that asks, and no other site that reaches for this machine by a name of its own."""
@@ -130,7 +130,7 @@ class Handler(http.server.BaseHTTPRequestHandler):
         if not self.own():
             self.answer(403, b"this server answers its own page alone\n")
         elif page:
-            self.answer(200, (HERE / page[0]).read_bytes(), kind=page[1])
+            self.answer(200, (HERE / page[0]).read_bytes(), page[1])
         else:
             self.answer(404, b"there is /, /fly.js, and by POST /ground, /frame, /raise\n")
 
@@ -151,7 +151,7 @@ class Handler(http.server.BaseHTTPRequestHandler):
             began = time.perf_counter()
             with self.flight.lock:
                 found = calls[self.path](numbers)
-            self.answer(200, *found, kind="application/octet-stream", spent=time.perf_counter() - began)
+            self.answer(200, found, "application/octet-stream", time.perf_counter() - began)
         except ValueError as why:
             self.answer(400, f"{why}\n".encode())
 
@@ -186,7 +186,6 @@ def main():
         server = Server(("127.0.0.1", words.port), Handler)
     except (ValueError, OSError, OverflowError, MemoryError) as why:
         sys.exit(f"fly.py: {why}")
-    server.socket.setsockopt(socket.SOL_SOCKET, socket.SO_SNDBUF, 1 << 20)  # room for a mesh, so that sending it waits for nobody
     where = f"http://127.0.0.1:{server.server_port}/"
     print(f"{where} (Ctrl-C ends it)", flush=True)
     if not words.quiet:
