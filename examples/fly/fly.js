@@ -106,7 +106,7 @@ function cornersOf(names) {
   const found = new Uint32Array(3 * names.length), last = side - 1, place = (x, y) => (last - y) * side + x;
   let k = 0;
   const walk = (name, x, y, vx, vy, wx, wy) => {
-    if (names[k] === name) return found.set([place(x, y), place(vx, vy), place(wx, wy)], 3 * k++);
+    if (names[k] === name) return void (found[3 * k] = place(x, y), found[3 * k + 1] = place(vx, vy), found[3 * k++ + 2] = place(wx, wy));
     walk(2 * name, (vx + wx) / 2, (vy + wy) / 2, x, y, vx, vy);
     walk(2 * name + 1, (vx + wx) / 2, (vy + wy) / 2, wx, wy, x, y);
   };
