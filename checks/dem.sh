@@ -6,6 +6,11 @@
 mkdir -- "$room/dem" && cd -- "$room/dem" || exit 1
 python3 "$checks/dem.py" make .
 
+command -v assimp >/dev/null || skip dem_by_assimp "the command assimp is not there (Debian: assimp-utils)"
+for module in meshio trimesh numpy; do
+  python3 -c "import $module" 2>/dev/null || skip "dem_by_$module" "Python's $module is not there"
+done
+
 # readers FILE COUNT: why a reader that is not ours does not find so many triangles in it.
 readers() {
   local found
