@@ -1,6 +1,5 @@
 use Rattle.std.proofs.lemmas.Grind.{common_steps}
-use Rattle.std.proofs.Common.{◌≡◌, ℕ, ◌*◌, ◌≤◌, All, length, take, drop, refl, sym, ◌∙◌, ap, subst, arith}
-use Rattle.mesh_defs.specs.Triangle.{level_of}
+use Rattle.std.proofs.Common.{◌≡◌, ℕ, length, refl, ◌∙◌, ap, arith}
 use Rattle.mesh_defs.specs.declared.mark.Mark.TheVariants.{Inside, Cut, Outside}
 use Rattle.mesh_defs.specs.ClosedSet.{leaves_of, among}
 use Rattle.mesh_defs.specs.MeshText.{vertices_of}
@@ -8,8 +7,8 @@ use Rattle.edge_laws.specs.Slots.{split_set}
 use Rattle.triangle_pool.specs.Slots.{PoolState}
 use Rattle.roam_mesh.specs.Mesh.{pool_members}
 use Rattle.frame_loop.specs.Marks.{marks_seen}
-use Rattle.frame_loop.proofs.PoolLemmas.{leaves_levels, members_leaves_at}
-use Rattle.frame_loop.proofs.ListingLemmas.{written, kept_listing}
+use Rattle.frame_loop.proofs.PoolLemmas.{members_leaves_at}
+use Rattle.frame_loop.proofs.ListingLemmas.{kept_listing}
 use Rattle.frame_loop.proofs.engine.Engine.frame_anew.Goals as goal
 
 pub list_changed-leaf_count-requires-clause-same : goal.list_changed-leaf_count-requires-clause-same
@@ -18,20 +17,13 @@ list_changed-leaf_count-requires-clause-same c none =
     let n = c.self.inside.outlook.grid.n in
     let same_n : c.advance_mesh-steps.new.mesh.pool.n ≡ n = c.advance_mesh-steps.ensures.n ∙ is.0.n in
     let same = c.advance_mesh-steps.ensures.still none ∙ ap (λ k. leaves_of k (split_set c.self.inside.mesh.pool.pairs)) is.0.n in
-    rw (c.pool.ensures.pool, c.deref_mut.ensures.value)
+    rw (c.pool-pool.ensures.pool, c.deref_mut.ensures.value)
     (kept_listing n c.advance_mesh-steps.new.mesh.pool.n c.self.inside.mesh.pool.pairs c.advance_mesh-steps.new.mesh.pool.pairs
     c.self.inside.leaves.items c.self.inside.numbers c.self.inside.leaf_count c.self.inside.vertices
     same_n same is.1.leaf_list is.4 is.1.vertex_numbers is.6)
 
-pub count_marks-marks-requires-clause-levels : goal.count_marks-marks-requires-clause-levels
-count_marks-marks-requires-clause-levels c =
-    let call = c.list_changed-leaf_count in
-    let n : ℕ = c.self.inside.outlook.grid.n in
-    let same_n : c.pool.result.now.n ≡ n = ap (λ (p : PoolState). p.n) c.pool.ensures.pool ∙ c.advance_mesh-steps.ensures.n ∙ c.self.invariant.0.n in
-    let whole : c.deref.result.now ≡ call.new.leaves =
-    c.deref.ensures.value ∙ written c.self.inside.leaves.len call.new.leaves (drop (length call.new.leaves) c.self.inside.leaves.items) (call.ensures.leaves ∙ c.deref_mut.ensures.len) in
-    let listed = ap (take call.result.0) whole ∙ call.ensures.listing.leaf_list ∙ ap (λ k. leaves_of k (split_set c.pool.result.now.pairs)) same_n in
-    subst (All (λ a. level_of a ≤ 2 * n)) (sym listed) (leaves_levels n (split_set c.pool.result.now.pairs))
+pub count_marks-marks-requires-clause-n : goal.count_marks-marks-requires-clause-n
+count_marks-marks-requires-clause-n c = ap (λ (p : PoolState). p.n) c.pool-pool.ensures.pool ∙ c.advance_mesh-steps.ensures.n ∙ c.self.invariant.0.n
 
 pub returns-clause-done : goal.returns-clause-done
 returns-clause-done c =
@@ -39,12 +31,9 @@ returns-clause-done c =
     let pool : PoolState = c.advance_mesh-steps.new.mesh.pool in
     let n : ℕ = c.self.inside.outlook.grid.n in
     let same_n : pool.n ≡ n = c.advance_mesh-steps.ensures.n ∙ c.self.invariant.0.n in
-    let set : leaves_of c.pool.result.now.n (split_set c.pool.result.now.pairs) ≡ leaves_of n (among (pool_members pool)) =
-    ap (λ (p : PoolState). leaves_of p.n (split_set p.pairs)) c.pool.ensures.pool ∙ members_leaves_at pool n c.pool.ensures.valid same_n in
-    let whole : c.deref.result.now ≡ call.new.leaves =
-    c.deref.ensures.value ∙ written c.self.inside.leaves.len call.new.leaves (drop (length call.new.leaves) c.self.inside.leaves.items) (call.ensures.leaves ∙ c.deref_mut.ensures.len) in
-    let listed : take call.result.0 c.deref.result.now ≡ leaves_of n (among (pool_members pool)) = ap (take call.result.0) whole ∙ call.ensures.listing.leaf_list ∙ set in
-    let told_n : c.pool.result.now.n ≡ n = ap (λ (p : PoolState). p.n) c.pool.ensures.pool ∙ same_n in
+    let set : leaves_of c.pool-pool.result.now.n (split_set c.pool-pool.result.now.pairs) ≡ leaves_of n (among (pool_members pool)) =
+    ap (λ (p : PoolState). leaves_of p.n (split_set p.pairs)) c.pool-pool.ensures.pool ∙ members_leaves_at pool n c.pool-pool.ensures.valid same_n in
+    let told_n : c.pool-pool.result.now.n ≡ n = ap (λ (p : PoolState). p.n) c.pool-pool.ensures.pool ∙ same_n in
     rw (← c.self.view_is, c.note.ensures) (record {
       state = refl;
       most = refl;
@@ -58,11 +47,11 @@ returns-clause-done c =
       least_asked = c.advance_mesh-steps.ensures.least;
       stamps = c.advance_mesh-steps.ensures.stamps;
       triangles = call.ensures.listing.leaf_total ∙ ap length set;
-      vertices = call.ensures.listing.vertex_total ∙ ap (λ k. length (vertices_of k (leaves_of c.pool.result.now.n (split_set c.pool.result.now.pairs)))) told_n
+      vertices = call.ensures.listing.vertex_total ∙ ap (λ k. length (vertices_of k (leaves_of c.pool-pool.result.now.n (split_set c.pool-pool.result.now.pairs)))) told_n
           ∙ ap (λ xs. length (vertices_of n xs)) set;
-      inside = c.count_marks-marks.ensures.inside ∙ ap (marks_seen c.self.inside.outlook Inside) listed;
-      cut = c.count_marks-marks.ensures.cut ∙ ap (marks_seen c.self.inside.outlook Cut) listed;
-      outside = c.count_marks-marks.ensures.outside ∙ ap (marks_seen c.self.inside.outlook Outside) listed;
+      inside = c.count_marks-marks.ensures.inside ∙ ap (marks_seen c.self.inside.outlook Inside) set;
+      cut = c.count_marks-marks.ensures.cut ∙ ap (marks_seen c.self.inside.outlook Cut) set;
+      outside = c.count_marks-marks.ensures.outside ∙ ap (marks_seen c.self.inside.outlook Outside) set;
     })
 
 pub returns-clause-best : goal.returns-clause-best
@@ -82,12 +71,6 @@ returns-clause-kept c = c.advance_mesh-steps.ensures.kept
 
 pub returns-clause-only : goal.returns-clause-only
 returns-clause-only c = c.advance_mesh-steps.ensures.only
-
-pub slice_bounds-count_marks-end : goal.slice_bounds-count_marks-end
-slice_bounds-count_marks-end c = grind (arith, common_steps)
-
-pub count_marks-marks-requires-clause-short : goal.count_marks-marks-requires-clause-short
-count_marks-marks-requires-clause-short c = grind (arith, common_steps)
 
 pub invariant_of-self : goal.invariant_of-self
 invariant_of-self c = grind (arith, common_steps)
