@@ -2,7 +2,7 @@
 
 use crate::engine::{change, frame};
 use crate::grids::{Peak, grid_with};
-use engine_uses::{fly, set_and_look};
+use engine_uses::{Sight, fly, go_on, set_and_look};
 use frame_loop::{Camera, Engine};
 use roam_gen::{gen_grid, gen_line};
 use roam_script::Line;
@@ -36,6 +36,29 @@ fn flight(alloc: Global) -> Option<[Told; 3]> {
 fn a_flight_tells_of_each_frame(rt: HostRuntime) {
     let told = [(9, 436906, 7, 0), (9, 436906, 5, 5), (9, 436906, 0, 0)];
     assert_eq!(rt; flight(rt.alloc()), Some(told));
+}
+
+/// What is seen of two steps of a flight without an end, from the one corner and from the other.
+fn endless(alloc: Global) -> Option<[Told; 2]> {
+    let grid = grid_with(alloc, 2, &TWO_PEAKS)?;
+    let mut engine = Engine::make(alloc, grid, 9, 1).ok()?;
+    two_steps(&mut engine)
+}
+
+fn two_steps(engine: &mut Engine) -> Option<[Told; 2]> {
+    let first = go_on(engine, Camera::new(0, 0, 0)?);
+    let second = go_on(engine, Camera::new(4, 4, 0)?);
+    Some([told_of(first), told_of(second)])
+}
+
+fn told_of(sight: Sight) -> Told {
+    (sight.triangles, sight.worst, sight.splits, sight.merges)
+}
+
+#[test]
+fn a_flight_goes_on(rt: HostRuntime) {
+    let told = [(9, 436906, 7, 0), (9, 436906, 5, 5)];
+    assert_eq!(rt; endless(rt.alloc()), Some(told));
 }
 
 /// What is seen where the first peak is cut off after a frame.
