@@ -2,7 +2,9 @@
 
 use arrayvec::ArrayVec;
 use roam_edge::{Failed, MemSink, NoMemory};
-use roam_num::{dec, push_bytes, push_number, put_dec, read_dec, read_signed};
+use roam_num::{
+    dec, push_bytes, push_decimal, push_number, put_dec, read_dec, read_signed, read_thousandths,
+};
 use std::alloc::Global;
 use std::test::Fail;
 
@@ -40,6 +42,47 @@ fn a_minus_and_one_to_eighteen_digits_are_read(rt: HostRuntime) {
     ];
     for (text, number) in cases {
         assert_eq!(rt; read_signed(text), number);
+    }
+}
+
+#[test]
+fn digits_with_at_most_three_behind_a_point_are_thousandths(rt: HostRuntime) {
+    let cases: [(&[u8], Option<u64>); 14] = [
+        (b"0", Some(0)),
+        (b"20", Some(20_000)),
+        (b"2.5", Some(2_500)),
+        (b"0.25", Some(250)),
+        (b"0.125", Some(125)),
+        (b"007.050", Some(7_050)),
+        (b"65535.999", Some(65_535_999)),
+        (b"9999999999999999.999", Some(9_999_999_999_999_999_999)),
+        (b"10000000000000000", None),
+        (b"1.2345", None),
+        (b".5", None),
+        (b"5.", None),
+        (b"1.2.3", None),
+        (b"-1", None),
+    ];
+    for (text, count) in cases {
+        assert_eq!(rt; read_thousandths(text), count);
+    }
+}
+
+#[test]
+fn a_fraction_over_a_power_of_two_is_written_exactly(rt: HostRuntime) {
+    let cases: [(u32, u32, &[u8]); 7] = [
+        (0, 1, b"0"),
+        (20, 1, b"10"),
+        (3, 2, b"0.75"),
+        (23_904, 8, b"93.375"),
+        (1, 11, b"0.00048828125"),
+        (134_217_727, 11, b"65535.99951171875"),
+        (7, 0, b"7"),
+    ];
+    for (count, n, text) in cases {
+        let mut written = ArrayVec::<u8, 40>::new();
+        push_decimal(&mut written, count, n);
+        assert_eq!(rt; written.as_slice(), text);
     }
 }
 
