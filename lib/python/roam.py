@@ -132,7 +132,9 @@ def _load() -> ctypes.CDLL:
         "fit": [handle, c_uint32, c_uint32, numbers, c_size_t, POINTER(_Fit)],
         "certificate": [handle] + 3 * [c_int64] + [ctypes.c_char_p, c_size_t, count],
     }.items():
-        call = getattr(library, "roam_" + name)
+        call = getattr(library, "roam_" + name, None)
+        if call is None:
+            raise ImportError(f"{found} has no roam_{name}: it is older than roam.py, and lib/build makes both anew")
         call.argtypes, call.restype = words, None if name == "changes" else c_int32
     return library
 
