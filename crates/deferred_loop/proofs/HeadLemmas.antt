@@ -16,13 +16,13 @@ use Rattle.closure_laws.proofs.DiamondLemmas.{diamond_trans, diamond_symmetric, 
 use Rattle.frame_steps.proofs.NextLemmas.{some_lead}
 use Rattle.frame_steps.proofs.KeyLemmas.{IsAddress-entry, first_known, zero_head, lead_no_later_key, all_before, all_positive, upper_key-known}
 use Rattle.deferred_loop.specs.Choice.{Priorities, IsFirstRank, IsLastRank}
-use Rattle.deferred_loop.specs.Seen.{SeenMesh, best_key, worst_key, sure, IsDecided, IsHead, IsLastHead}
+use Rattle.deferred_loop.specs.Seen.{SeenMesh, best_key, worst_key, sure, IsDecided, IsToAsk, IsHead, IsLastHead}
 use Rattle.deferred_loop.specs.Kept.{told_of, IsSettled, IsMet, IsAllowed, IsNoneMet}
 use Rattle.deferred_loop.specs.declared.queued.Head.{Head}
 use Rattle.deferred_loop.specs.declared.queued.Last.{Last}
 use Rattle.deferred_loop.specs.declared.limit.Limit.{Limit}
 use Rattle.deferred_loop.specs.declared.limit.Limit.TheVariants.{Over, After, Zero}
-use Rattle.deferred_loop.proofs.KeyLemmas.{present, present_is, best_key-upper, worst_key-lower, sure_key, best_key-above, no_later_by, can_merge_with}
+use Rattle.deferred_loop.proofs.KeyLemmas.{present, present_is, best_key-upper, worst_key-lower, sure_key, unsure, best_key-above, no_later_by, can_merge_with}
 
 -- the grid of a frame's gauge
 pub told_grid : (w : DeferredFrame) (told : Priorities) → told ≡ told_of w → told.n ≡ w.n
@@ -34,11 +34,13 @@ asked_level w told a same address = omega (arith, level-le w.n a address, told_g
 
 -- a head with no triangle to ask is decided
 pub last_decided : (s : SeenMesh) (h : Last) → IsLastHead s h → h.unasked ≡ None → IsDecided s h.rank.tri
-last_decided s h last none = subst (λ z. MatchOption z (IsDecided s h.rank.tri) (λ t. IsInDiamond s.set.n h.rank.tri t × (s.known t ≡ false))) none last.unasked
+last_decided s h last none = subst (λ z. MatchOption z (IsDecided s h.rank.tri) (IsToAsk s h.rank.tri)) none last.unasked
 
 -- the triangle to ask
 pub last_part : (s : SeenMesh) (h : Last) (t : ℕ) → IsLastHead s h → h.unasked ≡ Some t → IsInDiamond s.set.n h.rank.tri t × (s.known t ≡ false)
-last_part s h t last some = subst (λ z. MatchOption z (IsDecided s h.rank.tri) (λ t. IsInDiamond s.set.n h.rank.tri t × (s.known t ≡ false))) some last.unasked
+last_part s h t last some =
+    let next : IsToAsk s h.rank.tri t = subst (λ z. MatchOption z (IsDecided s h.rank.tri) (IsToAsk s h.rank.tri)) some last.unasked in
+    (next.in_diamond, unsure s t next.not_sure)
 
 -- the set of a settled mesh is closed
 pub grid_set_here : (w : DeferredFrame) (s : SeenMesh) → IsSettled w s → IsGridSet s.set.n s.set.members

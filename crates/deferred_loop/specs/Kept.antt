@@ -1,8 +1,8 @@
 -- What the loop keeps, half way through a frame: keys that are true, charges for what was asked, and stamps that hold.
 -- All of it is this project's own.
--- Words: told_of, IsFrameOf, IsTrueKey, IsSound, IsSettled, IsOldLeaf, IsOldMember, IsCharged, IsAskedOnly, IsCaughtUp, IsStamped,
+-- Words: told_of, IsFrameOf, IsTrueKey, IsSound, IsSettled, IsOldLeaf, IsOldMember, IsCharged, IsAskedOnly, SplitsUnasked, IsCaughtUp, IsStamped,
 -- IsMet, IsAllowed, IsNoneMet.
-use Rattle.std.specs.Prelude.{◌≡◌, ℕ, ◌+◌, ◌-◌, ◌*◌, ◌^◌, ◌<◌, ◌≤◌, ◌⊎◌, true, false, cond, nat_eq, IsTrue, List, [], length, Contains, Some}
+use Rattle.std.specs.Prelude.{◌≡◌, ℕ, ◌+◌, ◌-◌, ◌*◌, ◌^◌, ◌<◌, ◌≤◌, ◌⊎◌, ⊤, true, false, cond, nat_eq, IsTrue, List, [], length, Contains, Some}
 use Rattle.std.specs.List.{IsDistinct}
 use Rattle.mesh_defs.specs.ClosedSet.{leaves_of, among}
 use Rattle.mesh_defs.specs.Ranking.{RanksBefore}
@@ -17,6 +17,8 @@ use Rattle.frame_steps.specs.Stamps.{Readings, is_due, stamp_now, HasStamps}
 use Rattle.deferred_loop.specs.Choice.{Priorities, IsFirstRank}
 use Rattle.deferred_loop.specs.Seen.{SeenMesh, upper_of, lower_of}
 use Rattle.deferred_loop.specs.declared.limit.Limit.{Limit}
+use Rattle.deferred_loop.specs.declared.next.Next.{Next}
+use Rattle.deferred_loop.specs.declared.next.Next.TheVariants.{Split, Merge, End}
 use Rattle.deferred_loop.specs.declared.limit.Limit.TheVariants.{Over, After, Zero}
 
 -- what the gauge of a frame tells
@@ -81,6 +83,12 @@ pub record IsAskedOnly (w : DeferredFrame) (before after : SeenMesh) (count more
   pub settled : IsSettled w after
   pub counted : count ≤ more
   pub charged : (evaluations added removed : ℕ) → IsCharged w evaluations before added removed count → IsCharged w evaluations after added removed more
+
+-- where the choice is a split, nothing was asked for it: the mesh and the count are as before
+abbrev pub SplitsUnasked : Next → SeenMesh → SeenMesh → ℕ → ℕ → Type 0
+SplitsUnasked (Split t) before after count more = (after ≡ before) × (more ≡ count)
+SplitsUnasked (Merge t) before after count more = ⊤
+SplitsUnasked (End e) before after count more = ⊤
 
 -- all that was fresh is entered
 pub record IsCaughtUp (w : DeferredFrame) (r : Readings) (odometer : ℕ) (before after : SeenMesh) : Type 0 where

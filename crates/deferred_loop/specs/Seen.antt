@@ -2,12 +2,13 @@
 -- and what each call of the mesh does to these.
 -- Source: Duchaineau et al., "ROAMing Terrain", IEEE Visualization 1997, the parts on the two queues and on deferred
 -- priority lists; the list of fresh entries is this project's own.
--- Words: PoolSet, SeenMesh, upper_of, lower_of, best_key, worst_key, sure, IsHead, IsDecided, IsLastHead, IsTold, IsEntered,
--- IsSame, IsNewEntry, IsRenewed, HasRoom, IsCountedBy, IsSplitOf, IsMergeOf, IsQuiet, IsBegun, IsForgotten.
-use Rattle.std.specs.Prelude.{◌≡◌, ℕ, ◌+◌, ◌-◌, ◌*◌, ◌^◌, ◌≤◌, ◌⊎◌, Bool, true, false, cond, nat_eq, ◌||◌, IsTrue, List, [], ◌∷◌, length, Contains, Option, None, Some, MatchOption}
+-- Words: PoolSet, SeenMesh, upper_of, lower_of, best_key, worst_key, sure, IsHead, IsDecided, IsToAsk, IsLastHead, IsTold,
+-- IsEntered, IsSame, IsNewEntry, IsRenewed, HasRoom, IsCountedBy, IsSplitOf, IsMergeOf, IsQuiet, IsBegun, IsForgotten.
+use Rattle.std.specs.Prelude.{◌≡◌, ◌≢◌, ℕ, ◌+◌, ◌-◌, ◌*◌, ◌^◌, ◌≤◌, ◌⊎◌, Bool, true, false, cond, nat_eq, ◌||◌, IsTrue, List, [], ◌∷◌, length, Contains, Option, None, Some, MatchOption}
 use Rattle.std.specs.List.{IsDistinct}
 use Rattle.mesh_defs.specs.Triangle.{IsMate}
 use Rattle.mesh_defs.specs.ClosedSet.{leaves_of, among}
+use Rattle.mesh_defs.specs.Ranking.{IsBefore}
 use Rattle.mesh_defs.specs.Greedy.{with_triangle}
 use Rattle.mesh_defs.specs.GridSet.{IsForced}
 use Rattle.closure_laws.specs.Order.{IsNoLater}
@@ -70,8 +71,16 @@ pub record IsDecided (s : SeenMesh) (c : ℕ) : Type 0 where
   pub own : sure s c ≡ true
   pub mate : (b : ℕ) → IsMate s.set.n c b → IsNoLater (worst_key s c) c (best_key s b) b
 
+-- t is the triangle to ask next of the diamond of c, the better one by its key: that is not decided yet, and t is not sure. It is
+-- c itself, unless c is sure, or its mate comes first by the best that each can be.
+pub record IsToAsk (s : SeenMesh) (c t : ℕ) : Type 0 where
+  pub in_diamond : IsInDiamond s.set.n c t
+  pub not_sure : sure s t ≡ false
+  pub undecided : IsDecided s c → ⊥
+  pub turn : t ≢ c → (sure s c ≡ true) ⊎ IsBefore (best_key s t) t (best_key s c) c
+
 -- The head of the merge queue: the better by its key of the triangles of a diamond. Each diamond that can be merged has a
--- triangle that comes no later. Where the head is not decided it names a triangle of its diamond that was not told.
+-- triangle that comes no later. Where the head is not decided it names the triangle of its diamond that is to be asked next.
 pub record IsLastHead (s : SeenMesh) (h : Last) : Type 0 where
   pub mergeable : CanMerge s.set.n (among s.set.members) h.rank.tri
   pub value : h.rank.p ≡ worst_key s h.rank.tri
@@ -80,7 +89,7 @@ pub record IsLastHead (s : SeenMesh) (h : Last) : Type 0 where
       (e : ℕ) × IsInDiamond s.set.n a e × IsNoLater (worst_key s e) e (worst_key s h.rank.tri) h.rank.tri
   pub unasked : MatchOption h.unasked
       (IsDecided s h.rank.tri)
-      (λ t. IsInDiamond s.set.n h.rank.tri t × (s.known t ≡ false))
+      (IsToAsk s h.rank.tri)
 
 -- a told rank is known from now on, and all else stays
 pub record IsTold (before after : SeenMesh) (r : Rank) : Type 0 where

@@ -6,7 +6,7 @@ ghost use Rattle.frame_steps.specs.Steps.{leaf_count};
 ghost use Rattle.frame_steps.specs.Deferred.{DeferredFrame, IsDeferredFrame};
 ghost use Rattle.deferred_loop.specs.Choice.{IsFirstRank, IsNext};
 ghost use Rattle.deferred_loop.specs.Seen.{SeenMesh};
-ghost use Rattle.deferred_loop.specs.Kept.{told_of, IsSettled, IsAskedOnly};
+ghost use Rattle.deferred_loop.specs.Kept.{told_of, IsSettled, IsAskedOnly, SplitsUnasked};
 
 use crate::asking::{settle_first, settle_last};
 use crate::gauge::Gauge;
@@ -36,7 +36,7 @@ fn choose_over<M: QueuedMesh, G: Gauge>(mesh: &mut M, gauge: &mut G) -> Next
     }
 }
 
-/// Where a leaf has a positive priority. The merge queue is not looked at where that leaf fits.
+/// Where a leaf has a positive priority. Nothing is asked of the merge queue where that leaf fits.
 fn choose_with<M: QueuedMesh, G: Gauge>(
     mesh: &mut M,
     gauge: &mut G,
@@ -53,6 +53,7 @@ fn choose_with<M: QueuedMesh, G: Gauge>(
     ensures told { G.told gauge.new ≡ G.told gauge.old }
     ensures readings { G.readings gauge.new ≡ G.readings gauge.old }
     ensures asked { IsAskedOnly w (M.seen mesh.old) (M.seen mesh.new) (G.count gauge.old) (G.count gauge.new) }
+    ensures split { SplitsUnasked result (M.seen mesh.old) (M.seen mesh.new) (G.count gauge.old) (G.count gauge.new) }
     ensures next { IsNext w.n w.budget w.priority (M.seen mesh.old).set.members result }
 {
     let need = mesh.leaf_count() + mesh.gain(first.tri);

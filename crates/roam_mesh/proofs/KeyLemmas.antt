@@ -1,18 +1,19 @@
 -- The keys of the queues: which of two ranks is the better one, and what the key of a diamond is.
 use Rattle.std.proofs.Common.{◌≡◌, ℕ, ◌<◌, ◌≤◌, ◌⊎◌, ◌&&◌, ◌||◌, inl, inr, Bool, true, false, cond, nat_eq, nat_le, nat_lt, List, get_or, Option, Some, None, refl, sym, ◌∙◌, ap, ap₂, subst, arith, ⊎_elim}
-use Rattle.std.proofs.lemmas.Bool.{cases_lt, cases_order, lt-ltb, le-ltb, le-leb, lt-leb, eq-eqb, ne_eqb, eqb-true, or_parts, true≢false, cond-true, cond-false, or_left, or_right, or_from, and_from, and_left, and_right}
+use Rattle.std.proofs.lemmas.Bool.{cases_lt, cases_order, lt-ltb, le-ltb, le-leb, lt-leb, eq-eqb, ne_eqb, eqb-true, or_parts, both_ways, true≢false, cond-true, cond-false, or_left, or_right, or_from, and_from, and_left, and_right}
 use Rattle.std.proofs.lemmas.List.{get_or_read}
 use Rattle.mesh_defs.specs.Ranking.{IsBefore}
 use Rattle.closure_laws.specs.Order.{IsNoLater}
+use Rattle.closure_laws.proofs.OrderLemmas.{no_later_other}
 use Rattle.edge_laws.specs.Edge.{mate_of}
-use Rattle.edge_laws.proofs.MateLemmas.{mate_of-low, mate_of-back}
+use Rattle.edge_laws.proofs.MateLemmas.{mate_of-low, mate_of-back, mate_of-other}
 use Rattle.bintree_addr.specs.declared.rank.Rank.{Rank}
 use Rattle.bintree_addr.specs.RankOrder.{ComesFirst}
 use Rattle.edge_laws.specs.Chief.{chief_of}
 use Rattle.edge_laws.specs.Slots.{address_at, IsLive, IsPool}
 use Rattle.bintree_addr.specs.declared.slot.Slot.{Slot}
 use Rattle.roam_mesh.specs.Mesh.{slot_of}
-use Rattle.roam_mesh.specs.Parts.{PartsState, IsWhole, blank, entry_at, entry_of, is_ready, is_ready_at, best_of, worst_of, worst_rank, better_of, diamond_rank}
+use Rattle.roam_mesh.specs.Parts.{PartsState, IsWhole, blank, entry_at, entry_of, is_ready, is_ready_at, best_of, worst_of, leaf_rank, worst_rank, better_of, diamond_rank}
 use Rattle.roam_mesh.specs.Keys.{is_sure, IsOfDiamond, IsBetterFirst, IsKnownRank, IsUnasked}
 use Rattle.roam_mesh.specs.declared.entry.Entry.{Entry}
 use Rattle.roam_mesh.proofs.PlaceLemmas.{live_below, slot_of-at, one_slot}
@@ -185,22 +186,49 @@ module _ (parts : PartsState) (pool : IsPool parts.pool.n parts.pool.pairs) wher
         other = (sym back, ready);
       }
 
-  -- the better one of two was not told
-  pub unasked_first : (s : ℕ) (b : Slot) (pair : Slot × Option Slot) → pair.0 ≡ b → IsBetterFirst parts s pair → is_sure (entry_at parts b.0) ≡ false → IsUnasked parts s b
-  unasked_first s b pair is better unsure = record {
-    own = subst (λ (z : Slot). IsOfDiamond parts s z.0) is better.own;
-    unknown = unsure_unknown (entry_at parts b.0) unsure;
-  }
+  -- where the rank of a diamond is known, its better one is sure
+  known_sure : (s : ℕ) (b : Slot) → address_at parts.pool.pairs b.0 ≡ (diamond_rank parts (chief_of (address_at parts.pool.pairs s))).tri → IsLive parts.pool.pairs b.0 →
+      IsKnownRank parts s → is_sure (entry_at parts b.0) ≡ true
+  known_sure s b named live known =
+      subst (λ z. is_sure (entry_at parts z) ≡ true) (slot_of-at parts.pool.n parts.pool.pairs b.0 pool live)
+      (subst (λ z. is_sure (entry_of parts z) ≡ true) (sym named) known.own)
 
-  -- the other one was not told
-  pub unasked_second : (s : ℕ) (b m : Slot) → is_ready_at parts.pool.pairs s ≡ true → IsBetterFirst parts s (b, Some m) → is_sure (entry_at parts m.0) ≡ false → IsUnasked parts s m
-  unasked_second s b m ready better unsure = record {
+  -- the better one of two is asked where it is not sure
+  pub unasked_first : (s : ℕ) (b : Slot) (other : Option Slot) → IsBetterFirst parts s (b, other) → is_sure (entry_at parts b.0) ≡ false → IsUnasked parts s b
+  unasked_first s b other better unsure =
+      let named : address_at parts.pool.pairs b.0 ≡ (diamond_rank parts (chief_of (address_at parts.pool.pairs s))).tri = ap (λ (z : Rank). z.tri) better.key in
+      let live : IsLive parts.pool.pairs b.0 = ready_live parts.pool.pairs b.0 better.ready in
+      record {
+        own = better.own;
+        not_sure = unsure;
+        undecided = λ known. both_ways (is_sure (entry_at parts b.0)) unsure (known_sure s b named live known);
+        turn = λ differ. absurd (differ named);
+      }
+
+  -- the other one is asked where it is not sure, and either the better one is and does not come before it, or it may come first itself
+  pub unasked_second : (s : ℕ) (b m : Slot) → is_ready_at parts.pool.pairs s ≡ true → IsBetterFirst parts s (b, Some m) → is_sure (entry_at parts m.0) ≡ false →
+      ((is_sure (entry_at parts b.0) ≡ true) × (ComesFirst (worst_rank parts (address_at parts.pool.pairs b.0)) (leaf_rank parts m.0) → ⊥))
+      ⊎ ((is_sure (entry_at parts b.0) ≡ false) × ComesFirst (leaf_rank parts m.0) (leaf_rank parts b.0)) →
+      IsUnasked parts s m
+  unasked_second s b m ready better unsure why = record {
     own = ⊎_elim
         (λ (own : address_at parts.pool.pairs b.0 ≡ address_at parts.pool.pairs s). inr (subst (λ z. 1 ≤ mate_of z) own some, better.other.0 ∙ ap mate_of own))
         (λ (mate : (1 ≤ mate_of (address_at parts.pool.pairs s)) × (address_at parts.pool.pairs b.0 ≡ mate_of (address_at parts.pool.pairs s))).
         inl (better.other.0 ∙ ap mate_of mate.1 ∙ mate_of-back (address_at parts.pool.pairs s) (ready_live parts.pool.pairs s ready) mate.0))
         better.own;
-    unknown = unsure_unknown (entry_at parts m.0) unsure;
+    not_sure = unsure;
+    undecided = λ known. ⊎_elim
+        (λ (sure : (is_sure (entry_at parts b.0) ≡ true) × (ComesFirst (worst_rank parts (address_at parts.pool.pairs b.0)) (leaf_rank parts m.0) → ⊥)). sure.1 (first known))
+        (λ (open_b : (is_sure (entry_at parts b.0) ≡ false) × ComesFirst (leaf_rank parts m.0) (leaf_rank parts b.0)).
+        both_ways (is_sure (entry_at parts b.0)) open_b.0 (known_sure s b named live known))
+        why;
+    turn = λ differ. ⊎_elim
+        (λ (sure : (is_sure (entry_at parts b.0) ≡ true) × (ComesFirst (worst_rank parts (address_at parts.pool.pairs b.0)) (leaf_rank parts m.0) → ⊥)).
+        inl (subst (λ z. is_sure (entry_of parts z) ≡ true) named (subst (λ z. is_sure (entry_at parts z) ≡ true) (sym slot) sure.0)))
+        (λ (open_b : (is_sure (entry_at parts b.0) ≡ false) × ComesFirst (leaf_rank parts m.0) (leaf_rank parts b.0)).
+        inr (subst (λ z. IsBefore (best_of (entry_at parts m.0)) (address_at parts.pool.pairs m.0) (best_of (entry_of parts z)) z) named
+        (subst (λ z. IsBefore (best_of (entry_at parts m.0)) (address_at parts.pool.pairs m.0) (best_of (entry_at parts z)) (address_at parts.pool.pairs b.0)) (sym slot) open_b.1)))
+        why;
   }
     where
       some : 1 ≤ mate_of (address_at parts.pool.pairs b.0)
@@ -208,6 +236,26 @@ module _ (parts : PartsState) (pool : IsPool parts.pool.n parts.pool.pairs) wher
           (λ (none : mate_of (address_at parts.pool.pairs b.0) < 1). absurd (true≢false (better.alone.1 (omega arith))))
           (λ rest. rest)
           (cases_lt (mate_of (address_at parts.pool.pairs b.0)) 1)
+
+      live : IsLive parts.pool.pairs b.0
+      live = ready_live parts.pool.pairs b.0 better.ready
+
+      slot : slot_of parts.pool.pairs (address_at parts.pool.pairs b.0) ≡ b.0
+      slot = slot_of-at parts.pool.n parts.pool.pairs b.0 pool live
+
+      named : address_at parts.pool.pairs b.0 ≡ (diamond_rank parts (chief_of (address_at parts.pool.pairs s))).tri
+      named = ap (λ (z : Rank). z.tri) better.key
+
+      -- the better one comes before the best that the other one can be
+      first : IsKnownRank parts s → ComesFirst (worst_rank parts (address_at parts.pool.pairs b.0)) (leaf_rank parts m.0)
+      first known =
+          let a : ℕ = address_at parts.pool.pairs b.0 in
+          let no_later : IsNoLater (worst_of (entry_of parts a)) a (best_of (entry_of parts (mate_of a))) (mate_of a) =
+          subst (λ z. 1 ≤ mate_of z → IsNoLater (worst_of (entry_of parts z)) z (best_of (entry_of parts (mate_of z))) (mate_of z)) (sym named) known.mate some in
+          let there : slot_of parts.pool.pairs (mate_of a) ≡ m.0 = one_slot parts.pool.n parts.pool.pairs m.0 (mate_of a) pool (mate_of-low a live some) better.other.0 in
+          subst (λ z. IsBefore (worst_of (entry_of parts a)) a (best_of (entry_at parts m.0)) z) (sym better.other.0)
+          (subst (λ z. IsBefore (worst_of (entry_of parts a)) a (best_of (entry_at parts z)) (mate_of a)) there
+          (no_later_other no_later (λ same. mate_of-other a live some (sym same))))
 
   -- the key of a diamond of one triangle is known
   pub known_alone : (s : ℕ) (b : Slot) → IsBetterFirst parts s (b, None) → is_sure (entry_at parts b.0) ≡ true → IsKnownRank parts s

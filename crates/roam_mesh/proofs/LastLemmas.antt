@@ -3,23 +3,24 @@ use Rattle.std.proofs.Common.{◌≡◌, ℕ, ◌*◌, ◌<◌, ◌≤◌, ◌�
 use Rattle.std.proofs.lemmas.Bool.{cases_lt, or_from, and_right, and_parts, eqb-true}
 use Rattle.mesh_defs.specs.Triangle.{level_of}
 use Rattle.mesh_defs.specs.ClosedSet.{among}
+use Rattle.mesh_defs.specs.Ranking.{IsBefore}
 use Rattle.closure_laws.specs.Order.{IsNoLater}
 use Rattle.closure_laws.specs.Diamond.{IsInDiamond, CanMerge}
 use Rattle.edge_laws.specs.Edge.{mate_of}
 use Rattle.edge_laws.specs.Slots.{address_at, IsLive}
 use Rattle.edge_laws.proofs.MateLemmas.{mate_of-low, mate_of-back}
-use Rattle.edge_laws.proofs.IsMateLemmas.{mate_of-IsMate}
+use Rattle.edge_laws.proofs.IsMateLemmas.{mate_of-IsMate, IsMate-mate_of}
 use Rattle.bintree_addr.specs.declared.rank.Rank.{Rank}
 use Rattle.bintree_addr.specs.declared.slot.Slot.{Slot}
 use Rattle.bintree_addr.specs.RankOrder.{ComesFirst}
 use Rattle.slot_heap.specs.Keys.{IsEmpty}
 use Rattle.edge_laws.specs.Chief.{chief_of}
 use Rattle.merge_queue.specs.Last.{IsLastRank}
-use Rattle.deferred_loop.specs.Seen.{best_key, worst_key, IsDecided, IsLastHead}
+use Rattle.deferred_loop.specs.Seen.{best_key, worst_key, sure, IsDecided, IsToAsk, IsLastHead}
 use Rattle.roam_mesh.specs.Mesh.{slot_of, pool_members}
 use Rattle.roam_mesh.specs.Parts.{PartsState, entry_at, entry_of, best_of, worst_of, seen_parts, is_ready_at, is_out, worst_rank, diamond_rank, IsParts}
 use Rattle.roam_mesh.specs.Change.{chief_slot}
-use Rattle.roam_mesh.specs.Keys.{is_sure, IsOfDiamond, IsKnownRank, IsUnasked}
+use Rattle.roam_mesh.specs.Keys.{is_sure, IsOfDiamond, IsKnownRank, IsTurn, IsUnasked}
 use Rattle.roam_mesh.proofs.PlaceLemmas.{slot_of-at}
 use Rattle.roam_mesh.proofs.RoleLemmas.{ready_live, ready_entry, entry_level, ready_of-at, ready_at-of, ready_mate, chief_ready, diamond_mate, mate_diamond}
 use Rattle.roam_mesh.proofs.HeadLemmas.{best_key_seen, worst_key_seen, sure_seen, settled_placed, merge_key, merge_key_of}
@@ -197,8 +198,33 @@ module _ (parts : PartsState) (is : IsParts parts) (none : parts.fresh ≡ []) w
                 (subst (λ z. IsNoLater (worst_of (entry_of parts rank.tri)) rank.tri (best_of (entry_of parts z)) z) same (mate (omega arith))));
           }
 
+      -- the triangle of the rank is that of the diamond's key
+      key_is : diamond_rank parts (chief_of (address_at parts.pool.pairs head.0)) ≡ rank
+      key_is = ap (diamond_rank parts) (chief head rank last).1 ∙ sym (chief head rank last).2
+
+      -- where the head is decided, the rank of its diamond is known
+      known_of : IsDecided (seen_parts parts) rank.tri → IsKnownRank parts head.0
+      known_of d = record {
+        own = subst (λ (z : Rank). is_sure (entry_of parts z.tri) ≡ true) (sym key_is) (sym (sure_seen parts rank.tri) ∙ d.own);
+        mate = subst (λ (z : Rank). 1 ≤ mate_of z.tri → IsNoLater (worst_of (entry_of parts z.tri)) z.tri (best_of (entry_of parts (mate_of z.tri))) (mate_of z.tri)) (sym key_is)
+            (λ some. subst (λ z. IsNoLater (worst_of (entry_of parts rank.tri)) rank.tri z (mate_of rank.tri)) (best_key_seen parts (mate_of rank.tri))
+            (subst (λ z. IsNoLater z rank.tri (best_key (seen_parts parts) (mate_of rank.tri)) (mate_of rank.tri)) (worst_key_seen parts rank.tri)
+            (d.mate (mate_of rank.tri) (IsMate-mate_of parts.pool.n rank.tri (bounds head rank last).0 (bounds head rank last).1 some))));
+      }
+
+      turn_of : (t : ℕ) (s : Slot) → t ≡ address_at parts.pool.pairs s.0 → entry_of parts t ≡ entry_at parts s.0 → (t ≡ rank.tri → ⊥) →
+          IsTurn parts (diamond_rank parts (chief_of (address_at parts.pool.pairs head.0))) s.0 →
+          (sure (seen_parts parts) rank.tri ≡ true) ⊎ IsBefore (best_key (seen_parts parts) t) t (best_key (seen_parts parts) rank.tri) rank.tri
+      turn_of t s at own differ turn = ⊎_elim
+          (λ (known : is_sure (entry_of parts rank.tri) ≡ true). inl (sure_seen parts rank.tri ∙ known))
+          (λ (before : IsBefore (best_of (entry_at parts s.0)) (address_at parts.pool.pairs s.0) (best_of (entry_of parts rank.tri)) rank.tri).
+          inr (subst (λ z. IsBefore z t (best_key (seen_parts parts) rank.tri) rank.tri) (sym (best_key_seen parts t ∙ ap best_of own))
+          (subst (λ z. IsBefore (best_of (entry_at parts s.0)) z (best_key (seen_parts parts) rank.tri) rank.tri) (sym at)
+          (subst (λ z. IsBefore (best_of (entry_at parts s.0)) (address_at parts.pool.pairs s.0) z rank.tri) (sym (best_key_seen parts rank.tri)) before))))
+          (subst (λ (z : Rank). IsTurn parts z s.0) key_is turn (λ same. differ (at ∙ same)))
+
       asked : (unasked : Option ℕ) → MatchOption unasked (IsKnownRank parts head.0) (λ t. (s : Slot) × IsUnasked parts head.0 s × (t ≡ address_at parts.pool.pairs s.0)) →
-          MatchOption unasked (IsDecided (seen_parts parts) rank.tri) (λ t. IsInDiamond parts.pool.n rank.tri t × ((entry_of parts t).known ≡ false))
+          MatchOption unasked (IsDecided (seen_parts parts) rank.tri) (IsToAsk (seen_parts parts) rank.tri)
       asked None known = decided known
       asked (Some t) next =
           let a : ℕ = address_at parts.pool.pairs head.0 in
@@ -206,10 +232,14 @@ module _ (parts : PartsState) (is : IsParts parts) (none : parts.fresh ≡ []) w
           let live : 2 ≤ address_at parts.pool.pairs next.0.0 = ⊎_elim
           (λ (own : address_at parts.pool.pairs next.0.0 ≡ address_at parts.pool.pairs head.0). subst (λ z. 2 ≤ z) (sym own) low)
           (λ (mate : (1 ≤ mate_of (address_at parts.pool.pairs head.0)) × (address_at parts.pool.pairs next.0.0 ≡ mate_of (address_at parts.pool.pairs head.0))). subst (λ z. 2 ≤ z) (sym mate.1) (mate_of-low (address_at parts.pool.pairs head.0) low mate.0))
-          next.1.own in (
-            mate_diamond parts.pool.n rank.tri t (bounds head rank last).0 (bounds head rank last).1
+          next.1.own in
+          let own : entry_of parts t ≡ entry_at parts next.0.0 = subst (λ z. entry_of parts z ≡ entry_at parts next.0.0) (sym next.2)
+          (ap (entry_at parts) (slot_of-at parts.pool.n parts.pool.pairs next.0.0 is.pool live)) in
+          record {
+            in_diamond = mate_diamond parts.pool.n rank.tri t (bounds head rank last).0 (bounds head rank last).1
                 (subst (λ z. (z ≡ rank.tri) ⊎ ((1 ≤ mate_of rank.tri) × (z ≡ mate_of rank.tri))) (sym next.2)
-                (other_of (address_at parts.pool.pairs head.0) rank.tri (address_at parts.pool.pairs next.0.0) low (named head rank last) next.1.own)),
-            subst (λ z. (entry_of parts z).known ≡ false) (sym next.2)
-                (subst (λ z. (entry_at parts z).known ≡ false) (sym (slot_of-at parts.pool.n parts.pool.pairs next.0.0 is.pool live)) next.1.unknown),
-          )
+                (other_of (address_at parts.pool.pairs head.0) rank.tri (address_at parts.pool.pairs next.0.0) low (named head rank last) next.1.own));
+            not_sure = sure_seen parts t ∙ ap is_sure own ∙ next.1.not_sure;
+            undecided = λ d. next.1.undecided (known_of d);
+            turn = λ differ. turn_of t next.0 next.2 own differ next.1.turn;
+          }

@@ -1,11 +1,13 @@
 -- Which triangle of a diamond has the better key, and which is to be asked next.
 -- All of it is this project's own.
--- Words: is_sure, IsOfDiamond, IsBetterFirst, IsKnownRank, IsUnasked.
-use Rattle.std.specs.Prelude.{◌≡◌, ℕ, ◌≤◌, ◌⊎◌, ◌↔◌, Bool, true, false, ◌||◌, cond, nat_eq, Option, IfSome, IsNone}
+-- Words: is_sure, IsOfDiamond, IsBetterFirst, IsKnownRank, IsTurn, IsUnasked.
+use Rattle.std.specs.Prelude.{◌≡◌, ◌≢◌, ℕ, ◌≤◌, ◌⊎◌, ◌↔◌, Bool, true, false, ◌||◌, cond, nat_eq, Option, IfSome, IsNone}
 use Rattle.edge_laws.specs.Edge.{mate_of}
 use Rattle.edge_laws.specs.Slots.{address_at}
 use Rattle.edge_laws.specs.Chief.{chief_of}
+use Rattle.mesh_defs.specs.Ranking.{IsBefore}
 use Rattle.closure_laws.specs.Order.{IsNoLater}
+use Rattle.bintree_addr.specs.declared.rank.Rank.{Rank}
 use Rattle.bintree_addr.specs.declared.slot.Slot.{Slot}
 use Rattle.roam_mesh.specs.Parts.{PartsState, entry_at, entry_of, is_ready_at, best_of, worst_of, worst_rank, diamond_rank}
 use Rattle.roam_mesh.specs.declared.entry.Entry.{Entry}
@@ -35,7 +37,16 @@ pub record IsKnownRank (parts : PartsState) (s : ℕ) : Type 0 where
       IsNoLater (worst_of (entry_of parts (diamond_rank parts (chief_of (address_at parts.pool.pairs s))).tri)) (diamond_rank parts (chief_of (address_at parts.pool.pairs s))).tri
       (best_of (entry_of parts (mate_of (diamond_rank parts (chief_of (address_at parts.pool.pairs s))).tri))) (mate_of (diamond_rank parts (chief_of (address_at parts.pool.pairs s))).tri)
 
--- a triangle of the diamond that was not told
+-- the slot t has the triangle of this key, unless that is sure, or t comes first by the best that each can be
+abbrev pub IsTurn : PartsState → Rank → ℕ → Type 0
+IsTurn parts key t =
+    address_at parts.pool.pairs t ≢ key.tri →
+    (is_sure (entry_of parts key.tri) ≡ true)
+    ⊎ IsBefore (best_of (entry_at parts t)) (address_at parts.pool.pairs t) (best_of (entry_of parts key.tri)) key.tri
+
+-- the triangle to ask next of a diamond whose rank is not known: it is not sure itself
 pub record IsUnasked (parts : PartsState) (s : ℕ) (t : Slot) : Type 0 where
   pub own : IsOfDiamond parts s t.0
-  pub unknown : (entry_at parts t.0).known ≡ false
+  pub not_sure : is_sure (entry_at parts t.0) ≡ false
+  pub undecided : IsKnownRank parts s → ⊥
+  pub turn : IsTurn parts (diamond_rank parts (chief_of (address_at parts.pool.pairs s))) t.0

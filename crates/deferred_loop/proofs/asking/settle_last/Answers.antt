@@ -1,4 +1,4 @@
-use Rattle.std.proofs.Common.{sym, ◌∙◌, ap, refl, subst}
+use Rattle.std.proofs.Common.{◌≡◌, false, sym, ◌∙◌, ap, refl, subst}
 use Rattle.std.proofs.lemmas.Bool.{both_ways}
 use Rattle.deferred_loop.specs.Seen.{PoolSet}
 use Rattle.deferred_loop.specs.Choice.{Priorities, IsLastRank}
@@ -41,6 +41,10 @@ tell-requires-clause-entry g c = subst (λ z. Rattle.frame_steps.specs.Deferred.
     (Rattle.mesh_defs.specs.ClosedSet.among (g.M.QueuedMesh.seen c.asking.mesh).set.members) z) (sym c.rank-rank.ensures.tri)
     (last_entry g.w c.requires.1.1.0 (g.M.QueuedMesh.seen c.asking.mesh) c.asking.invariant.asked.settled c.in-Some.head c.in-Some.ensures
     c.in-Some-unasked.t (last_part (g.M.QueuedMesh.seen c.asking.mesh) c.in-Some.head c.in-Some-unasked.t c.in-Some.ensures c.in-Some-unasked.is).0)
+
+pub tell-requires-clause-unknown : goal.tell-requires-clause-unknown
+tell-requires-clause-unknown g c = subst (λ z. (g.M.QueuedMesh.seen c.asking.mesh).known z ≡ false) (sym c.rank-rank.ensures.tri)
+    (last_part (g.M.QueuedMesh.seen c.asking.mesh) c.in-Some.head c.in-Some-unasked.t c.in-Some.ensures c.in-Some-unasked.is).1
 
 pub asking-init : goal.asking-init
 asking-init g c = record { told = refl; readings = refl; asked = asked_none g.w (g.M.QueuedMesh.seen c.args.mesh.now) (g.G.Gauge.count c.args.gauge.now) c.requires.1.1.1.1.0 }

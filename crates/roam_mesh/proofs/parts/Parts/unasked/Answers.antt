@@ -1,4 +1,5 @@
 use Rattle.std.proofs.lemmas.Grind.{common_steps}
+use Rattle.std.proofs.lemmas.Bool.{both_ways}
 use Rattle.std.proofs.Common.{◌≡◌, inl, inr, true, false, None, Some, refl, sym, ◌∙◌, ap, subst, arith}
 use Rattle.edge_laws.specs.Slots.{IsPool}
 use Rattle.bintree_addr.specs.declared.rank.Rank.{Rank}
@@ -27,7 +28,7 @@ returns-else-is_sure c =
     let whole : IsWhole c.args.self.now = subst IsWhole c.self.view_is c.self.invariant.0 in
     let entry : c.index.result.now ≡ entry_at parts c.better_first-other.result.0.0 = read_entry c.self.inside.entries.items parts c.better_first-other.result.0.0 c.index.result.now whole
     (ap (λ (z : PartsState). z.entries) c.self.view_is) c.better_first-other.ensures.ready c.index.ensures in
-    unasked_first parts pool c.args.s.0 c.better_first-other.result.0 c.better_first-other.result refl c.better_first-other.ensures
+    unasked_first parts pool c.args.s.0 c.better_first-other.result.0 None (better_pair parts c.args.s.0 c.better_first-other.result None c.in_default.is c.better_first-other.ensures)
     (subst (λ (z : Entry). is_sure z ≡ false) entry (sym c.is_sure.ensures ∙ c.if-is_sure.false))
 
 pub returns-then-ranks_before : goal.returns-then-ranks_before
@@ -38,8 +39,25 @@ returns-then-ranks_before c =
     let better : IsBetterFirst c.args.self.now c.args.s.0 (c.better_first-other.result.0, Some c.in-Some.mate) = better_pair parts c.args.s.0 c.better_first-other.result (Some c.in-Some.mate) c.in-Some.is c.better_first-other.ensures in
     let entry : c.index-2.result.now ≡ entry_at parts c.in-Some.mate.0 = read_entry c.self.inside.entries.items parts c.in-Some.mate.0 c.index-2.result.now whole
     (ap (λ (z : PartsState). z.entries) c.self.view_is) better.other.1 c.index-2.ensures in
+    let own : c.index.result.now ≡ entry_at parts c.better_first-other.result.0.0 = read_entry c.self.inside.entries.items parts c.better_first-other.result.0.0 c.index.result.now whole
+    (ap (λ (z : PartsState). z.entries) c.self.view_is) better.ready c.index.ensures in
     unasked_second parts pool c.args.s.0 c.better_first-other.result.0 c.in-Some.mate c.requires.ready better
     (subst (λ (z : Entry). is_sure z ≡ false) entry (sym c.is_sure-then-not-is_sure.ensures ∙ c.if-not-is_sure-2.true))
+    (inr (
+      subst (λ (z : Entry). is_sure z ≡ false) own (sym c.is_sure-2.ensures ∙ c.if-not-is_sure.true),
+      subst (λ (z : Rank). ComesFirst z (leaf_rank parts c.better_first-other.result.0.0)) c.leaf_rank-best.ensures
+          (subst (λ (z : Rank). ComesFirst c.leaf_rank-best.result z) c.leaf_rank-own.ensures (c.ranks_before.ensures.0 c.if-ranks_before.true)),
+    ))
+
+pub returns-else-not-is_sure-2 : goal.returns-else-not-is_sure-2
+returns-else-not-is_sure-2 c =
+    let parts : PartsState = c.args.self.now in
+    let pool : IsPool parts.pool.n parts.pool.pairs = subst (λ (z : PartsState). IsPool z.pool.n z.pool.pairs) c.self.view_is c.n-n.ensures.valid in
+    let whole : IsWhole c.args.self.now = subst IsWhole c.self.view_is c.self.invariant.0 in
+    let own : c.index.result.now ≡ entry_at parts c.better_first-other.result.0.0 = read_entry c.self.inside.entries.items parts c.better_first-other.result.0.0 c.index.result.now whole
+    (ap (λ (z : PartsState). z.entries) c.self.view_is) c.better_first-other.ensures.ready c.index.ensures in
+    unasked_first parts pool c.args.s.0 c.better_first-other.result.0 c.better_first-other.result.1 c.better_first-other.ensures
+    (subst (λ (z : Entry). is_sure z ≡ false) own (sym c.is_sure-2.ensures ∙ c.if-not-is_sure.true))
 
 pub returns-then-ranks_before-2 : goal.returns-then-ranks_before-2
 returns-then-ranks_before-2 c =
@@ -66,14 +84,25 @@ returns-else-ranks_before-2 c =
     let pool : IsPool parts.pool.n parts.pool.pairs = subst (λ (z : PartsState). IsPool z.pool.n z.pool.pairs) c.self.view_is c.n-n.ensures.valid in
     let whole : IsWhole c.args.self.now = subst IsWhole c.self.view_is c.self.invariant.0 in
     let better : IsBetterFirst c.args.self.now c.args.s.0 (c.better_first-other.result.0, Some c.in-Some.mate) = better_pair parts c.args.s.0 c.better_first-other.result (Some c.in-Some.mate) c.in-Some.is c.better_first-other.ensures in
+    let own : c.index.result.now ≡ entry_at parts c.better_first-other.result.0.0 = read_entry c.self.inside.entries.items parts c.better_first-other.result.0.0 c.index.result.now whole
+    (ap (λ (z : PartsState). z.entries) c.self.view_is) better.ready c.index.ensures in
     let other : c.index-2.result.now ≡ entry_at parts c.in-Some.mate.0 = read_entry c.self.inside.entries.items parts c.in-Some.mate.0 c.index-2.result.now whole
     (ap (λ (z : PartsState). z.entries) c.self.view_is) better.other.1 c.index-2.ensures in
     let unsure : c.is_sure-else-not-is_sure.result ≡ false = elim c.if-is_sure-2.branch [
       | then-is_sure-2 w ↦ sym w.value-is ∙ c.if-ranks_before-2.false
       | else-is_sure-2 w ↦ w.if-is_sure-2.false
     ] in
+    let after : ComesFirst c.worst_rank-worst.result c.leaf_rank-best.result → ⊥ = elim c.if-is_sure-2.branch [
+      | then-is_sure-2 w ↦ λ first. both_ways c.is_sure-else-not-is_sure.result (sym w.value-is ∙ c.if-ranks_before-2.false) w.if-is_sure-2.true
+      | else-is_sure-2 w ↦ λ first. both_ways w.ranks_before-else-is_sure-2.result (sym w.value-is ∙ c.if-ranks_before-2.false) (w.ranks_before-else-is_sure-2.ensures.1 first)
+    ] in
     unasked_second parts pool c.args.s.0 c.better_first-other.result.0 c.in-Some.mate c.requires.ready better
     (subst (λ (z : Entry). is_sure z ≡ false) other (sym c.is_sure-else-not-is_sure.ensures ∙ unsure))
+    (inl (
+      subst (λ (z : Entry). is_sure z ≡ true) own (sym c.is_sure-2.ensures ∙ c.if-not-is_sure.false),
+      subst (λ (z : Rank). ComesFirst z (leaf_rank parts c.in-Some.mate.0) → ⊥) c.worst_rank-worst.ensures
+          (subst (λ (z : Rank). ComesFirst c.worst_rank-worst.result z → ⊥) c.leaf_rank-best.ensures after),
+    ))
 
 pub index-requires : goal.index-requires
 index-requires c = grind (arith, common_steps)
