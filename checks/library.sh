@@ -93,7 +93,7 @@ for cc in gcc clang; do
       runs "library_flight_$cc" '40 frames' "./flight_$cc" "$jacksboro" 2000 90 40
     fi
     if builds "library_calls_$cc" "${c[@]}" -o "calls_$cc" "$tests/calls.c" "${static[@]}"; then
-      runs "library_calls_$cc" state "./calls_$cc" 1 "$([ "$cc" = gcc ] && echo 200000 || echo 20000)"
+      runs "library_calls_$cc" 'roam.h says' "./calls_$cc" 1 "$([ "$cc" = gcc ] && echo 200000 || echo 20000)"
       runs "library_ends_$cc" 'each refused in turn' "./calls_$cc" ends
     fi
   fi
@@ -161,7 +161,7 @@ if [ -n "$sanitizer" ]; then
     runs library_threads_sanitized 'one after the other' ./threads_sanitized
   fi
   if builds library_calls_sanitized "${c[@]}" -std=c99 -o calls_sanitized "$tests/calls.c" "${static[@]}"; then
-    runs library_calls_sanitized state ./calls_sanitized 2 200000
+    runs library_calls_sanitized 'roam.h says' ./calls_sanitized 2 200000
     runs library_ends_sanitized 'each refused in turn' ./calls_sanitized ends
   fi
 else
@@ -192,7 +192,7 @@ fi
 if has library_in_valgrind valgrind cc; then
   watched=(valgrind -q --error-exitcode=9 --leak-check=full --show-leak-kinds=all --errors-for-leak-kinds=all)
   if builds library_calls_in_valgrind cc -std=c99 -g -O1 -o calls_watched "$tests/calls.c" "${static[@]}"; then
-    runs library_calls_in_valgrind state "${watched[@]}" ./calls_watched 3 2000
+    runs library_calls_in_valgrind 'roam.h says' "${watched[@]}" ./calls_watched 3 2000
   fi
   if builds library_flight_in_valgrind cc -std=c99 -g -O1 -o flight_watched "$uses/flight.c" "${static[@]}"; then
     runs library_flight_in_valgrind '4 frames' "${watched[@]}" ./flight_watched "$jacksboro" 500 90 4

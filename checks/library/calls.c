@@ -733,6 +733,7 @@ int main(int argc, char **argv) {
         for (int a = 1; a <= 13; a++) if (refused[k][a] > 0) printf(" %d:%lu", a, refused[k][a]);
         printf("\n");
     }
+    printf("each answer is the one that roam.h says\n");
     return 0;
 }
 #endif
