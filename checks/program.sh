@@ -54,7 +54,7 @@ run_to() {
 }
 
 # expect STATUS MESHES REPORT [TEXT]: how the program ended, how many whole meshes are there and no other new file,
-# what the report has (as printf's %b), and what the one line on standard error has in it, where there is to be one.
+# what the report has (as printf's %b), and what standard error has in it, where something is to be there (- where nothing is).
 expect() {
   local k why=() meshes=()
   for ((k = 1; k <= $2; k++)); do meshes+=("$(printf './%s%06d.obj' "$prefix" "$k")"); done
@@ -68,11 +68,15 @@ expect() {
   find . -mindepth 1 | sort >"$room/after"
   { cat "$room/before"; [ "$2" -eq 0 ] || printf '%s\n' "${meshes[@]}"; } | sort -u |
     cmp -s - "$room/after" || why+=("the files there are not those wanted")
-  case $1 in
-    0 | 3 | 4 | 7) [ ! -s "$room/said" ] || why+=("standard error has '$(head -c 200 "$room/said")'") ;;
-    1 | 2 | 5 | 6) [ "$(wc -l <"$room/said")" -eq 1 ] || why+=("standard error has not one line") ;;
+  # Standard error: nothing where the report tells all; a line more where there is a hint; behind the first line of wrong words the
+  # usage; else one line.
+  case $1${4:-} in
+    4 | 7 | 0 | *-) [ ! -s "$room/said" ] || why+=("standard error has '$(head -c 200 "$room/said")'") ;;
+    2*) [ "$(tail -n 1 "$room/said")" = '       roam mesh grid.pgm script out 2000 90' ] || why+=("standard error does not end with the usage") ;;
+    3*) [ "$(wc -l <"$room/said")" -le 1 ] || why+=("standard error has more than one line") ;;
+    *) [ "$(wc -l <"$room/said")" -eq 1 ] || why+=("standard error has not one line") ;;
   esac
-  grep -qF -- "${4:-}" "$room/said" || [ -z "${4:-}" ] || why+=("standard error does not say '$4'")
+  [ -z "${4:-}" ] || [ "${4:-}" = - ] || grep -qF -- "$4" "$room/said" || why+=("standard error says '$(head -c 300 "$room/said")', not '$4'")
   decide "$name" ${why[0]+"${why[@]}"}
 }
 
@@ -112,8 +116,10 @@ done
 while IFS='|' read -r name script wanted meshes refusal; do
   start "$name"
   printf '%b' "$script" >s
+  said=
+  [ "$wanted$meshes" != 00 ] || said="roam: no 'frame' line in the script, so no mesh was made"
   run mesh g s out 2 1
-  expect "$wanted" "$meshes" "$(lines "$meshes")$refusal"
+  expect "$wanted" "$meshes" "$(lines "$meshes")$refusal" "$said"
 done <<'TABLE'
 an_empty_script_makes_no_mesh||0|0|
 a_frame_makes_a_mesh|frame\n|0|1|
@@ -138,6 +144,11 @@ a_sixth_letter_is_refused|frames\n|4|0|line 1 refused: unknown command\n
 a_capital_letter_is_refused|Frame\n|4|0|line 1 refused: unknown command\n
 a_zero_byte_is_refused|fram\0\n|4|0|line 1 refused: unknown command\n
 TABLE
+
+start a_script_without_a_frame_is_measured
+echo noplanes >s
+run measure g s 2 1
+expect 0 0 '' "roam: no 'frame' line in the script, so nothing was measured"
 
 start a_line_longer_than_a_read_is_refused
 head -c 300000 /dev/zero | tr '\0' x >s
@@ -355,6 +366,40 @@ else
 fi
 rm -f g
 
+# --- What standard error adds to a refusal. ---
+
+# Names of refused grids: the bytes of the file (as printf's %b), the refusal, and the hint.
+while IFS='|' read -r name bytes refusal hint; do
+  start "hint_$name"
+  printf '%b' "$bytes" >g
+  run info g
+  expect 3 0 "grid refused: $refusal\n" "roam: $hint"
+done <<'TABLE'
+png|\0211PNG\r\n|bad magic|the file looks like a PNG image; a grid begins with P5 or P2
+tiff|II*\0000|bad magic|the file looks like a TIFF image; a grid begins with P5 or P2
+tiff_of_the_other_order|MM\0000*|bad magic|the file looks like a TIFF image; a grid begins with P5 or P2
+gzip|\0037\0213\0010|bad magic|the file looks like gzip data, which has to be unpacked; a grid begins with P5 or P2
+zip|PK\0003\0004|bad magic|the file looks like a zip archive, which has to be unpacked; a grid begins with P5 or P2
+script|camera 0 0 0\nframe\n|bad magic|the file looks like a script, whose name stands behind that of the grid; a grid begins with P5 or P2
+colour_image|P6\n3 3\n255\n|bad magic|the file looks like a Netpbm colour image, and not a PGM file; a grid begins with P5 or P2
+other_bytes|\0001\0002\0003|bad magic|the file is no PGM file; a grid begins with P5 or P2
+side_of_3601|P5\n3601 3601\n65535\n|bad side|the side is 3601; 3, 5, 9, 17, 33, 65, 129, 257, 513, 1025 and 2049 are accepted, of which 2049 is nearest
+side_of_1000|P5\n# made\n1000 1000\n255\n|bad side|the side is 1000; 3, 5, 9, 17, 33, 65, 129, 257, 513, 1025 and 2049 are accepted, of which 513 and 1025 are nearest
+side_of_1|P5\n1 1\n255\nA|bad side|the side is 1; 3, 5, 9, 17, 33, 65, 129, 257, 513, 1025 and 2049 are accepted, of which 3 is nearest
+rectangle|P5\n1201 1202\n255\n|not square|the grid is 1201 by 1202; width and height have to be equal
+maxval_of_0|P5\n3 3\n0\n|bad maxval|the maxval is 0; 1 to 65535 is accepted
+maxval_of_70000|P5\n3 3\n70000\n|bad maxval|the maxval is 70000; 1 to 65535 is accepted
+header_with_a_sign|P5\n-3 3\n255\nAAAAKAAAA|bad header at 3|a header is P5 or P2, width, height and maxval, with whitespace behind each of them
+little_endian|P5\n3 3\n1000\n\0001\0000\0377\0000|above maxval at sample 1|the maxval is 1000; of a sample's two bytes the most significant comes first, and these may stand the other way round
+one_byte_above_the_maxval|P5\n3 3\n74\nAAAAKAAAA|above maxval at sample 4|the maxval is 74
+empty||truncated|the file is empty
+too_short|P5\n3 3\n65535\nAAA|truncated|the file has 16 bytes, and its header asks for 31
+within_the_header|P5\n3 3|truncated|the file has 6 bytes, and ends before its header or its samples do
+plain_and_too_short|P2\n3 3\n9\n0 0 0 0 0 0 0 0\n|truncated|the file has 25 bytes, and ends before its header or its samples do
+two_bytes_where_one_is_read|P5\n3 3\n255\nAAAAKAAAAA|trailing byte at 20|the header asks for 20 bytes, and the file goes on; with a maxval of at most 255 a raw sample is one byte
+raw_behind_p2|P2\n3 3\n255\nAAAAKAAAA|bad sample at 11|behind a header of P2 stand decimal samples with whitespace between them, and no comments; raw ones want P5
+TABLE
+
 # --- Worked runs: reports and last meshes that were worked by hand. ---
 
 # Meshes as printf's %b, by their names in the table below.
@@ -474,7 +519,7 @@ run info g
 expect 3 0 'grid refused: truncated\n'
 start info_on_a_grid_that_is_not_there
 run info none
-expect 5 0 ''
+expect 5 0 '' "roam: cannot open the grid 'none': No such file or directory"
 
 # --- A generated run. ---
 
@@ -593,14 +638,14 @@ expect 7 0 "rejected: mesh differs at $size\n"
 start a_certificate_that_is_not_there
 hill
 run certify check g o c 2 1
-expect 5 0 ''
+expect 5 0 '' "roam: cannot open the certificate 'c': No such file or directory"
 
 start a_mesh_that_is_not_there
 hill
 rm o
 printf 'camera 0 0 0\nleaf 2\nleaf 3\nwant 2\n' >c
 run certify check g o c 2 1
-expect 5 0 ''
+expect 5 0 '' "roam: cannot open the mesh 'o': No such file or directory"
 
 start a_mesh_that_no_test_needs
 hill
@@ -628,66 +673,97 @@ expect 0 0 'certified camera 0 0 0 triangles 9 worst 436906\n'
 # --- Words. ---
 
 long=$(printf '%0200d' 0)
-usage() { # NAME WORDS..
+usage() { # NAME SAID WORDS..: words that are no command, and the line that names the first one that is wrong
   start "$1"
-  shift
+  local said=$2
+  shift 2
   run "$@"
-  expect 2 0 '' 'mesh GRID SCRIPT PREFIX'
+  expect 2 0 '' "roam: $said"
+  [ "$(head -n 1 "$room/said")" = "roam: $said" ] || wrong "${name}_in_one_line" "the first line is '$(head -n 1 "$room/said")'"
 }
-usage no_words
-usage a_command_alone mesh
-usage four_words mesh g s out
-usage four_words_after_the_command mesh g s out 2
-usage six_words_after_the_command mesh g s out 2 1 1
-usage an_unknown_command fly g s out 2 1
-usage info_without_a_grid info
-usage info_with_a_script info g s
-usage a_level_of_12 try 12 1
-usage a_seed_beyond_the_greatest try 9 4294967296
-usage info_with_the_words_of_mesh info g s out 2 1
-usage a_command_in_capitals MESH g s out 2 1
-usage a_budget_of_1 mesh g s out 1 1
-usage a_budget_of_0 mesh g s out 0 1
-usage a_budget_that_is_no_number mesh g s out 2x 1
-usage a_budget_beyond_the_greatest mesh g s out 1048577 1
-usage a_budget_of_20_digits mesh g s out 00000000000000000002 1
-usage a_budget_with_a_sign mesh g s out +2 1
-usage a_budget_with_a_blank mesh g s out '2 ' 1
-usage an_empty_budget mesh g s out '' 1
-usage a_spacing_of_0 mesh g s out 2 0
-usage a_spacing_of_1025 mesh g s out 2 1025
-usage a_spacing_that_is_no_number mesh g s out 2 one
-usage an_empty_spacing mesh g s out 2 ''
-usage an_empty_prefix mesh g s '' 2 1
-usage a_prefix_of_201_bytes mesh g s "${long}0" 2 1
-usage a_strip_of_budget_1 strip g s out 1 1
-usage a_tolerance_beyond_the_greatest least g s out 1000000000000 1
-usage a_tolerance_that_is_no_number least g s out -1 1
-usage least_with_an_empty_prefix least g s '' 2 1
-usage least_without_a_tolerance least g s out 1
-usage fit_without_a_spacing fit g out error 1
-usage fit_with_one_word_more fit g out error 1 1 1
-usage fit_with_another_word fit g out errors 1 1
-usage fit_with_an_empty_prefix fit g '' error 1 1
-usage fit_of_budget_1 fit g out budget 1 1
-usage fit_of_a_budget_with_a_point fit g out budget 2.0 1
-usage an_error_beyond_the_greatest fit g out error 65536 1
-usage an_error_just_beyond_the_greatest fit g out error 65535.9991 1
-usage an_error_of_four_places fit g out error 1.0000 1
-usage an_error_without_a_whole_number fit g out error .5 1
-usage an_error_that_ends_in_a_point fit g out error 5. 1
-usage an_error_with_two_points fit g out error 1.2.3 1
-usage an_error_with_a_comma fit g out error 1,5 1
-usage an_error_with_a_sign fit g out error -1 1
-usage an_error_of_17_digits fit g out error 00000000000000001 1
-usage an_empty_error fit g out error '' 1
-usage fit_of_a_spacing_of_0 fit g out error 1 0
-usage certify_alone certify
-usage certify_with_another_word certify see g o c 2 1
-usage a_check_without_a_spacing certify check g o c 2
-usage a_camera_beyond_the_greatest certify make g 0 0 1073741825 2 1
-usage a_camera_that_is_no_number certify make g 0 +1 0 2 1
-usage a_certificate_of_budget_1 certify make g 0 0 0 1 1
+five='GRID SCRIPT PREFIX BUDGET SPACING'
+budget='a whole number from 2 to 1048576 is wanted'
+reach='a whole number from -1073741824 to 1073741824 is wanted'
+commands='the commands are info, try, mesh, strip, least, measure, fit and certify'
+usage no_words 'no word is given, and a command is wanted'
+usage a_command_alone "mesh wants 5 words behind it, 0 were given: $five" mesh
+usage four_words "mesh wants 5 words behind it, 3 were given: $five" mesh g s out
+usage four_words_after_the_command "mesh wants 5 words behind it, 4 were given: $five" mesh g s out 2
+usage six_words_after_the_command "mesh wants 5 words behind it, 6 were given: $five" mesh g s out 2 1 1
+usage an_unknown_command "no command 'fly'; $commands" fly g s out 2 1
+usage a_letter_of_the_command_astray "no command 'mehs'; $commands" mehs g s out 2 1
+usage an_empty_command "no command ''; $commands" '' g s out 2 1
+usage info_without_a_grid 'info wants 1 word behind it, 0 were given: GRID' info
+usage info_with_a_script 'info wants 1 word behind it, 2 were given: GRID' info g s
+usage a_level_of_12 "N is '12': a whole number from 1 to 11 is wanted" try 12 1
+usage a_seed_beyond_the_greatest "SEED is '4294967296': a whole number from 0 to 4294967295 is wanted" try 9 4294967296
+usage info_with_the_words_of_mesh 'info wants 1 word behind it, 5 were given: GRID' info g s out 2 1
+usage a_command_in_capitals "no command 'MESH'; $commands" MESH g s out 2 1
+usage a_budget_of_1 "BUDGET is '1': $budget" mesh g s out 1 1
+usage a_budget_of_0 "BUDGET is '0': $budget" mesh g s out 0 1
+usage a_budget_that_is_no_number "BUDGET is '2x': $budget" mesh g s out 2x 1
+usage a_budget_with_a_comma "BUDGET is '2,000': $budget" mesh g s out 2,000 1
+usage a_budget_beyond_the_greatest "BUDGET is '1048577': $budget" mesh g s out 1048577 1
+usage a_budget_of_20_digits "BUDGET is '00000000000000000002': $budget" mesh g s out 00000000000000000002 1
+usage a_budget_with_a_sign "BUDGET is '+2': $budget" mesh g s out +2 1
+usage a_budget_with_a_blank "BUDGET is '2 ': $budget" mesh g s out '2 ' 1
+usage a_budget_with_a_line_feed "BUDGET is '2?': $budget" mesh g s out $'2\n' 1
+usage an_empty_budget "BUDGET is '': $budget" mesh g s out '' 1
+usage a_spacing_of_0 "SPACING is '0': a whole number from 1 to 1024 is wanted" mesh g s out 2 0
+usage a_spacing_of_1025 "SPACING is '1025': a whole number from 1 to 1024 is wanted" mesh g s out 2 1025
+usage a_spacing_that_is_no_number "SPACING is 'one': a whole number from 1 to 1024 is wanted" mesh g s out 2 one
+usage an_empty_spacing "SPACING is '': a whole number from 1 to 1024 is wanted" mesh g s out 2 ''
+usage the_first_of_two_wrong_words "BUDGET is 'b': $budget" mesh g s out b s
+usage a_wrong_word_of_too_many "BUDGET is 'out': $budget; measure wants 4 words behind it, 5 were given: GRID SCRIPT BUDGET SPACING" measure g s out 2 1
+usage an_empty_prefix "PREFIX is '': 1 to 200 bytes are wanted" mesh g s '' 2 1
+usage a_prefix_of_201_bytes "PREFIX is '${long:0:100}..': 1 to 200 bytes are wanted" mesh g s "${long}0" 2 1
+usage a_strip_of_budget_1 "BUDGET is '1': $budget" strip g s out 1 1
+usage a_tolerance_beyond_the_greatest "TOLERANCE is '1000000000000': a whole number from 0 to 999999999999 is wanted" least g s out 1000000000000 1
+usage a_tolerance_that_is_no_number "TOLERANCE is '-1': a whole number from 0 to 999999999999 is wanted" least g s out -1 1
+usage least_with_an_empty_prefix "PREFIX is '': 1 to 200 bytes are wanted" least g s '' 2 1
+usage least_without_a_tolerance 'least wants 5 words behind it, 4 were given: GRID SCRIPT PREFIX TOLERANCE SPACING' least g s out 1
+forms='fit wants 5 words behind it, COUNT were given: GRID PREFIX error E SPACING, or GRID PREFIX budget BUDGET SPACING'
+error="a number from 0 to 65535.999 with at most three places behind a point is wanted"
+usage fit_without_a_number "${forms/COUNT/2}" fit g out
+usage fit_without_a_spacing "${forms/COUNT/4}" fit g out error 1
+usage fit_with_one_word_more "${forms/COUNT/6}" fit g out error 1 1 1
+usage fit_with_another_word "fit wants 'error' or 'budget' behind GRID PREFIX, and not 'errors'" fit g out errors 1 1
+usage fit_with_an_empty_prefix "PREFIX is '': 1 to 200 bytes are wanted" fit g '' error 1 1
+usage fit_of_budget_1 "BUDGET is '1': $budget" fit g out budget 1 1
+usage fit_of_a_budget_with_a_point "BUDGET is '2.0': $budget" fit g out budget 2.0 1
+usage an_error_beyond_the_greatest "E is '65536': $error" fit g out error 65536 1
+usage an_error_just_beyond_the_greatest "E is '65535.9991': $error" fit g out error 65535.9991 1
+usage an_error_of_four_places "E is '1.0000': $error" fit g out error 1.0000 1
+usage an_error_without_a_whole_number "E is '.5': $error" fit g out error .5 1
+usage an_error_that_ends_in_a_point "E is '5.': $error" fit g out error 5. 1
+usage an_error_with_two_points "E is '1.2.3': $error" fit g out error 1.2.3 1
+usage an_error_with_a_comma "E is '1,5': $error" fit g out error 1,5 1
+usage an_error_with_a_sign "E is '-1': $error" fit g out error -1 1
+usage an_error_of_17_digits "E is '00000000000000001': $error" fit g out error 00000000000000001 1
+usage an_empty_error "E is '': $error" fit g out error '' 1
+usage fit_of_a_spacing_of_0 "SPACING is '0': a whole number from 1 to 1024 is wanted" fit g out error 1 0
+usage certify_alone "certify wants 'make' or 'check' behind it" certify
+usage certify_with_another_word "certify wants 'make' or 'check' behind it, and not 'see'" certify see g o c 2 1
+usage a_check_without_a_spacing 'certify check wants 5 words behind it, 4 were given: GRID OBJ CERT BUDGET SPACING' certify check g o c 2
+usage a_camera_beyond_the_greatest "Z is '1073741825': $reach" certify make g 0 0 1073741825 2 1
+usage a_camera_that_is_no_number "Y is '+1': $reach" certify make g 0 +1 0 2 1
+usage a_certificate_of_budget_1 "BUDGET is '1': $budget" certify make g 0 0 0 1 1
+
+# The forms of the words for whoever asks, without a complaint; the version is that of CHANGELOG.md.
+for words in --help -h help 'mesh --help'; do
+  start "usage_asked_by_${words// /_}"
+  # shellcheck disable=SC2086 # words of a question have no blanks of their own
+  run $words
+  expect 2 0 '' 'usage: roam mesh GRID SCRIPT PREFIX BUDGET SPACING'
+  ! grep -q '^roam: ' "$room/said" || wrong "${name}_without_a_complaint" "standard error begins with '$(head -n 1 "$room/said")'"
+done
+name=the_version_is_that_of_the_changes
+run --version
+why=()
+[ "$status" = 2 ] || why+=("exit status $status")
+[ ! -s "$room/report" ] || why+=("standard output has a line")
+[ "$(cat "$room/said")" = "roam $(sed -n 's/^Version \([0-9.]*\)[:,.].*/\1/p' "$top/CHANGELOG.md" | sed 's/\.$//' | head -n 1)" ] || why+=("standard error has '$(head -c 200 "$room/said")'")
+decide "$name" ${why[0]+"${why[@]}"}
 
 start a_budget_of_19_digits_and_the_greatest_spacing
 printf 'v 0 0 0\nv 2048 0 0\nv 0 2048 0\nv 2048 2048 0\nf 1 2 3\nf 4 3 2\n' >"$room/mesh"
@@ -716,6 +792,17 @@ prefix='a mesh '
 run mesh 'a grid.pgm' 'größe' "$prefix" 2 1
 expect 0 1 "$(lines 1)"
 
+start names_with_blanks_at_their_ends
+mv g ' g '
+mv s ' s '
+prefix=' out '
+run mesh ' g ' ' s ' "$prefix" 2 1
+expect 0 1 "$(lines 1)"
+
+start names_with_a_blank_are_not_those_without
+run mesh ' g' s out 2 1
+expect 5 0 '' "roam: cannot open the grid ' g': No such file or directory"
+
 start a_mesh_replaces_a_longer_file
 head -c 1000 /dev/zero >out000001.obj
 run mesh g s out 2 1
@@ -725,21 +812,21 @@ expect 0 1 "$(lines 1)"
 
 start a_grid_that_is_not_there
 run mesh absent s out 2 1
-expect 5 0 ''
+expect 5 0 '' "roam: cannot open the grid 'absent': No such file or directory"
 
 start a_folder_as_grid
 mkdir folder
 run mesh folder s out 2 1
-expect 5 0 ''
+expect 5 0 '' "roam: cannot read the grid 'folder': Is a directory"
 
 start a_script_that_is_not_there
 run mesh g absent out 2 1
-expect 5 0 ''
+expect 5 0 '' "roam: cannot open the script 'absent': No such file or directory"
 
 start a_folder_as_script
 mkdir folder
 run mesh g folder out 2 1
-expect 5 0 ''
+expect 5 0 '' "roam: cannot read the script 'folder': Is a directory"
 
 start a_refused_grid_comes_before_a_script_that_is_not_there
 printf 'P5\n3 3' >g
@@ -748,19 +835,19 @@ expect 3 0 'grid refused: truncated\n'
 
 start a_mesh_folder_that_is_not_there
 run mesh g s absent/out 2 1
-expect 6 0 ''
+expect 6 0 '' "roam: cannot open the mesh 'absent/out000001.obj': No such file or directory"
 
 start a_folder_under_the_name_of_mesh_2
 mkdir out000002.obj
 printf 'frame\nframe\n' >s
 run mesh g s out 2 1
-expect 6 1 "$(lines 1)"
+expect 6 1 "$(lines 1)" "roam: cannot open the mesh 'out000002.obj': Is a directory"
 
 if [ -c /dev/full ]; then
   start a_full_report
   printf 'frame\nframe\n' >s
   run_to /dev/full mesh g s out 2 1
-  expect 6 1 ''
+  expect 6 1 '' 'roam: cannot write the report: No space left on device'
 
   start a_full_report_at_a_refused_grid
   : >g
@@ -776,7 +863,7 @@ if [ -c /dev/full ]; then
   ln -s /dev/full out000002.obj
   printf 'frame\nframe\n' >s
   run mesh g s out 2 1
-  expect 6 1 "$(lines 1)"
+  expect 6 1 "$(lines 1)" "roam: cannot write the mesh 'out000002.obj': No space left on device"
 else
   skip a_full_report 'there is no device /dev/full'
 fi

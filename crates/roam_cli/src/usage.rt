@@ -1,0 +1,61 @@
+//! The forms of the words, for whoever asks for them or gives others.
+
+ghost use Rattle.std.specs.Prelude.{◌≡◌};
+
+/// The version of the program: that of `CHANGELOG.md`.
+pub const VERSION: &str = "roam 1.0";
+
+/// The forms of the words, line by line.
+const USAGE: [&str; 16] = [
+    "usage: roam mesh GRID SCRIPT PREFIX BUDGET SPACING",
+    "       roam strip GRID SCRIPT PREFIX BUDGET SPACING",
+    "       roam least GRID SCRIPT PREFIX TOLERANCE SPACING",
+    "       roam measure GRID SCRIPT BUDGET SPACING",
+    "       roam certify make GRID X Y Z BUDGET SPACING",
+    "       roam certify check GRID OBJ CERT BUDGET SPACING",
+    "       roam fit GRID PREFIX error E SPACING",
+    "       roam fit GRID PREFIX budget BUDGET SPACING",
+    "       roam info GRID",
+    "       roam try N SEED",
+    "GRID, SCRIPT, OBJ and CERT are names of files; PREFIX has 1 to 200 bytes. The others are whole numbers:",
+    "BUDGET 2 to 1048576, TOLERANCE 0 to 999999999999, SPACING 1 to 1024, N 1 to 11, SEED 0 to 4294967295,",
+    "X, Y and Z -1073741824 to 1073741824. E is a number of units of height from 0 to 65535.999, as 2.5.",
+    "examples:",
+    "       roam info grid.pgm",
+    "       roam mesh grid.pgm script out 2000 90",
+];
+
+/// What is asked for with words that are no command.
+#[derive(Clone, Copy, Debug, PartialEq, Eq)]
+pub enum Asked {
+    /// The forms of the words.
+    Usage,
+    /// The version.
+    Version,
+}
+
+/// What words ask for that are no command: `--version` alone, `help` alone, or `--help` or `-h`
+/// anywhere.
+pub fn asked_for(words: &[String]) -> Option<Asked> {
+    if let [word] = words {
+        if word.as_str() == "--version" {
+            return Some(Asked::Version);
+        }
+        if word.as_str() == "help" {
+            return Some(Asked::Usage);
+        }
+    }
+    for word in words {
+        if word.as_str() == "--help" || word.as_str() == "-h" {
+            return Some(Asked::Usage);
+        }
+    }
+    None
+}
+
+/// Tells the forms of the words.
+pub fn tell_usage(rt: &impl Eprint) {
+    for line in &USAGE {
+        let _ = rt.eprintln(*line);
+    }
+}

@@ -1,0 +1,31 @@
+//! What the program says on standard error, beside its report.
+//!
+//! For the program alone. Of words that are no command the first wrong one is found by the form of
+//! the command, stage by stage; the file that failed by the number of files that were opened; why
+//! it failed by wrappers that hand each call on and keep what the system said. Texts are for
+//! people: no clause speaks of them, and nothing here is written to standard output.
+
+#![tactic(auto)]
+
+mod first_wrong;
+mod head;
+mod hint;
+mod kinds;
+mod note;
+mod noted_files;
+mod opened;
+mod outside_text;
+mod quoted;
+mod wanted;
+mod watched;
+mod word_text;
+
+pub use first_wrong::{WordFault, word_fault};
+pub use hint::{GridHint, grid_hint};
+pub use note::{Failure, Note, Step};
+pub use noted_files::{Noted, NotedFiles};
+pub use opened::{NamedFile, Role, opened_file};
+pub use outside_text::{MeshFault, ReadFault, ReportFault};
+pub use quoted::Quoted;
+pub use wanted::Wanted;
+pub use watched::{HEAD, LINE, WatchedShelf, WatchedSink};

@@ -1,0 +1,161 @@
+//! What is said of words that are no command.
+
+use crate::first_wrong::WordFault;
+use crate::quoted::Quoted;
+use crate::wanted::{
+    GREATEST_BUDGET, GREATEST_LEVEL, GREATEST_SEED, GREATEST_SPACING, GREATEST_TOLERANCE,
+    LEAST_BUDGET, REACH, Stage, Wanted, command_form, task_form,
+};
+use roam_edge::LONGEST_PREFIX;
+use std::fmt;
+
+impl<'a> fmt::Display for WordFault<'a> {
+    fn fmt<W: fmt::Write>(&self, f: &mut fmt::Formatter<W>) -> fmt::Result {
+        match (self.wanted, self.words.get(self.place)) {
+            (Some(Wanted::Command), None) => write!(f, "no word is given, and a command is wanted"),
+            (Some(Wanted::Command), Some(word)) => write!(
+                f,
+                "no command {}; the commands are info, try, mesh, strip, least, measure, fit and certify",
+                Quoted(word.as_str())
+            ),
+            (Some(Wanted::Task), None) => write!(f, "certify wants 'make' or 'check' behind it"),
+            (Some(Wanted::Task), Some(word)) => write!(
+                f,
+                "certify wants 'make' or 'check' behind it, and not {}",
+                Quoted(word.as_str())
+            ),
+            (Some(Wanted::Goal), Some(word)) => write!(
+                f,
+                "fit wants 'error' or 'budget' behind GRID PREFIX, and not {}",
+                Quoted(word.as_str())
+            ),
+            (Some(wanted), Some(word)) => {
+                write!(f, "{} is {}: ", label(wanted), Quoted(word.as_str()))?;
+                write_wanted(f, wanted)?;
+                match form_of(self.words) {
+                    Some(form) if form.given != form.count => {
+                        f.write_str("; ")?;
+                        write_count(f, &form)
+                    }
+                    _ => Ok(()),
+                }
+            }
+            (_, _) => match form_of(self.words) {
+                Some(form) => write_count(f, &form),
+                None => write!(f, "the words are no command"),
+            },
+        }
+    }
+}
+
+/// The form of a command, and how many words stand behind its name.
+#[derive(Clone, Copy)]
+struct Form<'a> {
+    name: &'a str,
+    task: &'a str,
+    behind: Stage,
+    /// How many words are wanted behind the name.
+    count: usize,
+    given: usize,
+}
+
+/// How many words stand behind `fit`, whichever its goal is.
+const FIT_WORDS: usize = 5;
+
+/// The form of the command that the first words name.
+fn form_of(words: &[String]) -> Option<Form<'_>> {
+    match words {
+        [name, rest @ ..] if name.as_str() == "fit" => Some(Form {
+            name: name.as_str(),
+            task: "",
+            behind: &[],
+            count: FIT_WORDS,
+            given: rest.len(),
+        }),
+        [name, task, rest @ ..] if name.as_str() == "certify" => Some(Form {
+            name: name.as_str(),
+            task: task.as_str(),
+            behind: task_form(task.as_str())?,
+            count: task_form(task.as_str())?.len(),
+            given: rest.len(),
+        }),
+        [name, rest @ ..] => Some(Form {
+            name: name.as_str(),
+            task: "",
+            behind: command_form(name.as_str())?,
+            count: command_form(name.as_str())?.len(),
+            given: rest.len(),
+        }),
+        [] => None,
+    }
+}
+
+/// Writes how many words the command wants behind its name, how many are there, and which they are.
+fn write_count<W: fmt::Write>(f: &mut fmt::Formatter<W>, form: &Form<'_>) -> fmt::Result {
+    f.write_str(form.name)?;
+    if !form.task.is_empty() {
+        write!(f, " {}", form.task)?;
+    }
+    match form.count {
+        1 => write!(f, " wants 1 word behind it, ")?,
+        count => write!(f, " wants {count} words behind it, ")?,
+    }
+    match form.given {
+        1 => write!(f, "1 was given:")?,
+        count => write!(f, "{count} were given:")?,
+    }
+    if form.name == "fit" {
+        return f.write_str(" GRID PREFIX error E SPACING, or GRID PREFIX budget BUDGET SPACING");
+    }
+    for wanted in form.behind {
+        write!(f, " {}", label(*wanted))?;
+    }
+    Ok(())
+}
+
+/// The name of a place of a command, as the usage has it.
+fn label(wanted: Wanted) -> &'static str {
+    match wanted {
+        Wanted::Command => "COMMAND",
+        Wanted::Task => "TASK",
+        Wanted::Goal => "GOAL",
+        Wanted::Error => "E",
+        Wanted::Grid => "GRID",
+        Wanted::Script => "SCRIPT",
+        Wanted::Mesh => "OBJ",
+        Wanted::Certificate => "CERT",
+        Wanted::Prefix => "PREFIX",
+        Wanted::X => "X",
+        Wanted::Y => "Y",
+        Wanted::Z => "Z",
+        Wanted::Level => "N",
+        Wanted::Seed => "SEED",
+        Wanted::Budget => "BUDGET",
+        Wanted::Tolerance => "TOLERANCE",
+        Wanted::Spacing => "SPACING",
+    }
+}
+
+/// Writes what is wanted in a place.
+fn write_wanted<W: fmt::Write>(f: &mut fmt::Formatter<W>, wanted: Wanted) -> fmt::Result {
+    match wanted {
+        Wanted::Prefix => write!(f, "1 to {LONGEST_PREFIX} bytes are wanted"),
+        Wanted::X | Wanted::Y | Wanted::Z => {
+            write!(f, "a whole number from -{REACH} to {REACH} is wanted")
+        }
+        Wanted::Error => f.write_str(
+            "a number from 0 to 65535.999 with at most three places behind a point is wanted",
+        ),
+        Wanted::Level => write_range(f, 1, GREATEST_LEVEL),
+        Wanted::Seed => write_range(f, 0, GREATEST_SEED),
+        Wanted::Budget => write_range(f, LEAST_BUDGET, GREATEST_BUDGET),
+        Wanted::Tolerance => write_range(f, 0, GREATEST_TOLERANCE),
+        Wanted::Spacing => write_range(f, 1, GREATEST_SPACING),
+        _ => write!(f, "another word is wanted"),
+    }
+}
+
+/// Writes that a whole number within these bounds is wanted.
+fn write_range<W: fmt::Write>(f: &mut fmt::Formatter<W>, low: u64, high: u64) -> fmt::Result {
+    write!(f, "a whole number from {low} to {high} is wanted")
+}
