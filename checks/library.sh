@@ -125,7 +125,7 @@ fi
 if has library_by_cmake cmake make; then
   if builds library_by_cmake cmake -S "$tests" -B by_cmake -DCMAKE_PREFIX_PATH="$prefix" -DEXAMPLES="$uses" &&
     builds library_by_cmake cmake --build by_cmake; then
-    runs library_by_cmake 'triangles of' by_cmake/first_frame
+    runs library_by_cmake 'indices in this frame' by_cmake/first_frame
     runs library_by_cmake_shared '10 frames' by_cmake/flight "$jacksboro" 2000 90 10
   fi
 fi
