@@ -12,7 +12,7 @@ use crate::answer::Answer;
 use crate::bytes::Bytes;
 use cert_text::{Cert, write_cert};
 use frame_loop::{Camera, Engine, Grid, NoMemory};
-use roam_certify::make_cert;
+use roam_certify::certify_mesh;
 use std::alloc::Global;
 
 /// Writes the certificate of the best mesh from a place, without planes and of the budget in force, and how many bytes it has.
@@ -105,7 +105,7 @@ fn cert_of_frame(
 {
     let view = engine.view();
     let leaves = view.leaves.to_vec(alloc)?;
-    make_cert(
+    certify_mesh(
         alloc,
         view.wedges,
         &place,
