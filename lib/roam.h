@@ -32,7 +32,7 @@ enum roam_answer {
     ROAM_TOO_MANY_PLANES = 7, /* six are in force */
     ROAM_OUTSIDE_GRID = 8,    /* a point or an area that is not in the grid, or an empty area */
     ROAM_BAD_CHANGE = 9,      /* dz beyond -65535 .. 65535 */
-    ROAM_WORN = 10,           /* 1000000 frames were made, or the camera has gone more than 2^61 units: open the engine anew */
+    ROAM_WORN = 10,           /* 1000000 frames were made, or the camera has gone more than 2^61 units: call roam_renew */
     ROAM_NO_ROOM = 11,        /* the array has too few places */
     ROAM_IS_EMPTY = 12,       /* the handle has no engine */
     ROAM_BAD_TOLERANCE = 13   /* a tolerance above 65535999 thousandths */
@@ -96,6 +96,10 @@ int32_t roam_camera(roam_handle *h, int64_t x, int64_t y, int64_t z);
 /* Adds a view plane: its inside is where a x + b y + c z + d >= 0, in world units. What is outside has priority 0. */
 int32_t roam_add_plane(roam_handle *h, int64_t a, int64_t b, int64_t c, int64_t d);
 int32_t roam_clear_planes(roam_handle *h);
+
+/* Lets frames, evaluations and the way of the camera count from 0 on again, so that an engine goes on for ever: what to call where
+ * an answer is ROAM_WORN. The mesh stays; the next frame costs as much as one with new planes. */
+int32_t roam_renew(roam_handle *h);
 
 /* Puts a budget in force, from 2 to the one that the engine was opened with. */
 int32_t roam_budget(roam_handle *h, uint32_t triangles);

@@ -57,9 +57,9 @@ static size_t below(size_t end) {
 
 /* --- What a call has to answer, and what has to hold after it. --- */
 
-enum { OPEN, CLOSE, CAMERA, ADD_PLANE, CLEAR_PLANES, BUDGET, SET, RAISE, FRAME, INDICES, LEAVES, CHANGES, STATE, POSITIONS, COMPACT, STRIP, DEVIATION, FIT, CERTIFICATE, CALLS };
+enum { OPEN, CLOSE, CAMERA, ADD_PLANE, CLEAR_PLANES, BUDGET, SET, RAISE, FRAME, INDICES, LEAVES, CHANGES, STATE, POSITIONS, COMPACT, STRIP, DEVIATION, FIT, CERTIFICATE, RENEW, CALLS };
 static const char *const names[CALLS] = { "open", "close", "camera", "add_plane", "clear_planes", "budget", "set", "raise", "frame", "indices", "leaves", "changes", "state",
-    "positions", "compact", "strip", "deviation", "fit", "certificate" };
+    "positions", "compact", "strip", "deviation", "fit", "certificate", "renew" };
 static unsigned long made[CALLS], refused[CALLS][14];
 static int call; /* the one that is being made */
 
@@ -168,6 +168,13 @@ static void do_add_plane(struct engine *e, int64_t a, int64_t b, int64_t c, int6
     int32_t wanted = !e->is_open ? ROAM_IS_EMPTY : !is_plane ? ROAM_BAD_PLANE : e->state.planes >= 6 ? ROAM_TOO_MANY_PLANES : ROAM_OK;
     answers(roam_add_plane(&e->handle, a, b, c, d), wanted);
     e->state.planes += wanted == ROAM_OK;
+    test_state(e);
+}
+
+static void do_renew(struct engine *e) {
+    call = RENEW;
+    answers(roam_renew(&e->handle), e->is_open ? ROAM_OK : ROAM_IS_EMPTY);
+    e->state.frames = 0, e->state.way = 0, e->state.evaluations = 0;
     test_state(e);
 }
 
@@ -613,6 +620,7 @@ static void step(void) {
         if (below(16) == 0) left = (long)below(40);
         do_certificate(e, place_number(), place_number(), place_number(), below(4) ? sizeof text : below(4000));
         break;
+    case RENEW: do_renew(e); break;
     default: test_state(e); break;
     }
 }
@@ -708,6 +716,7 @@ static void test_worn(void) {
     do_open(e, heights, 9, 8, 1);
     while (e->state.frames < 1000000) do_frame(e);
     do_frame(e), do_camera(e, 1, 2, 3), do_frame(e), do_list(e, ROOM, 3);
+    do_renew(e), do_frame(e), do_list(e, ROOM, 3);
     do_open(e, heights, 9, 8, 1);
     do_frame(e);
     do_close(e);

@@ -52,6 +52,7 @@ namespace Roam {
             [DllImport(Library)] public static extern int roam_camera(ref Handle h, long x, long y, long z);
             [DllImport(Library)] public static extern int roam_add_plane(ref Handle h, long a, long b, long c, long d);
             [DllImport(Library)] public static extern int roam_clear_planes(ref Handle h);
+            [DllImport(Library)] public static extern int roam_renew(ref Handle h);
             [DllImport(Library)] public static extern int roam_budget(ref Handle h, uint triangles);
             [DllImport(Library)] public static extern int roam_set(ref Handle h, uint x, uint y, ushort height);
             [DllImport(Library)] public static extern int roam_raise(ref Handle h, uint x0, uint y0, uint x1, uint y1, int dz);
@@ -82,6 +83,7 @@ namespace Roam {
         public void Camera(long x, long y, long z) { Must(C.roam_camera(ref h, x, y, z)); }
         public void AddPlane(long a, long b, long c, long d) { Must(C.roam_add_plane(ref h, a, b, c, d)); }
         public void ClearPlanes() { Must(C.roam_clear_planes(ref h)); }
+        public void Renew() { Must(C.roam_renew(ref h)); }
         public void Budget(uint triangles) { Must(C.roam_budget(ref h, triangles)); }
         public void Set(uint x, uint y, ushort height) { Must(C.roam_set(ref h, x, y, height)); }
         public void Raise(uint x0, uint y0, uint x1, uint y1, int dz) { Must(C.roam_raise(ref h, x0, y0, x1, y1, dz)); }

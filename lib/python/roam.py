@@ -47,7 +47,7 @@ SIDES = [2 ** n + 1 for n in range(1, 12)]
 
 
 class Worn(RuntimeError):
-    """The engine has made 1,000,000 frames, or its camera has gone 2^61 units: open a new one."""
+    """The engine has made 1,000,000 frames, or its camera has gone 2^61 units: call renew()."""
 
 
 class Note(NamedTuple):
@@ -123,6 +123,7 @@ def _load() -> ctypes.CDLL:
     for name, words in {
         "open": [handle, POINTER(c_uint16), c_size_t, c_uint32, c_uint32], "close": [handle],
         "camera": [handle] + 3 * [c_int64], "add_plane": [handle] + 4 * [c_int64], "clear_planes": [handle],
+        "renew": [handle],
         "budget": [handle, c_uint32], "set": [handle, c_uint32, c_uint32, c_uint16],
         "raise": [handle] + 4 * [c_uint32] + [c_int32], "frame": [handle, POINTER(_Note)],
         "indices": [handle, numbers, c_size_t, count], "leaves": [handle, numbers, c_size_t, count],
@@ -158,6 +159,12 @@ def _coordinate(name: str, value: Any) -> int:
     if isinstance(value, float) and value - value == 0:
         value = round(value)
     return _whole(name, value, -MOST_COORDINATE, MOST_COORDINATE)
+
+
+def _plane(a: int, b: int, c: int, d: int) -> list[int]:
+    """The numbers of a plane as whole numbers."""
+    slopes = [_whole(name, value, -MOST_SLOPE, MOST_SLOPE) for name, value in zip("abc", (a, b, c))]
+    return [*slopes, _whole("d", d, -MOST_OFFSET, MOST_OFFSET)]
 
 
 def _pointer(numbers: Any, kind: type) -> Any:
@@ -250,8 +257,11 @@ class Engine:
 
     def add_plane(self, a: int, b: int, c: int, d: int) -> None:
         """Adds a view plane, whose inside is where a x + b y + c z + d >= 0: a, b, c at most 2^20, d at most 2^50 from 0."""
-        slopes = (_whole(name, value, -MOST_SLOPE, MOST_SLOPE) for name, value in zip("abc", (a, b, c)))
-        self._call("add_plane", *slopes, _whole("d", d, -MOST_OFFSET, MOST_OFFSET))
+        self._call("add_plane", *_plane(a, b, c, d))
+
+    def renew(self) -> None:
+        """Lets frames, evaluations and the way of the camera count from 0 on again, so that the engine goes on for ever."""
+        self._call("renew")
 
     def clear_planes(self) -> None:
         """Takes all view planes away."""

@@ -23,6 +23,6 @@ pub use mesh_arrays::Changes;
 pub use roam_embed::{Deviation, Fitted, Frame, Standing};
 pub use shapes::{roam_compact, roam_deviation, roam_positions, roam_strip};
 pub use state::{
-    roam_add_plane, roam_budget, roam_camera, roam_clear_planes, roam_raise, roam_set,
+    roam_add_plane, roam_budget, roam_camera, roam_clear_planes, roam_raise, roam_renew, roam_set,
 };
 pub use told::{roam_frame, roam_state};

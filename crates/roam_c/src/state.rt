@@ -2,11 +2,12 @@
 
 ghost use Rattle.std.specs.Prelude.{◌≡◌, ⊤};
 ghost use Rattle.roam_embed.specs.Calls.{IsCameraMoved, IsPlaneAdded, ArePlanesCleared, IsBudgetPut, IsHeightPut, IsAreaRaised};
+ghost use Rattle.roam_embed.specs.Renewal.{IsRenewed};
 ghost use Rattle.roam_c.specs.Handle.{OnFull, OnEmpty};
 
 use crate::handle::{Handle, put, take};
 use roam_embed::{
-    Answer, add_plane, clear_planes, move_camera, put_budget, put_height, raise_area,
+    Answer, add_plane, clear_planes, move_camera, put_budget, put_height, raise_area, renew_engine,
 };
 use std::alloc::Global;
 
@@ -61,6 +62,23 @@ pub extern "C" fn roam_add_plane(
     match take(h, alloc) {
         Some(mut engine) => {
             let answer = add_plane(&mut engine, a, b, c, d);
+            put(h, engine, alloc);
+            answer.number()
+        }
+        None => Answer::IsEmpty.number(),
+    }
+}
+
+/// Counts frames, evaluations and the way of the camera from 0 on again.
+#[unsafe(no_mangle)]
+pub extern "C" fn roam_renew(alloc: Global, h: &mut Handle) -> i32
+    ensures full { OnFull h.old.value h.new.value result (λ was now answer.
+        IsRenewed was now answer) }
+    ensures empty { OnEmpty h.old.value h.new.value result ⊤ }
+{
+    match take(h, alloc) {
+        Some(mut engine) => {
+            let answer = renew_engine(&mut engine);
             put(h, engine, alloc);
             answer.number()
         }

@@ -15,6 +15,7 @@ mod ground;
 mod make;
 mod mesh;
 mod notes;
+mod renewal;
 mod shapes;
 mod view;
 
@@ -26,5 +27,6 @@ pub use ground::{GREATEST_CHANGE, put_height, raise_area};
 pub use make::open_engine;
 pub use mesh::{tell_indices, tell_leaves};
 pub use notes::{Deviation, Fitted, Frame, Standing};
+pub use renewal::renew_engine;
 pub use shapes::{tell_compact, tell_deviation, tell_positions, tell_strip};
 pub use view::{LONGEST_WAY, MOST_PLANES, add_plane, clear_planes, move_camera, put_budget};
