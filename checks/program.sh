@@ -882,17 +882,17 @@ if (ulimit -v 6000) 2>/dev/null; then
   program=$room/within run mesh g s out 2 1
   expect 1 0 ''
 
-  # The table of wedges has 67,108,864.
-  start_within no_memory_for_the_wedges 40000
+  # The table of wedges has 4,194,304.
+  start_within no_memory_for_the_wedges 13500
   program=$room/within run info g
   expect 1 0 ''
 
-  start_within no_memory_for_the_wedges_of_a_mesh 40000
+  start_within no_memory_for_the_wedges_of_a_mesh 13500
   program=$room/within run mesh g s out 2 1
   expect 1 0 ''
 
   # The vertex numbers have 16,793,604.
-  start_within no_memory_for_the_vertex_numbers 86000
+  start_within no_memory_for_the_vertex_numbers 24000
   program=$room/within run mesh g s out 2 1
   expect 1 0 ''
 else
