@@ -4,6 +4,8 @@
 # temporary files.
 #
 # usage: bench/run.sh [PROGRAM]     RUNS=N: the least of N runs is printed (5, if not given)
+#                                   PEER=PROGRAM: another mesher with the same words, `PEER mesh GRID SCRIPT PREFIX BUDGET SPACING`,
+#                                   is timed beside ours from file to file, and has to write the same files
 set -u
 export LC_ALL=C
 
@@ -130,6 +132,76 @@ cat <<TABLE
 | the same files by a loop of the shell | $frames files of 48 bytes | $loop s, $(a_frame "$loop") us a file | program / loop $(ratio "$many" "$loop") | at most 1 |
 | the same files by one cp | $frames files of 48 bytes | $copy s, $(a_frame "$copy") us a file | program / cp $(ratio "$many" "$copy") | at most 1 |
 TABLE
+
+# From file to file over made heights, in processor time of program and system: one frame, and flights 30 units a frame.
+peer=
+if [ -n "${PEER:-}" ]; then
+  peer=$(readlink -f -- "$PEER")
+  [ -x "$peer" ] || { echo "bench/run.sh: there is no program $peer" >&2; exit 1; }
+fi
+
+# made_grid LEVEL: the made heights of that level and seed 1, as a file that is made once, row after row from the top.
+made_grid() {
+  [ -f "$room/made_$1.pgm" ] || python3 -c '
+import sys
+sys.path.insert(0, sys.argv[1])
+from generated import lattice
+n = int(sys.argv[2])
+side, known = 2**n + 1, {}
+def values(k, j):
+    known.pop((k, j + 2), None)
+    if (k, j) not in known:
+        known[k, j] = [lattice(1, k, i, j) for i in range(2 ** (n - k) + 2)]
+    return known[k, j]
+sys.stdout.buffer.write(b"P5\n%d %d\n65535\n" % (side, side))
+for y in reversed(range(side)):
+    row = [0] * side
+    for k in range(n + 1):
+        w = 2**k
+        j, b = divmod(y, w)
+        low = values(k, j)
+        between = [below * (w - b) + above * b for below, above in zip(low, values(k, j + 1))]
+        for x in range(side):
+            i, a = x // w, x % w
+            row[x] += (between[i] * (w - a) + between[i + 1] * a) // (w * w) // 2 ** (n - k + 1)
+    sys.stdout.buffer.write(b"".join(height.to_bytes(2, "big") for height in row))' "$top/checks" "$1" >"$room/made_$1.pgm" || exit 1
+  echo "$room/made_$1.pgm"
+}
+
+# least_cpu COMMAND..: the least processor time of the runs; $room/made has the files of the last one.
+least_cpu() {
+  local k
+  for ((k = 0; k < runs; k++)); do
+    rm -rf -- "$room/made" && mkdir -- "$room/made"
+    (cd -- "$room/made" && TIMEFORMAT='%U %S' && seconds "$@")
+  done | awk '{ print $1 + $2 }' | sort -g | head -n 1
+}
+
+# whole_row LEVEL BUDGET FRAMES: that many frames of the camera a third along the grid and half across it, 30 units on each time.
+whole_row() {
+  local grid k ours ours_memory beside= theirs theirs_memory written
+  grid=$(made_grid "$1")
+  for ((k = 0; k < $3; k++)); do
+    echo "camera $((10 * 2 ** $1 + 30 * k)) $((15 * 2 ** $1)) 40000"
+    echo frame
+  done >"$room/whole"
+  ours_memory=$(peak "$program" mesh "$grid" "$room/whole" out "$2" 30)
+  ours=$(least_cpu "$program" mesh "$grid" "$room/whole" out "$2" 30)
+  written=$(cat -- "$room/made"/out*.obj | wc -c)
+  if [ -n "$peer" ]; then
+    rm -rf -- "$room/ours" && mv -- "$room/made" "$room/ours"
+    theirs_memory=$(peak "$peer" mesh "$grid" "$room/whole" out "$2" 30)
+    theirs=$(least_cpu "$peer" mesh "$grid" "$room/whole" out "$2" 30)
+    diff -rq -- "$room/ours" "$room/made" >"$room/said" || { echo "bench/run.sh: the peer writes other files, side $((2 ** $1 + 1)), budget $2" >&2; exit 1; }
+    beside="the peer $theirs s, $theirs_memory MB; ours / peer $(ratio "$ours" "$theirs") and $(ratio "$ours_memory" "$theirs_memory")"
+  fi
+  echo "| file to file, side $((2 ** $1 + 1)), budget $2, $3 frames | $written bytes | $ours s, $ours_memory MB | $beside | at most 1.3 |"
+}
+for level in 8 9 10 11; do whole_row "$level" 20000 1; done
+whole_row 11 100000 1
+whole_row 11 1048576 1
+whole_row 9 20000 200
+whole_row 11 20000 200
 
 # Single calls, by the program roam_bench where it is built.
 single=$top/crates/roam_bench/out/roam_bench
