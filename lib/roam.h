@@ -29,7 +29,7 @@ enum roam_answer {
     ROAM_BAD_SPACING = 4,     /* 0, or above 1024 */
     ROAM_BAD_CAMERA = 5,      /* a coordinate beyond -2^30 .. 2^30 */
     ROAM_BAD_PLANE = 6,       /* a, b or c beyond -2^20 .. 2^20, or d beyond -2^50 .. 2^50 */
-    ROAM_TOO_MANY_PLANES = 7, /* six are in force */
+    ROAM_TOO_MANY_PLANES = 7, /* six are in force, or more than six are given */
     ROAM_OUTSIDE_GRID = 8,    /* a point or an area that is not in the grid, or an empty area */
     ROAM_BAD_CHANGE = 9,      /* dz beyond -65535 .. 65535 */
     ROAM_WORN = 10,           /* 1000000 frames were made, or the camera has gone more than 2^61 units: call roam_renew */
@@ -56,6 +56,11 @@ typedef struct roam_frame_note {
     uint32_t inside, cut, outside; /* triangles by the planes in force; all are inside where there is none */
     uint32_t spare;                /* 0 */
 } roam_frame_note;
+
+/* A view plane: its inside is where a x + b y + c z + d >= 0, in world units. */
+typedef struct roam_plane {
+    int64_t a, b, c, d;
+} roam_plane;
 
 typedef struct roam_changes_note {
     size_t gone, come;
@@ -96,6 +101,11 @@ int32_t roam_camera(roam_handle *h, int64_t x, int64_t y, int64_t z);
 /* Adds a view plane: its inside is where a x + b y + c z + d >= 0, in world units. What is outside has priority 0. */
 int32_t roam_add_plane(roam_handle *h, int64_t a, int64_t b, int64_t c, int64_t d);
 int32_t roam_clear_planes(roam_handle *h);
+
+/* Puts `count` view planes in force, up to six, in the place of those before. For a view that turns: the next frame asks anew for
+ * what left the view or came into it alone, where after roam_clear_planes and roam_add_plane it asks for every triangle. Costs a
+ * walk over the triangles of the mesh, but for those that lie inside all planes, or outside of one, both before and after. */
+int32_t roam_look(roam_handle *h, const roam_plane *planes, size_t count);
 
 /* Lets frames, evaluations and the way of the camera count from 0 on again, so that an engine goes on for ever: what to call where
  * an answer is ROAM_WORN. The mesh stays; the next frame costs as much as one with new planes. */

@@ -23,7 +23,7 @@ inline const char *text_of(int32_t answer) noexcept {
         "done", "out of memory", "the count of heights is not (2^n + 1)^2 with n from 1 to 11",
         "the budget is below 2, above 1048576, or above the budget at opening", "the spacing is not from 1 to 1024",
         "a coordinate of the camera is beyond 2^30", "a slope of the plane is beyond 2^20, or its offset beyond 2^50",
-        "six planes are in force", "a point is outside the grid, or the area is empty", "the change is beyond 65535",
+        "six planes are in force, or more than six are given", "a point is outside the grid, or the area is empty", "the change is beyond 65535",
         "the engine has made 1000000 frames, or its camera has gone 2^61 units: renew it", "the array has too few places",
         "there is no engine", "the tolerance is above 65535999 thousandths"};
     return answer >= 0 && answer <= ROAM_BAD_TOLERANCE ? texts[answer] : "an unknown answer";
@@ -87,6 +87,11 @@ public:
 
     result camera(int64_t x, int64_t y, int64_t z) { return told(roam_camera(&h, x, y, z), "camera"); }
     result add_plane(int64_t a, int64_t b, int64_t c, int64_t d) { return told(roam_add_plane(&h, a, b, c, d), "add_plane"); }
+    result look(const roam_plane *planes, std::size_t count) { // in the place of those before: for a view that turns
+        static const roam_plane none{};
+        return told(roam_look(&h, planes ? planes : &none, planes ? count : 0), "look");
+    }
+    template <class Planes> result look(const Planes &planes) { return look(std::data(planes), std::size(planes)); }
     result renew() { return told(roam_renew(&h), "renew"); }
     result clear_planes() { return told(roam_clear_planes(&h), "clear_planes"); }
     result budget(uint32_t triangles) { return told(roam_budget(&h, triangles), "budget"); }

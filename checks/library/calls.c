@@ -57,9 +57,9 @@ static size_t below(size_t end) {
 
 /* --- What a call has to answer, and what has to hold after it. --- */
 
-enum { OPEN, CLOSE, CAMERA, ADD_PLANE, CLEAR_PLANES, BUDGET, SET, RAISE, FRAME, INDICES, LEAVES, CHANGES, STATE, POSITIONS, COMPACT, STRIP, DEVIATION, FIT, CERTIFICATE, RENEW, CALLS };
+enum { OPEN, CLOSE, CAMERA, ADD_PLANE, CLEAR_PLANES, BUDGET, SET, RAISE, FRAME, INDICES, LEAVES, CHANGES, STATE, POSITIONS, COMPACT, STRIP, DEVIATION, FIT, CERTIFICATE, LOOK, RENEW, CALLS };
 static const char *const names[CALLS] = { "open", "close", "camera", "add_plane", "clear_planes", "budget", "set", "raise", "frame", "indices", "leaves", "changes", "state",
-    "positions", "compact", "strip", "deviation", "fit", "certificate", "renew" };
+    "positions", "compact", "strip", "deviation", "fit", "certificate", "look", "renew" };
 static unsigned long made[CALLS], refused[CALLS][14];
 static int call; /* the one that is being made */
 
@@ -168,6 +168,18 @@ static void do_add_plane(struct engine *e, int64_t a, int64_t b, int64_t c, int6
     int32_t wanted = !e->is_open ? ROAM_IS_EMPTY : !is_plane ? ROAM_BAD_PLANE : e->state.planes >= 6 ? ROAM_TOO_MANY_PLANES : ROAM_OK;
     answers(roam_add_plane(&e->handle, a, b, c, d), wanted);
     e->state.planes += wanted == ROAM_OK;
+    test_state(e);
+}
+
+static void do_look(struct engine *e, const roam_plane *planes, size_t count) {
+    call = LOOK;
+    const int64_t slope = (int64_t)1 << 20, offset = (int64_t)1 << 50;
+    bool are_planes = true;
+    for (size_t k = 0; k < count; k++)
+        are_planes &= is_within(planes[k].a, slope) && is_within(planes[k].b, slope) && is_within(planes[k].c, slope) && is_within(planes[k].d, offset);
+    int32_t wanted = !e->is_open ? ROAM_IS_EMPTY : !are_planes ? ROAM_BAD_PLANE : count > 6 ? ROAM_TOO_MANY_PLANES : ROAM_OK;
+    answers(roam_look(&e->handle, planes, count), wanted);
+    if (wanted == ROAM_OK) e->state.planes = (uint32_t)count;
     test_state(e);
 }
 
@@ -620,6 +632,17 @@ static void step(void) {
         if (below(16) == 0) left = (long)below(40);
         do_certificate(e, place_number(), place_number(), place_number(), below(4) ? sizeof text : below(4000));
         break;
+    case LOOK: {
+        roam_plane planes[8];
+        size_t count = below(9);
+        for (size_t k = 0; k < count; k++) {
+            roam_plane near = { (int64_t)below(9) - 4, (int64_t)below(9) - 4, (int64_t)below(9) - 4, (int64_t)below(2000) - 1000 };
+            roam_plane far = { signed_number(), place_number(), place_number(), signed_number() };
+            planes[k] = below(16) ? near : far;
+        }
+        do_look(e, planes, count);
+        break;
+    }
     case RENEW: do_renew(e); break;
     default: test_state(e); break;
     }

@@ -28,6 +28,8 @@ CASES = [
     (TypeError, "y is inf, and has to be a whole number", lambda: engine.camera(0, float("inf"), 0)),
     (ValueError, "b is 1048577, and has to be from -1048576 to 1048576", lambda: engine.add_plane(0, 2 ** 20 + 1, 0, 0)),
     (ValueError, "d is ", lambda: engine.add_plane(0, 0, 0, 2 ** 50 + 1)),
+    (ValueError, "a is -1048577, and has to be from", lambda: engine.look([(0, 0, 1, 0), (-2 ** 20 - 1, 0, 0, 0)])),
+    (ValueError, "planes are 7, and may be 6 at most", lambda: engine.look(7 * [(0, 0, 1, 0)])),
     (ValueError, "triangles is 9, and has to be from 2 to 8", lambda: engine.budget(9)),
     (ValueError, "x is 3, and has to be from 0 to 2", lambda: engine.set(3, 0, 1)),
     (ValueError, "y is -1, and has to be from 0 to 2", lambda: engine.set(0, -1, 1)),

@@ -64,7 +64,7 @@ class Session:
 
     def change(self):
         """One change, of the engine and of the terrain."""
-        draw, kind = self.draw, self.draw.choice([b"camera", b"camera", b"set", b"raise", b"plane", b"noplanes", b"budget"])
+        draw, kind = self.draw, self.draw.choice([b"camera", b"camera", b"set", b"raise", b"plane", b"noplanes", b"look", b"budget"])
         if kind == b"camera":
             values = [draw.randint(-self.reach, self.reach) for _ in range(3)]
             if draw.randrange(9) == 0:
@@ -82,6 +82,13 @@ class Session:
             if draw.randrange(9) == 0:
                 values = [draw.choice([-1, 1]) * 2 ** 20 for _ in range(3)] + [draw.choice([-1, 1]) * 2 ** 50]
             self.engine.add_plane(*values)
+        elif kind == b"look":
+            planes = [[draw.randint(-3, 3) for _ in range(3)] + [draw.randint(-self.reach, self.reach)] for _ in range(draw.randrange(7))]
+            self.engine.look(planes)
+            carry_out(self.terrain, b"noplanes", [])
+            for plane in planes:
+                carry_out(self.terrain, b"plane", plane)
+            return
         elif kind == b"budget":
             values = [draw.randint(2, self.most)]
             self.engine.budget(*values)

@@ -149,7 +149,7 @@ function looking(p, ratio, half = HALF) {
   return { rows, planes, ray };
 }
 
-// The planes for a view. Each change of planes costs the engine about as much as five frames, so they stay while they hold it.
+// The planes for a view. They stay while they hold it, since a change of planes costs the engine what enters or leaves them.
 let held = null;
 function planesFor(p, view, ratio) {
   const at = [p.x, p.y, p.z], f = ahead(p), corners = [[-1, -1], [-1, 1], [1, -1], [1, 1]].map((c) => view.ray(...c));

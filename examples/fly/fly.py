@@ -62,11 +62,8 @@ class Flight:
             engine.budget(numbers[0])
             self.budget = numbers[0]
         engine.camera(*numbers[1:4])
-        if planes != self.planes:  # each change of planes costs the engine what it knows of priorities
-            self.planes = None
-            engine.clear_planes()
-            for plane in planes:
-                engine.add_plane(*plane)
+        if planes != self.planes:
+            engine.look(planes)
             self.planes = planes
         try:
             note = engine.frame()

@@ -40,6 +40,12 @@ namespace Roam {
         public uint Triangles, Vertices;
     }
 
+    /// Its inside is where A x + B y + C z + D >= 0.
+    [StructLayout(LayoutKind.Sequential)]
+    public struct Plane {
+        public long A, B, C, D;
+    }
+
     public sealed class Engine : IDisposable {
         [StructLayout(LayoutKind.Sequential)]
         struct Handle { ulong mark; IntPtr at; }
@@ -52,6 +58,7 @@ namespace Roam {
             [DllImport(Library)] public static extern int roam_camera(ref Handle h, long x, long y, long z);
             [DllImport(Library)] public static extern int roam_add_plane(ref Handle h, long a, long b, long c, long d);
             [DllImport(Library)] public static extern int roam_clear_planes(ref Handle h);
+            [DllImport(Library)] public static extern int roam_look(ref Handle h, Plane[] planes, UIntPtr count);
             [DllImport(Library)] public static extern int roam_renew(ref Handle h);
             [DllImport(Library)] public static extern int roam_budget(ref Handle h, uint triangles);
             [DllImport(Library)] public static extern int roam_set(ref Handle h, uint x, uint y, ushort height);
@@ -83,6 +90,7 @@ namespace Roam {
         public void Camera(long x, long y, long z) { Must(C.roam_camera(ref h, x, y, z)); }
         public void AddPlane(long a, long b, long c, long d) { Must(C.roam_add_plane(ref h, a, b, c, d)); }
         public void ClearPlanes() { Must(C.roam_clear_planes(ref h)); }
+        public void Look(params Plane[] planes) { Must(C.roam_look(ref h, There(planes, "planes"), (UIntPtr)planes.Length)); }
         public void Renew() { Must(C.roam_renew(ref h)); }
         public void Budget(uint triangles) { Must(C.roam_budget(ref h, triangles)); }
         public void Set(uint x, uint y, ushort height) { Must(C.roam_set(ref h, x, y, height)); }

@@ -42,7 +42,7 @@ __all__ = ["Changes", "Engine", "Fit", "Note", "State", "Worn", "changes"]
 
 MOST_TRIANGLES, MOST_SPACING, MOST_COORDINATE = 1_048_576, 1024, 1 << 30
 MOST_SLOPE, MOST_OFFSET, MOST_CHANGE = 1 << 20, 1 << 50, 65_535
-MOST_TOLERANCE, MOST_BUDGET = 65_535_999, (1 << 32) - 1
+MOST_TOLERANCE, MOST_BUDGET, MOST_PLANES = 65_535_999, (1 << 32) - 1, 6
 SIDES = [2 ** n + 1 for n in range(1, 12)]
 
 
@@ -104,6 +104,10 @@ class _Note(ctypes.Structure):
     _fields_ = [("worst", c_uint64)] + [(name, c_uint32) for name in (*Note._fields[1:], "spare")]
 
 
+class _Plane(ctypes.Structure):
+    _fields_ = [(name, c_int64) for name in "abcd"]
+
+
 class _Changes(ctypes.Structure):
     _fields_ = [("gone", c_size_t), ("come", c_size_t)]
 
@@ -123,7 +127,7 @@ def _load() -> ctypes.CDLL:
     for name, words in {
         "open": [handle, POINTER(c_uint16), c_size_t, c_uint32, c_uint32], "close": [handle],
         "camera": [handle] + 3 * [c_int64], "add_plane": [handle] + 4 * [c_int64], "clear_planes": [handle],
-        "renew": [handle],
+        "look": [handle, POINTER(_Plane), c_size_t], "renew": [handle],
         "budget": [handle, c_uint32], "set": [handle, c_uint32, c_uint32, c_uint16],
         "raise": [handle] + 4 * [c_uint32] + [c_int32], "frame": [handle, POINTER(_Note)],
         "indices": [handle, numbers, c_size_t, count], "leaves": [handle, numbers, c_size_t, count],
@@ -258,6 +262,16 @@ class Engine:
     def add_plane(self, a: int, b: int, c: int, d: int) -> None:
         """Adds a view plane, whose inside is where a x + b y + c z + d >= 0: a, b, c at most 2^20, d at most 2^50 from 0."""
         self._call("add_plane", *_plane(a, b, c, d))
+
+    def look(self, planes: Sequence[Sequence[int]]) -> None:
+        """Puts these planes, (a, b, c, d) each as `add_plane` takes them and six at most, in the place of those in force.
+
+        For a view that turns: the next frame asks anew for what left the view or came into it alone.
+        """
+        found = [_Plane(*_plane(*plane)) for plane in planes]
+        if len(found) > MOST_PLANES:
+            raise ValueError(f"planes are {len(found)}, and may be {MOST_PLANES} at most")
+        self._call("look", (_Plane * MOST_PLANES)(*found), len(found))
 
     def renew(self) -> None:
         """Lets frames, evaluations and the way of the camera count from 0 on again, so that the engine goes on for ever."""

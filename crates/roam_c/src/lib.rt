@@ -20,9 +20,10 @@ pub use handle::{Handle, crossing};
 pub use life::{roam_close, roam_open};
 pub use lists::{roam_changes, roam_indices, roam_leaves};
 pub use mesh_arrays::Changes;
-pub use roam_embed::{Deviation, Fitted, Frame, Standing};
+pub use roam_embed::{Deviation, Fitted, Frame, PlaneNumbers, Standing};
 pub use shapes::{roam_compact, roam_deviation, roam_positions, roam_strip};
 pub use state::{
-    roam_add_plane, roam_budget, roam_camera, roam_clear_planes, roam_raise, roam_renew, roam_set,
+    roam_add_plane, roam_budget, roam_camera, roam_clear_planes, roam_look, roam_raise, roam_renew,
+    roam_set,
 };
 pub use told::{roam_frame, roam_state};

@@ -2,12 +2,14 @@
 
 ghost use Rattle.std.specs.Prelude.{◌≡◌, ⊤};
 ghost use Rattle.roam_embed.specs.Calls.{IsCameraMoved, IsPlaneAdded, ArePlanesCleared, IsBudgetPut, IsHeightPut, IsAreaRaised};
+ghost use Rattle.roam_embed.specs.Looking.{ArePlanesPut};
 ghost use Rattle.roam_embed.specs.Renewal.{IsRenewed};
 ghost use Rattle.roam_c.specs.Handle.{OnFull, OnEmpty};
 
 use crate::handle::{Handle, put, take};
 use roam_embed::{
-    Answer, add_plane, clear_planes, move_camera, put_budget, put_height, raise_area, renew_engine,
+    Answer, PlaneNumbers, add_plane, clear_planes, move_camera, put_budget, put_height, put_planes,
+    raise_area, renew_engine,
 };
 use std::alloc::Global;
 
@@ -62,6 +64,23 @@ pub extern "C" fn roam_add_plane(
     match take(h, alloc) {
         Some(mut engine) => {
             let answer = add_plane(&mut engine, a, b, c, d);
+            put(h, engine, alloc);
+            answer.number()
+        }
+        None => Answer::IsEmpty.number(),
+    }
+}
+
+/// Puts these planes in force in the place of those before.
+#[unsafe(no_mangle)]
+pub extern "C" fn roam_look(alloc: Global, h: &mut Handle, planes: &[PlaneNumbers]) -> i32
+    ensures full { OnFull h.old.value h.new.value result (λ was now answer.
+        ArePlanesPut was now planes.now answer) }
+    ensures empty { OnEmpty h.old.value h.new.value result ⊤ }
+{
+    match take(h, alloc) {
+        Some(mut engine) => {
+            let answer = put_planes(&mut engine, planes);
             put(h, engine, alloc);
             answer.number()
         }

@@ -2,6 +2,7 @@ pub mod Answer
 pub mod Grid
 pub mod Told
 pub mod Calls
+pub mod Looking
 pub mod Renewal
 pub mod Shapes
 pub mod Fitting

@@ -20,7 +20,7 @@ pub enum Answer {
     BadCamera,
     /// A slope of the plane is beyond 2^20, or its offset beyond 2^50.
     BadPlane,
-    /// Six planes are in force.
+    /// Six planes are in force, or more than six were given.
     TooManyPlanes,
     /// A point or an area is not in the grid, or the area is empty.
     OutsideGrid,

@@ -48,6 +48,20 @@ pub struct Standing {
     pub planes: u32,
 }
 
+/// A plane: its inside is where a x + b y + c z + d is at least 0.
+#[repr(C)]
+#[derive(Clone, Copy, Debug, PartialEq, Eq)]
+pub struct PlaneNumbers {
+    /// The slope along x.
+    pub a: i64,
+    /// The slope along y.
+    pub b: i64,
+    /// The slope along z.
+    pub c: i64,
+    /// The offset.
+    pub d: i64,
+}
+
 /// How far the surface is from the mesh at most: `off` over `over`, in units of height.
 #[repr(C)]
 #[derive(Clone, Copy, Debug, PartialEq, Eq)]
