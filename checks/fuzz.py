@@ -245,7 +245,9 @@ def wanted(folder, file, words):
 
 def found(program, folder, words):
     status, report, said = run([program] + words, folder)
-    if said:
+    # One line may say what is accepted in the place of a refused grid, or that a script has no frame.
+    hint = (status == 3 or status == 0 and not report) and said.startswith(b"roam: ") and said.count(b"\n") == 1
+    if said and not hint:
         report += b"standard error: " + said
     return status, report, meshes(folder, "out")
 
