@@ -35,6 +35,11 @@ fn laws_of_closed_sets_are_calls() {
 }
 
 #[test]
+fn laws_of_vertices_are_calls() {
+    vertex_laws::vertex_laws();
+}
+
+#[test]
 fn laws_of_edges_are_calls() {
     edge_laws::edge_laws();
     edge_laws::leaf_laws();
