@@ -45,7 +45,8 @@ printf '<%s>' "$@"
 exit 3
 PROGRAM
   chmod +x out/roam_cli
-  shift 2
+  while [ "$1" != -- ]; do shift; done
+  shift
   out/roam_cli "$@"
   [ $? -eq 5 ] || exit 1
   echo "end roam_cli" >>"$notes"
