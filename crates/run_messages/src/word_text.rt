@@ -12,39 +12,56 @@ use std::fmt;
 impl<'a> fmt::Display for WordFault<'a> {
     fn fmt<W: fmt::Write>(&self, f: &mut fmt::Formatter<W>) -> fmt::Result {
         match (self.wanted, self.words.get(self.place)) {
-            (Some(Wanted::Command), None) => write!(f, "no word is given, and a command is wanted"),
-            (Some(Wanted::Command), Some(word)) => write!(
-                f,
-                "no command {}; the commands are info, try, mesh, strip, least, measure, fit and certify",
-                Quoted(word.as_str())
-            ),
-            (Some(Wanted::Task), None) => write!(f, "certify wants 'make' or 'check' behind it"),
-            (Some(Wanted::Task), Some(word)) => write!(
-                f,
-                "certify wants 'make' or 'check' behind it, and not {}",
-                Quoted(word.as_str())
-            ),
-            (Some(Wanted::Goal), Some(word)) => write!(
-                f,
-                "fit wants 'error' or 'budget' behind GRID PREFIX, and not {}",
-                Quoted(word.as_str())
-            ),
-            (Some(wanted), Some(word)) => {
-                write!(f, "{} is {}: ", label(wanted), Quoted(word.as_str()))?;
-                write_wanted(f, wanted)?;
-                match form_of(self.words) {
-                    Some(form) if form.given != form.count => {
-                        f.write_str("; ")?;
-                        write_count(f, &form)
-                    }
-                    _ => Ok(()),
-                }
+            (Some(Wanted::Command), None) => {
+                f.write_str("no word is given, and a command is wanted")
             }
+            (Some(Wanted::Task), None) => f.write_str("certify wants 'make' or 'check' behind it"),
+            (Some(wanted), Some(word)) => write_wrong(f, wanted, word.as_str(), self.words),
             (_, _) => match form_of(self.words) {
                 Some(form) => write_count(f, &form),
-                None => write!(f, "the words are no command"),
+                None => f.write_str("the words are no command"),
             },
         }
+    }
+}
+
+/// Writes which word is wrong, and what is wanted in its place.
+fn write_wrong<W: fmt::Write>(
+    f: &mut fmt::Formatter<W>,
+    wanted: Wanted,
+    word: &str,
+    words: &[String],
+) -> fmt::Result {
+    let word = Quoted(word);
+    match wanted {
+        Wanted::Command => write!(
+            f,
+            "no command {word}; the commands are info, try, mesh, strip, least, measure, fit and certify"
+        ),
+        Wanted::Task => write!(
+            f,
+            "certify wants 'make' or 'check' behind it, and not {word}"
+        ),
+        Wanted::Goal => write!(
+            f,
+            "fit wants 'error' or 'budget' behind GRID PREFIX, and not {word}"
+        ),
+        _ => {
+            write!(f, "{} is {word}: ", label(wanted))?;
+            write_wanted(f, wanted)?;
+            write_other_count(f, words)
+        }
+    }
+}
+
+/// Writes how many words the command wants, where another number of them is given.
+fn write_other_count<W: fmt::Write>(f: &mut fmt::Formatter<W>, words: &[String]) -> fmt::Result {
+    match form_of(words) {
+        Some(form) if form.given != form.count => {
+            f.write_str("; ")?;
+            write_count(f, &form)
+        }
+        _ => Ok(()),
     }
 }
 
@@ -64,29 +81,40 @@ const FIT_WORDS: usize = 5;
 
 /// The form of the command that the first words name.
 fn form_of(words: &[String]) -> Option<Form<'_>> {
-    match words {
-        [name, rest @ ..] if name.as_str() == "fit" => Some(Form {
-            name: name.as_str(),
-            task: "",
-            behind: &[],
-            count: FIT_WORDS,
-            given: rest.len(),
-        }),
-        [name, task, rest @ ..] if name.as_str() == "certify" => Some(Form {
-            name: name.as_str(),
-            task: task.as_str(),
-            behind: task_form(task.as_str())?,
-            count: task_form(task.as_str())?.len(),
-            given: rest.len(),
-        }),
-        [name, rest @ ..] => Some(Form {
-            name: name.as_str(),
-            task: "",
-            behind: command_form(name.as_str())?,
-            count: command_form(name.as_str())?.len(),
-            given: rest.len(),
-        }),
-        [] => None,
+    let [name, rest @ ..] = words else {
+        return None;
+    };
+    let name = name.as_str();
+    if name == "fit" {
+        return Some(form_with(name, "", &[], FIT_WORDS, rest.len()));
+    }
+    match rest {
+        [task, rest @ ..] if name == "certify" => {
+            let task = task.as_str();
+            let behind = task_form(task)?;
+            Some(form_with(name, task, behind, behind.len(), rest.len()))
+        }
+        _ => {
+            let behind = command_form(name)?;
+            Some(form_with(name, "", behind, behind.len(), rest.len()))
+        }
+    }
+}
+
+/// The form with these parts.
+fn form_with<'a>(
+    name: &'a str,
+    task: &'a str,
+    behind: Stage,
+    count: usize,
+    given: usize,
+) -> Form<'a> {
+    Form {
+        name,
+        task,
+        behind,
+        count,
+        given,
     }
 }
 
@@ -151,7 +179,7 @@ fn write_wanted<W: fmt::Write>(f: &mut fmt::Formatter<W>, wanted: Wanted) -> fmt
         Wanted::Budget => write_range(f, LEAST_BUDGET, GREATEST_BUDGET),
         Wanted::Tolerance => write_range(f, 0, GREATEST_TOLERANCE),
         Wanted::Spacing => write_range(f, 1, GREATEST_SPACING),
-        _ => write!(f, "another word is wanted"),
+        _ => f.write_str("another word is wanted"),
     }
 }
 
