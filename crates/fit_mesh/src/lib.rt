@@ -15,4 +15,5 @@ mod grow;
 mod leaves;
 mod settle;
 
+pub use error::worst_error;
 pub use fit::{Fit, FitNote};

@@ -64,3 +64,13 @@ IsMost-off_plane n heights a P m area most address side size h = ⊎_elim
         let same : m * most ≡ 2 ^ n * most = ap (λ k. k * most) side in
         let smaller : off_plane n heights a r ≤ z = le_of_mul-le-mul_left {k = area} (omega arith) some in
         omega arith
+
+-- at one point of a triangle
+pub off_plane-quotient : (n : ℕ) (heights : List ℕ) (a : ℕ) (r : Point) (m area : ℕ) → IsAddress n a → m ≡ 2 ^ n → area ≡ area_of (corners_of n a) →
+    m * gap_of (corners_of n a) (height_of n heights) r / area ≡ off_plane n heights a r
+off_plane-quotient n heights a r m area address side size =
+    let positive = area_of-some n a address in
+    let total : area * off_plane n heights a r ≡ m * gap_of (corners_of n a) (height_of n heights) r =
+    ap (λ k. k * off_plane n heights a r) size ∙ off_plane-gap n heights a r address
+    ∙ ap (λ k. k * gap_of (corners_of n a) (height_of n heights) r) (sym side) in
+    exact area (off_plane n heights a r) (m * gap_of (corners_of n a) (height_of n heights) r) (omega arith) total

@@ -1,3 +1,4 @@
+pub mod Above
 pub mod Areas
 pub mod Columns
 pub mod Facet

@@ -7,6 +7,7 @@
 #![tactic(auto)]
 
 mod areas;
+mod at_point;
 mod columns;
 mod facet;
 mod line;
@@ -14,6 +15,7 @@ mod mesh;
 mod points;
 mod shape;
 
+pub use at_point::{off_point, point_above};
 pub use facet::plane_height;
 pub use mesh::{deviation, thickest};
 pub use points::{exceeds, off_triangle};

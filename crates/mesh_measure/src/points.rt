@@ -20,13 +20,14 @@ use bintree_addr::{Point, Tri};
 use pgm_grid::Grid;
 
 /// How far the surface is from the plane at a point, times twice the triangle's area.
-fn gap(grid: &Grid, facet: Facet, areas: Areas, x: u32, y: u32) -> u64
+pub(crate) fn gap(grid: &Grid, facet: Facet, areas: Areas, x: u32, y: u32) -> u64
     requires x_in_grid { x ≤ 2 ^ grid.now.n }
     requires y_in_grid { y ≤ 2 ^ grid.now.n }
     requires facet { IsFacet grid.now.n grid.now.heights facet }
     requires areas { AreAcross facet.corners (point x y) areas }
     requires small { AreSmall areas }
-    ensures { result ≡ gap_of facet.corners (height_of grid.now.n grid.now.heights) (point x y) }
+    ensures value { result ≡ gap_of facet.corners (height_of grid.now.n grid.now.heights) (point x y) }
+    ensures small { result ≤ 8796093022208 }
 {
     let surface = facet.area * u64::from(grid.height(x, y));
     surface.abs_diff(weighted(facet, areas))

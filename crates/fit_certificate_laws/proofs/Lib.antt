@@ -1,0 +1,3 @@
+pub mod LeadLemmas
+pub mod SoundLemmas
+pub mod VerdictLemmas

@@ -1,0 +1,19 @@
+-- Each clause is a lemma.
+use Rattle.fit_certificate_laws.proofs.SoundLemmas.{sound-least, sound-error, sound-budget, sound-order}
+use Rattle.fit_certificate_laws.proofs.VerdictLemmas.{sound-certified}
+use Rattle.fit_certificate_laws.proofs.laws.fit_certificate_laws.Goals as goal
+
+pub returns-clause-least : goal.returns-clause-least
+returns-clause-least c = sound-least
+
+pub returns-clause-error : goal.returns-clause-error
+returns-clause-error c = sound-error
+
+pub returns-clause-budget : goal.returns-clause-budget
+returns-clause-budget c = sound-budget
+
+pub returns-clause-order : goal.returns-clause-order
+returns-clause-order c = sound-order
+
+pub returns-clause-certified : goal.returns-clause-certified
+returns-clause-certified c n heights target cert mesh verdict sound is = sound-certified n heights target cert mesh sound verdict is

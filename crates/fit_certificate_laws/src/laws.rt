@@ -1,0 +1,35 @@
+//! Laws of the definitions, each a clause of a function with an empty body.
+
+ghost use Rattle.std.specs.Prelude.{◌≡◌, ℕ, List, length};
+ghost use Rattle.mesh_defs.specs.ClosedSet.{leaves_of};
+ghost use Rattle.tiling_laws.specs.Ancestors.{ancestors_of};
+ghost use Rattle.deviation_laws.specs.PlaneHeight.{deviation_of};
+ghost use Rattle.least_laws.specs.Least.{IsLeastMesh};
+ghost use Rattle.fit_laws.specs.Error.{error_of};
+ghost use Rattle.fit_laws.specs.Budget.{IsBudgetMesh};
+ghost use Rattle.fit_certificate_laws.specs.declared.reason.Target.{Target};
+ghost use Rattle.fit_certificate_laws.specs.declared.reason.Verdict.{Verdict};
+ghost use Rattle.fit_certificate_laws.specs.Certificate.{FitCertificate, IsSound, IsVerdict};
+
+/// A certificate is sound only for the best mesh of its target, whoever made the two.
+///
+/// `least` the mesh is the fewest triangles for the tolerance of the certificate, whatever the target; `error` so it is for
+/// the tolerance of the target; `budget` no conforming list within the budget has a lower greatest error. `order` the mesh
+/// stands depth first, and `certified` no checker that is exact says anything else of a sound certificate.
+pub fn fit_certificate_laws()
+    ensures least { (n : ℕ) (heights : List ℕ) (target : Target) (cert : FitCertificate) (mesh : List ℕ) →
+        IsSound n heights target cert mesh →
+        IsLeastMesh n cert.tolerance (error_of n heights) mesh }
+    ensures error { (n : ℕ) (heights : List ℕ) (tolerance : ℕ) (cert : FitCertificate) (mesh : List ℕ) →
+        IsSound n heights (Target.Error tolerance) cert mesh →
+        IsLeastMesh n tolerance (error_of n heights) mesh }
+    ensures budget { (n : ℕ) (heights : List ℕ) (triangles : ℕ) (cert : FitCertificate) (mesh : List ℕ) →
+        IsSound n heights (Target.Budget triangles) cert mesh →
+        IsBudgetMesh n triangles (error_of n heights) mesh }
+    ensures order { (n : ℕ) (heights : List ℕ) (target : Target) (cert : FitCertificate) (mesh : List ℕ) →
+        IsSound n heights target cert mesh → leaves_of n (ancestors_of mesh) ≡ mesh }
+    ensures certified { (n : ℕ) (heights : List ℕ) (target : Target) (cert : FitCertificate) (mesh : List ℕ)
+        (verdict : Verdict) →
+        IsSound n heights target cert mesh → IsVerdict n heights target cert verdict →
+        verdict ≡ Verdict.Certified (length mesh) (deviation_of n heights mesh) }
+{}
