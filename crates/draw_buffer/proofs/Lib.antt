@@ -1,0 +1,4 @@
+pub mod TimesLemmas
+pub mod LinkLemmas
+pub mod ToldLemmas
+pub mod ExchangeLemmas

@@ -1,0 +1,5 @@
+pub mod Times
+pub mod Places
+pub mod Corners
+pub mod Exchange
+pub mod Buffer
