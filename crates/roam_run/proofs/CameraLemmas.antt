@@ -1,5 +1,5 @@
 -- How far apart two cameras are.
-use Rattle.std.proofs.Common.{ℕ, ◌+◌, ◌^◌, ◌≤◌, arith, ℤ, ◌-ℤ◌, unsigned_abs}
+use Rattle.std.proofs.Common.{◌^◌, ◌≤◌, arith, ℤ, ◌-ℤ◌, unsigned_abs}
 use Rattle.std.proofs.lemmas.Int.{ints}
 use Rattle.mesh_defs.specs.BoundingBox.{CameraAt}
 use Rattle.mesh_defs.specs.State.{move_length}

@@ -5,15 +5,13 @@ ghost use Rattle.mesh_defs.specs.HeightField.{HeightField};
 ghost use Rattle.mesh_defs.specs.declared.level.TheConstants.{GREATEST_LEVEL};
 ghost use Rattle.roam_edge.specs.MeshSink.{Mesh};
 ghost use Rattle.roam_edge.specs.Shelf.{NamedFile, bytes_of};
-ghost use Rattle.run_laws.specs.Act.{ReportText, told};
+ghost use Rattle.run_laws.specs.Act.{told};
 ghost use Rattle.run_laws.specs.Cause.{StatusHasCause};
 ghost use Rattle.run_laws.specs.Words.{Scripted, Fitting, OnGrid, Generated, Frames, is_of_engine, command_of, file_count, Checking};
-ghost use Rattle.obj_write.specs.Written.{Grows};
-ghost use Rattle.run_laws.specs.CutShort.{is_by_frame, StandsInText, LeavesAtWriteFault};
-ghost use Rattle.run_laws.specs.Picture.{IsCertified};
 ghost use Rattle.run_laws.specs.Outcome.{Outcome, IsOutcome, HasOneOutcome};
 ghost use Rattle.run_laws.specs.Promise.{Seen, seen, AreFiles, EndsRight, HasEnded, OpensForStatus, CommandReadFault, LeavesAtReadFault, CommandNoMemory, LeavesAtNoMemory, IsAccepted, is_complete, ends_script, may_end, leaves_engine};
-ghost use Rattle.run_laws.specs.Headline.{IsScriptRunOf, IsRunOf, KeepsGoodMeshes, IsCheckOf, IsCertifiedMesh, IsFitRunOf, KeepsFitMesh};
+ghost use Rattle.run_laws.specs.Moment.{moment};
+ghost use Rattle.run_laws.specs.Statement.{KeepsBestMeshes, CertifiesMesh, TellsCertificates, EndsByStatus, LeavesOutside, IsCaused};
 ghost use Rattle.roam_run.specs.EngineSeen.{engine_seen};
 ghost use Rattle.run_laws.specs.Leaving.{CommandEnds};
 ghost use Rattle.run_words.specs.WordView.{show_for, scripted_seen, command_seen, IsFrameCommand};
@@ -29,7 +27,7 @@ use roam_edge::{MeshSink, Shelf, Sink};
 use run_check::run_check;
 use run_files::{GridStop, end_with_text, grid_report, read_grid, run_info};
 use run_fit::run_fit;
-use run_laws::{Status, cut_short_laws, fitting_laws, run_laws, state_laws};
+use run_laws::{Status, fitting_laws, run_laws, state_laws};
 use run_script::{run_least, run_script};
 use run_words::{Command, FrameWords, Making, Showing, command_in};
 use std::alloc::Global;
@@ -104,25 +102,66 @@ pub fn roam<F: Shelf, M: MeshSink, R: Sink>(
     requires report_faults { R.faults report.old < 2 ^ 64 - 1 }
     requires opens { F.opens shelf.old ≤ 2 ^ 63 }
 
-    // The headline: each finished mesh is a best mesh of the state at its frame line, whatever the status.
-    ensures best { (files : List NamedFile) (all : List Mesh) (run : Scripted) (grid : HeightField) →
-        F.files shelf.old ≡ Some files → M.meshes meshes.old ≡ Some all →
-        IsRunOf (map string_bytes words.now) files run grid →
-        KeepsGoodMeshes run grid (bytes_of files run.script) all (M.meshes meshes.new) result.status }
+    // The meshes: each finished one is a best one, whatever the status; one that is certified is optimal; and what a frame's line
+    // tells of blocking is a certificate.
+    ensures best { KeepsBestMeshes (moment F.Shelf M.MeshSink R.Sink shelf.old meshes.old report.old)
+        (moment F.Shelf M.MeshSink R.Sink shelf.new meshes.new report.new)
+        (map string_bytes words.now) result.status }
+    ensures certified { CertifiesMesh (moment F.Shelf M.MeshSink R.Sink shelf.old meshes.old report.old)
+        (moment F.Shelf M.MeshSink R.Sink shelf.new meshes.new report.new)
+        (map string_bytes words.now) result.status }
+    ensures certificate { TellsCertificates (map string_bytes words.now) }
 
-    // The outcome: what stands after each status.
-    ensures outcome { (files : List NamedFile) → AreFiles (F.files shelf.old) (map string_bytes words.now) files →
-        EndsRight (told (M.meshes meshes.old) (R.contents report.old))
-        (told (M.meshes meshes.new) (R.contents report.new))
-        (seen (F.files shelf.old) (F.rest shelf.old) (F.opens shelf.old) (F.ended shelf.old))
-        (seen (F.files shelf.new) (F.rest shelf.new) (F.opens shelf.new) (F.ended shelf.new))
-        (map string_bytes words.now) files result.status }
+    // What stands after each status, and how the outside and the engine are left.
+    ensures ends { EndsByStatus (moment F.Shelf M.MeshSink R.Sink shelf.old meshes.old report.old)
+        (moment F.Shelf M.MeshSink R.Sink shelf.new meshes.new report.new)
+        (map string_bytes words.now) result.status (option_map engine_seen result.engine) }
+    ensures leaves { LeavesOutside (moment F.Shelf M.MeshSink R.Sink shelf.old meshes.old report.old)
+        (moment F.Shelf M.MeshSink R.Sink shelf.new meshes.new report.new)
+        (map string_bytes words.now) result.status (option_map engine_seen result.engine) }
+
+    // What words and files determine.
     ensures some_outcome { (files : List NamedFile) →
         (end : Outcome) × IsOutcome (map string_bytes words.now) files end }
     ensures one_outcome { (files : List NamedFile) (end other : Outcome) →
         HasOneOutcome (command_of (map string_bytes words.now)) →
         IsOutcome (map string_bytes words.now) files end →
         IsOutcome (map string_bytes words.now) files other → end ≡ other }
+    ensures accepted { (files : List NamedFile) (end : Outcome) →
+        IsAccepted (map string_bytes words.now) files →
+        IsOutcome (map string_bytes words.now) files end → end.status ≡ Status.Done }
+
+    // The causes.
+    ensures causes { IsCaused (moment F.Shelf M.MeshSink R.Sink shelf.old meshes.old report.old)
+        (moment F.Shelf M.MeshSink R.Sink shelf.new meshes.new report.new)
+        (map string_bytes words.now) result.status }
+    ensures untouched { result.status ≡ Status.Usage →
+        (shelf.new ≡ shelf.old) × (meshes.new ≡ meshes.old) × (report.new ≡ report.old) }
+{
+    run_laws();
+    fitting_laws();
+    run_of_words(alloc, words, shelf, meshes, report)
+}
+
+/// Carries out the words of a command line.
+fn run_of_words<F: Shelf, M: MeshSink, R: Sink>(
+    alloc: Global,
+    words: &[String],
+    shelf: &mut F,
+    meshes: &mut M,
+    report: &mut R,
+) -> Run
+    requires idle { M.under_way meshes.old ≡ false }
+    requires shelf_faults { F.faults shelf.old < 2 ^ 64 - 1 }
+    requires mesh_faults { M.faults meshes.old < 2 ^ 64 - 1 }
+    requires report_faults { R.faults report.old < 2 ^ 64 - 1 }
+    requires opens { F.opens shelf.old ≤ 2 ^ 63 }
+    ensures outcome { (files : List NamedFile) → AreFiles (F.files shelf.old) (map string_bytes words.now) files →
+        EndsRight (told (M.meshes meshes.old) (R.contents report.old))
+        (told (M.meshes meshes.new) (R.contents report.new))
+        (seen (F.files shelf.old) (F.rest shelf.old) (F.opens shelf.old) (F.ended shelf.old))
+        (seen (F.files shelf.new) (F.rest shelf.new) (F.opens shelf.new) (F.ended shelf.new))
+        (map string_bytes words.now) files result.status }
     ensures read_fault { result.status ≡ Status.ReadFault →
         LeavesAtReadFault (told (M.meshes meshes.old) (R.contents report.old))
         (told (M.meshes meshes.new) (R.contents report.new))
@@ -135,41 +174,6 @@ pub fn roam<F: Shelf, M: MeshSink, R: Sink>(
         (seen (F.files shelf.old) (F.rest shelf.old) (F.opens shelf.old) (F.ended shelf.old))
         (seen (F.files shelf.new) (F.rest shelf.new) (F.opens shelf.new) (F.ended shelf.new))
         (map string_bytes words.now) }
-    ensures write_fault { (files : List NamedFile) (run : Scripted) (grid : HeightField) →
-        F.files shelf.old ≡ Some files → result.status ≡ Status.WriteFault →
-        IsScriptRunOf (map string_bytes words.now) files run grid → IsTrue (is_by_frame run.show) →
-        LeavesAtWriteFault (told (M.meshes meshes.old) (R.contents report.old))
-        (told (M.meshes meshes.new) (R.contents report.new)) run grid (bytes_of files run.script) }
-    ensures text_fault { (files : List NamedFile) (end : Outcome) (text : List ℕ) →
-        AreFiles (F.files shelf.old) (map string_bytes words.now) files → result.status ≡ Status.WriteFault →
-        HasOneOutcome (command_of (map string_bytes words.now)) →
-        IsOutcome (map string_bytes words.now) files end → end.acts ≡ ReportText text ∷ [] →
-        StandsInText (told (M.meshes meshes.old) (R.contents report.old))
-        (told (M.meshes meshes.new) (R.contents report.new)) [] text }
-    ensures complete { (files : List NamedFile) → AreFiles (F.files shelf.old) (map string_bytes words.now) files →
-        IsAccepted (map string_bytes words.now) files → F.faults shelf.new ≡ F.faults shelf.old →
-        M.faults meshes.new ≡ M.faults meshes.old → R.faults report.new ≡ R.faults report.old →
-        (result.status ≡ Status.Done) ⊎ (result.status ≡ Status.NoMemory) }
-
-    // What a frame's line tells of blocking is a certificate.
-    ensures certificate { (files : List NamedFile) (end : Outcome) → IsTrue (is_some end.engine) →
-        IsOutcome (map string_bytes words.now) files end → All IsCertified end.pictures }
-
-    // A mesh that is certified is optimal: no conforming list of triangles within the budget has a lower worst.
-    ensures certified { (files : List NamedFile) (c : Checking) (grid : HeightField) →
-        F.files shelf.old ≡ Some files → IsCheckOf (map string_bytes words.now) files c grid →
-        result.status ≡ Status.Done → (line : List ℕ) × Grows (R.contents report.old) (R.contents report.new) line
-        × IsCertifiedMesh c grid (bytes_of files c.mesh) line }
-
-    // The mesh of `fit`, if it is finished, has the fewest triangles for the error of the words, or the least error that a mesh of
-    // their budget can have, whatever the status.
-    ensures fitted { (files : List NamedFile) (all : List Mesh) (fitting : Fitting) (grid : HeightField) →
-        F.files shelf.old ≡ Some files → M.meshes meshes.old ≡ Some all →
-        IsFitRunOf (map string_bytes words.now) files fitting grid →
-        KeepsFitMesh fitting grid (told (M.meshes meshes.old) (R.contents report.old))
-        (told (M.meshes meshes.new) (R.contents report.new)) all result.status }
-
-    // The engine that is left.
     ensures engine { IsSome result.engine ↔
         IsTrue (leaves_engine (command_of (map string_bytes words.now)) result.status) }
     ensures engine_end { (files : List NamedFile) (end : Outcome) →
@@ -177,7 +181,6 @@ pub fn roam<F: Shelf, M: MeshSink, R: Sink>(
         IsOutcome (map string_bytes words.now) files end → IsTrue (is_complete result.status) →
         option_map engine_seen result.engine ≡ end.engine }
 
-    // The causes.
     ensures usage { (result.status ≡ Status.Usage) ↔ (command_of (map string_bytes words.now) ≡ None) }
     ensures status { IsTrue (may_end (command_of (map string_bytes words.now)) result.status) }
     ensures untouched { result.status ≡ Status.Usage →
@@ -195,8 +198,6 @@ pub fn roam<F: Shelf, M: MeshSink, R: Sink>(
     ensures idle { result.status ≢ Status.WriteFault → M.under_way meshes.new ≡ false }
 {
     run_laws();
-    cut_short_laws();
-    fitting_laws();
     match command_in(words) {
         None => Run {
             status: Status::Usage,

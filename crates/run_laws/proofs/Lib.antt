@@ -18,3 +18,4 @@ pub mod FitRunLemmas
 pub mod ShownLemmas
 pub mod FileLemmas
 pub mod GridLemmas
+pub mod StatementLemmas

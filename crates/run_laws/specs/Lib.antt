@@ -20,3 +20,6 @@ pub mod Status
 pub mod Maker
 pub mod FileStop
 pub mod Leaving
+pub mod Moment
+pub mod Statement
+pub mod StatementLaws

@@ -8,6 +8,7 @@
 
 mod cut_short;
 mod laws;
+mod statement;
 mod status;
 
 pub use cut_short::cut_short_laws;
@@ -15,4 +16,5 @@ pub use laws::{
     certify_examples, certify_laws, fitting_laws, measure_examples, run_laws, script_examples,
     state_laws, turn_count_laws, walk_laws,
 };
+pub use statement::statement_laws;
 pub use status::Status;

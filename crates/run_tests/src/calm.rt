@@ -6,6 +6,7 @@ ghost use Rattle.run_laws.specs.Promise.{IsAccepted};
 use edge_doubles::CountMeshes;
 use roam_edge::{CalmShelf, MemSink};
 use roam_run::{Status, roam};
+use run_laws::statement_laws;
 use std::alloc::Global;
 
 /// Carries out the words of a command line over borrowed files, counts the meshes, and keeps the report.
@@ -27,5 +28,6 @@ pub fn calm_run(
     ensures read { result ≢ Status.ReadFault }
     ensures write_cause { (result ≡ Status.WriteFault) ↔ (report.old.faults < report.new.faults) }
 {
+    statement_laws();
     roam(alloc, words, shelf, meshes, report).status
 }

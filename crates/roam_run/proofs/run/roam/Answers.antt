@@ -1,97 +1,56 @@
-use Rattle.std.proofs.Common.{◌≡◌, ℕ, List, map, string_bytes, None, sym}
-use Rattle.run_laws.specs.Words.{command_of}
-use Rattle.run_laws.specs.declared.status.Status.TheVariants.{Usage}
-use Rattle.roam_run.proofs.TopLemmas.{files-told, usage-ends, usage-engine, words-end, words-engine, words-left, not-read, not-write, accepted-done, prefix-stands}
+use Rattle.std.proofs.Common.{ℕ, List, map, string_bytes, option_map}
+use Rattle.run_laws.specs.Moment.{moment}
+use Rattle.run_laws.proofs.StatementLemmas.{ends-by-status, is-caused}
+use Rattle.roam_run.specs.EngineSeen.{engine_seen}
+use Rattle.roam_run.proofs.TopLemmas.{left-seen}
 use Rattle.roam_run.proofs.run.roam.Goals as goal
 
--- words that are no command
+pub returns-clause-best : goal.returns-clause-best
+returns-clause-best g c =
+    let run = c.run_of_words in
+    let line : List (List ℕ) = map string_bytes c.args.words.now in
+    record {
+      of_script = λ files all s grid told_files told_meshes is_run.
+          c.run_laws.ensures.headline line files s grid _ _ _ _ all _ is_run told_files told_meshes
+          (run.ensures.outcome files (λ some. told_files)) run.ensures.read_fault run.ensures.no_memory;
+      of_fit = λ files all f grid told_files told_meshes is_run.
+          c.fitting_laws.ensures.fitted line files f grid _ _ _ _ all _ is_run told_meshes
+          (run.ensures.outcome files (λ some. told_files)) run.ensures.read_fault run.ensures.no_memory;
+    }
 
-pub returns-in-None-clause-outcome : goal.returns-in-None-clause-outcome
-returns-in-None-clause-outcome g c files are =
-    let is_none : command_of (map string_bytes c.args.words.now) ≡ None = sym c.in-None.ensures.value in
-    usage-ends _ _ (map string_bytes c.args.words.now) files is_none
-
-pub returns-in-None-clause-engine : goal.returns-in-None-clause-engine
-returns-in-None-clause-engine g c =
-    let is_none : command_of (map string_bytes c.args.words.now) ≡ None = sym c.in-None.ensures.value in
-    words-left (map string_bytes c.args.words.now) None None Usage is_none ((λ e. e), (λ e. e))
-
-pub returns-in-None-clause-engine_end : goal.returns-in-None-clause-engine_end
-returns-in-None-clause-engine_end g c files end are outcome complete =
-    let is_none : command_of (map string_bytes c.args.words.now) ≡ None = sym c.in-None.ensures.value in
-    usage-engine (map string_bytes c.args.words.now) files is_none end outcome
-
-pub returns-in-None-clause-certificate : goal.returns-in-None-clause-certificate
-returns-in-None-clause-certificate g c files end = c.run_laws.ensures.certificate (map string_bytes c.args.words.now) files end
-
-pub returns-in-None-clause-certified : goal.returns-in-None-clause-certified
-returns-in-None-clause-certified g c files check grid told_files is_check done =
+pub returns-clause-certified : goal.returns-clause-certified
+returns-clause-certified g c files check grid told_files is_check done =
     c.run_laws.ensures.certified (map string_bytes c.args.words.now) files check grid _ _ _ _ _ is_check
-    (returns-in-None-clause-outcome g c files (λ some. told_files)) done
+    (c.run_of_words.ensures.outcome files (λ some. told_files)) done
 
-pub returns-in-None-clause-fitted : goal.returns-in-None-clause-fitted
-returns-in-None-clause-fitted g c files all fitting grid told_files told_meshes is_run =
-    c.fitting_laws.ensures.fitted (map string_bytes c.args.words.now) files fitting grid _ _ _ _ all _ is_run told_meshes
-    (returns-in-None-clause-outcome g c files (λ some. told_files)) (λ e. cc) (λ e. cc)
+pub returns-clause-certificate : goal.returns-clause-certificate
+returns-clause-certificate g c = c.run_laws.ensures.certificate (map string_bytes c.args.words.now)
 
--- words of a command
+pub returns-clause-ends : goal.returns-clause-ends
+returns-clause-ends g c =
+    let run = c.run_of_words in
+    ends-by-status (moment g.F.Shelf g.M.MeshSink g.R.Sink c.args.shelf.now c.args.meshes.now c.args.report.now)
+    (moment g.F.Shelf g.M.MeshSink g.R.Sink run.new.shelf run.new.meshes run.new.report) (map string_bytes c.args.words.now)
+    run.result.status (option_map engine_seen run.result.engine) run.ensures.outcome run.ensures.engine_end run.ensures.read_fault
+    run.ensures.no_memory
 
-pub returns-in-Some-clause-outcome : goal.returns-in-Some-clause-outcome
-returns-in-Some-clause-outcome g c files are =
-    let words : List (List ℕ) = map string_bytes c.args.words.now in
-    let is_command = sym c.in-Some.ensures.value in
-    words-end _ _ _ _ words _ is_command files _ _ (c.run_command.ensures.outcome files (files-told _ words files _ is_command are))
+pub returns-clause-leaves : goal.returns-clause-leaves
+returns-clause-leaves g c =
+    let run = c.run_of_words in
+    record {
+      files = run.ensures.files;
+      idle = run.ensures.idle;
+      opens = run.ensures.opens;
+      read_out = run.ensures.done;
+      engine = left-seen run.result.engine _ run.ensures.engine;
+    }
 
-pub returns-in-Some-clause-read_fault : goal.returns-in-Some-clause-read_fault
-returns-in-Some-clause-read_fault g c e =
-    record { command = _; is_command = sym c.in-Some.ensures.value; leaves = c.run_command.ensures.read_fault e }
+pub returns-clause-accepted : goal.returns-clause-accepted
+returns-clause-accepted g c files end = c.run_laws.ensures.done (map string_bytes c.args.words.now) files end
 
-pub returns-in-Some-clause-no_memory : goal.returns-in-Some-clause-no_memory
-returns-in-Some-clause-no_memory g c e =
-    record { command = _; is_command = sym c.in-Some.ensures.value; leaves = c.run_command.ensures.no_memory e }
-
-pub returns-in-Some-clause-best : goal.returns-in-Some-clause-best
-returns-in-Some-clause-best g c files all run grid told_files told_meshes is_run =
-    c.run_laws.ensures.headline (map string_bytes c.args.words.now) files run grid _ _ _ _ all _ is_run told_files told_meshes
-    (returns-in-Some-clause-outcome g c files (λ some. told_files)) (returns-in-Some-clause-read_fault g c) (returns-in-Some-clause-no_memory g c)
-
-pub returns-in-Some-clause-write_fault : goal.returns-in-Some-clause-write_fault
-returns-in-Some-clause-write_fault g c files run grid told_files failed is_run by_frame =
-    c.cut_short_laws.ensures.write_faults _ _ _ _ (map string_bytes c.args.words.now) files run grid _
-    (returns-in-Some-clause-outcome g c files (λ some. told_files)) failed is_run by_frame
-
-pub returns-in-Some-clause-text_fault : goal.returns-in-Some-clause-text_fault
-returns-in-Some-clause-text_fault g c files end text are failed one outcome acts =
-    prefix-stands c.cut_short_laws.ensures.texts c.run_laws.ensures.one_outcome _ _ _ _ (map string_bytes c.args.words.now) files _
-    (returns-in-Some-clause-outcome g c files are) failed one end text outcome acts
-
-pub returns-in-Some-clause-complete : goal.returns-in-Some-clause-complete
-returns-in-Some-clause-complete g c files are accepted shelf_same meshes_same report_same =
-    let cause = c.run_command.ensures.faults in
-    accepted-done c.run_laws.ensures.done _ _ _ _ (map string_bytes c.args.words.now) files accepted _ (returns-in-Some-clause-outcome g c files are)
-    (not-read _ _ _ _ _ _ _ c.requires.shelf_faults shelf_same cause)
-    (not-write _ _ _ _ _ _ _ c.requires.mesh_faults c.requires.report_faults meshes_same report_same cause)
-
-pub returns-in-Some-clause-certificate : goal.returns-in-Some-clause-certificate
-returns-in-Some-clause-certificate g c files end = c.run_laws.ensures.certificate (map string_bytes c.args.words.now) files end
-
-pub returns-in-Some-clause-certified : goal.returns-in-Some-clause-certified
-returns-in-Some-clause-certified g c files check grid told_files is_check done =
-    c.run_laws.ensures.certified (map string_bytes c.args.words.now) files check grid _ _ _ _ _ is_check
-    (returns-in-Some-clause-outcome g c files (λ some. told_files)) done
-
-pub returns-in-Some-clause-fitted : goal.returns-in-Some-clause-fitted
-returns-in-Some-clause-fitted g c files all fitting grid told_files told_meshes is_run =
-    c.fitting_laws.ensures.fitted (map string_bytes c.args.words.now) files fitting grid _ _ _ _ all _ is_run told_meshes
-    (returns-in-Some-clause-outcome g c files (λ some. told_files)) (returns-in-Some-clause-read_fault g c) (returns-in-Some-clause-no_memory g c)
-
-pub returns-in-Some-clause-engine : goal.returns-in-Some-clause-engine
-returns-in-Some-clause-engine g c =
-    words-left (map string_bytes c.args.words.now) _ _ _ (sym c.in-Some.ensures.value) c.run_command.ensures.engine
-
-pub returns-in-Some-clause-engine_end : goal.returns-in-Some-clause-engine_end
-returns-in-Some-clause-engine_end g c files end are is_outcome complete =
-    let words : List (List ℕ) = map string_bytes c.args.words.now in
-    let is_command = sym c.in-Some.ensures.value in
-    words-engine _ _ _ _ words _ is_command c.run_laws.ensures.one_engine files _ _
-    (c.run_command.ensures.outcome files (files-told _ words files _ is_command are)) end is_outcome complete
+pub returns-clause-causes : goal.returns-clause-causes
+returns-clause-causes g c =
+    let run = c.run_of_words in
+    is-caused (moment g.F.Shelf g.M.MeshSink g.R.Sink c.args.shelf.now c.args.meshes.now c.args.report.now)
+    (moment g.F.Shelf g.M.MeshSink g.R.Sink run.new.shelf run.new.meshes run.new.report) (map string_bytes c.args.words.now)
+    run.result.status run.ensures.status run.ensures.usage run.ensures.read_cause run.ensures.write_cause run.ensures.faults

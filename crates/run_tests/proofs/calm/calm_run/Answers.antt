@@ -4,12 +4,13 @@ use Rattle.run_tests.proofs.calm.calm_run.Goals as goal
 
 pub returns-clause-complete : goal.returns-clause-complete
 returns-clause-complete c accepted =
-    let no_read = calm-read _ c.roam.ensures.read_cause in
-    calm-complete _ _ _ no_read c.roam.ensures.faults.writes
-    (λ same. c.roam.ensures.complete _ (λ named. refl) accepted refl refl same)
+    let cause = c.roam.ensures.causes in
+    let faults = c.statement_laws.ensures.faults _ _ _ _ cause in
+    calm-complete _ _ _ (calm-read _ cause.read) faults.writes
+    (λ same. c.statement_laws.ensures.complete _ _ _ _ _ _ c.roam.ensures.ends cause (λ named. refl) accepted refl refl same)
 
 pub returns-clause-read : goal.returns-clause-read
-returns-clause-read c = calm-read _ c.roam.ensures.read_cause
+returns-clause-read c = calm-read _ c.roam.ensures.causes.read
 
 pub returns-clause-write_cause : goal.returns-clause-write_cause
-returns-clause-write_cause c = calm-write _ _ _ c.roam.ensures.write_cause
+returns-clause-write_cause c = calm-write _ _ _ c.roam.ensures.causes.write

@@ -1,0 +1,195 @@
+-- What a run promises: how it follows from what its commands promise, and what follows from it.
+use Rattle.std.proofs.Common.{◌≡◌, ◌≢◌, ◌⊎◌, ◌↔◌, ℕ, ◌<◌, ◌≤◌, false, true, IsTrue, List, [], ◌∷◌, Option, None, refl, sym, ◌∙◌, ap, subst, inl, inr, arith}
+use Rattle.roam_edge.specs.Shelf.{NamedFile}
+use Rattle.run_laws.specs.declared.status.Status.{Status}
+use Rattle.run_laws.specs.declared.status.Status.TheVariants.{Done, NoMemory, Usage, GridRefused, ScriptRefused, ReadFault, WriteFault, Rejected}
+use Rattle.run_laws.specs.Words.{command_of}
+use Rattle.run_laws.specs.Act.{Act, ReportText, IsCutShort}
+use Rattle.run_laws.specs.Cause.{StatusHasCause}
+use Rattle.run_laws.specs.Outcome.{EngineEnd, Outcome, IsOutcome}
+use Rattle.run_laws.specs.Promise.{AreFiles, EndsRight, is_complete, may_end, LeavesAtReadFault, LeavesAtNoMemory}
+use Rattle.run_laws.specs.CutShort.{CutTextsStand, WriteFaultsStand}
+use Rattle.run_laws.specs.Laws.{AcceptedIsDone, OutcomesAreUnique, EnginesAreUnique}
+use Rattle.run_laws.specs.Moment.{Moment}
+use Rattle.run_laws.specs.Statement.{EndsByStatus, IsCaused}
+use Rattle.run_laws.specs.StatementLaws.{OutcomeFollows, EngineFollows, RunFaultFollows, TextFaultFollows, CompleteFollows, FaultsFollow}
+use Rattle.run_laws.proofs.GridLemmas.{not-complete}
+
+-- From what a command promises.
+
+other-status : (status other : Status) → status ≡ WriteFault → other ≢ WriteFault → status ≢ other
+other-status status other failed not same = not (sym same ∙ failed)
+
+-- a status is a failed read or none
+by-read : (A : Type 0) (status : Status) → (status ≡ ReadFault → A) → (status ≢ ReadFault → A) → A
+by-read A Done is not = not (λ e. cc)
+by-read A NoMemory is not = not (λ e. cc)
+by-read A Usage is not = not (λ e. cc)
+by-read A GridRefused is not = not (λ e. cc)
+by-read A ScriptRefused is not = not (λ e. cc)
+by-read A ReadFault is not = is refl
+by-read A WriteFault is not = not (λ e. cc)
+by-read A Rejected is not = not (λ e. cc)
+
+-- a status is a failed write or none
+by-write : (A : Type 0) (status : Status) → (status ≡ WriteFault → A) → (status ≢ WriteFault → A) → A
+by-write A Done is not = not (λ e. cc)
+by-write A NoMemory is not = not (λ e. cc)
+by-write A Usage is not = not (λ e. cc)
+by-write A GridRefused is not = not (λ e. cc)
+by-write A ScriptRefused is not = not (λ e. cc)
+by-write A ReadFault is not = not (λ e. cc)
+by-write A WriteFault is not = is refl
+by-write A Rejected is not = not (λ e. cc)
+
+least-same : (a b : ℕ) → b ≡ a → a ≤ b
+least-same a b same = omega (arith, same)
+
+least-less : (a b : ℕ) → a < b → a ≤ b
+least-less a b less = omega (arith, less)
+
+module _ (before now : Moment) (words : List (List ℕ)) (status : Status) where
+  -- how a run ends, from its outcome and the engine that the outcome tells of
+  pub ends-by-status : (left : Option EngineEnd)
+      → ((files : List NamedFile) → AreFiles before.shelf.files words files → EndsRight before.sinks now.sinks before.shelf now.shelf words files status)
+      → ((files : List NamedFile) (end : Outcome) → AreFiles before.shelf.files words files → IsOutcome words files end → IsTrue (is_complete status) → left ≡ end.engine)
+      → (status ≡ ReadFault → LeavesAtReadFault before.sinks now.sinks before.shelf now.shelf words)
+      → (status ≡ NoMemory → LeavesAtNoMemory before.sinks now.sinks before.shelf now.shelf words) → EndsByStatus before now words status left
+  ends-by-status left outcome engine read memory = record {
+    complete = λ is files are.
+        let e = (outcome files are).ends (not-complete status NoMemory refl is) (not-complete status ReadFault refl is) in
+        let all = e.2.complete is in
+        record { end = e.0; is_outcome = e.1; ends_so = all.1; stands = all.0; opened = e.2.opened; engine = engine files e.0 are e.1 is };
+    write_fault = λ is files are.
+        let e = (outcome files are).ends (other-status status NoMemory is (λ e. cc)) (other-status status ReadFault is (λ e. cc)) in
+        record { end = e.0; is_outcome = e.1; cut_short = e.2.cut_short is; opened = e.2.opened };
+    read_fault = read;
+    no_memory = memory;
+  }
+
+  -- that the status has its cause, from the counts of faults
+  pub is-caused : IsTrue (may_end (command_of words) status) → (status ≡ Usage) ↔ (command_of words ≡ None)
+      → (status ≡ ReadFault) ↔ (before.shelf_faults < now.shelf_faults)
+      → (status ≡ WriteFault) ↔ ((before.mesh_faults < now.mesh_faults) ⊎ (before.report_faults < now.report_faults))
+      → StatusHasCause before.shelf_faults now.shelf_faults before.mesh_faults now.mesh_faults before.report_faults now.report_faults status
+      → IsCaused before now words status
+  is-caused allows none read_cause write_cause cause = record {
+    allowed = allows;
+    usage = none;
+    read = read_cause;
+    write = write_cause;
+    shelf_later = by-read (before.shelf_faults ≤ now.shelf_faults) status (λ is. least-less _ _ (read_cause.0 is)) (λ not. least-same _ _ (cause.not_read not));
+    mesh_later = by-write (before.mesh_faults ≤ now.mesh_faults) status (λ is. (cause.writes.write is).meshes_later)
+        (λ not. least-same _ _ (cause.writes.not_write not).meshes_same);
+    report_later = by-write (before.report_faults ≤ now.report_faults) status (λ is. (cause.writes.write is).report_later)
+        (λ not. least-same _ _ (cause.writes.not_write not).report_same);
+  }
+
+-- What follows.
+
+not-true : false ≡ true → ⊥
+not-true e = cc
+
+module _ (before now : Moment) (words : List (List ℕ)) (left : Option EngineEnd) (files : List NamedFile) (are : AreFiles before.shelf.files words files) where
+  abbrev Right : Status → Type 0
+  Right status = EndsRight before.sinks now.sinks before.shelf now.shelf words files status
+
+  all-right : (status : Status) → IsTrue (is_complete status) → status ≢ WriteFault → EndsByStatus before now words status left → Right status
+  all-right status is not ends =
+      let d = ends.complete is files are in
+      record {
+        ends = λ m r. (
+          d.end,
+          d.is_outcome,
+          record {
+            opened = d.opened;
+            complete = λ whole. (d.stands, d.ends_so);
+            cut_short = λ failed. absurd (not failed);
+          },
+        );
+      }
+
+  cut-right : EndsByStatus before now words WriteFault left → Right WriteFault
+  cut-right ends =
+      let d = ends.write_fault refl files are in
+      record {
+        ends = λ m r. (
+          d.end,
+          d.is_outcome,
+          record {
+            opened = d.opened;
+            complete = λ whole. absurd (not-true whole);
+            cut_short = λ failed. d.cut_short;
+          },
+        );
+      }
+
+  right : (status : Status) → EndsByStatus before now words status left → Right status
+  right Done ends = all-right Done refl (λ e. cc) ends
+  right NoMemory ends = record { ends = λ m r. absurd (m refl) }
+  right Usage ends = all-right Usage refl (λ e. cc) ends
+  right GridRefused ends = all-right GridRefused refl (λ e. cc) ends
+  right ScriptRefused ends = all-right ScriptRefused refl (λ e. cc) ends
+  right ReadFault ends = record { ends = λ m r. absurd (r refl) }
+  right WriteFault ends = cut-right ends
+  right Rejected ends = all-right Rejected refl (λ e. cc) ends
+
+pub outcome-follows : OutcomeFollows
+outcome-follows before now words status left files ends are = right before now words left files are status ends
+
+pub engine-follows : EnginesAreUnique → EngineFollows
+engine-follows unique before now words status left files ends are end is complete =
+    let d = ends.complete complete files are in
+    d.engine ∙ unique words files d.end end d.is_outcome is
+
+pub run-fault-follows : WriteFaultsStand → RunFaultFollows
+run-fault-follows stand before now words status left files s grid ends told failed run by_frame =
+    stand before.sinks now.sinks before.shelf now.shelf words files s grid status
+    (outcome-follows before now words status left files ends (λ some. told)) failed run by_frame
+
+pub text-fault-follows : CutTextsStand → OutcomesAreUnique → TextFaultFollows
+text-fault-follows stand unique before now words status left files ends are failed one end text is acts =
+    let d = ends.write_fault failed files are in
+    let same : d.end.acts ≡ ReportText text ∷ [] = ap (λ (o : Outcome). o.acts) (unique words files d.end end one d.is_outcome is) ∙ acts in
+    stand before.sinks now.sinks text (subst (λ (a : List Act). IsCutShort before.sinks now.sinks a) same d.cut_short)
+
+not-less : (a b : ℕ) → b ≡ a → a < b → ⊥
+not-less a b same less = omega (arith, same, less)
+
+module _ (done : AcceptedIsDone) where
+  pub complete-follows : CompleteFollows
+  complete-follows before now words Done left files ends cause are accepted shelf meshes report = inl refl
+  complete-follows before now words NoMemory left files ends cause are accepted shelf meshes report = inr refl
+  complete-follows before now words ReadFault left files ends cause are accepted shelf meshes report = absurd (not-less _ _ shelf (cause.read.0 refl))
+  complete-follows before now words WriteFault left files ends cause are accepted shelf meshes report = elim (cause.write.0 refl) [
+    | inl less ↦ absurd (not-less _ _ meshes less)
+    | inr less ↦ absurd (not-less _ _ report less)
+  ]
+  complete-follows before now words Usage left files ends cause are accepted shelf meshes report =
+      let d = ends.complete refl files are in inl (d.ends_so ∙ done words files d.end accepted d.is_outcome)
+  complete-follows before now words GridRefused left files ends cause are accepted shelf meshes report =
+      let d = ends.complete refl files are in inl (d.ends_so ∙ done words files d.end accepted d.is_outcome)
+  complete-follows before now words ScriptRefused left files ends cause are accepted shelf meshes report =
+      let d = ends.complete refl files are in inl (d.ends_so ∙ done words files d.end accepted d.is_outcome)
+  complete-follows before now words Rejected left files ends cause are accepted shelf meshes report =
+      let d = ends.complete refl files are in inl (d.ends_so ∙ done words files d.end accepted d.is_outcome)
+
+unmoved : (a b : ℕ) → a ≤ b → ((a < b) → ⊥) → b ≡ a
+unmoved a b later not = omega (arith, later, not)
+
+pub faults-follow : FaultsFollow
+faults-follow before now words status cause = record {
+  read = λ is. (let less = cause.read.0 is in omega (arith, less));
+  not_read = λ not. unmoved _ _ cause.shelf_later (λ less. not (cause.read.1 less));
+  writes = record {
+    write = λ is. record {
+      meshes_later = cause.mesh_later;
+      report_later = cause.report_later;
+      cause = elim (cause.write.0 is) [ inl less ↦ inl (omega (arith, less)) | inr less ↦ inr (omega (arith, less)) ];
+    };
+    not_write = λ not. record {
+      meshes_same = unmoved _ _ cause.mesh_later (λ less. not (cause.write.1 (inl less)));
+      report_same = unmoved _ _ cause.report_later (λ less. not (cause.write.1 (inr less)));
+    };
+  };
+}
