@@ -11,6 +11,8 @@ mod certificates;
 #[cfg(test)]
 mod fit;
 #[cfg(test)]
+mod fit_certificates;
+#[cfg(test)]
 mod hill;
 #[cfg(test)]
 mod least_frames;

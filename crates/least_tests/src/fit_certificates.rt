@@ -1,0 +1,151 @@
+//! Certificates of fitted meshes of small grids for `fit_certify`, worked by hand.
+//!
+//! A reason is an address, a column and a row.
+
+ghost use Rattle.std.specs.Prelude.{◌≤◌, IfOk, length};
+ghost use Rattle.fit_certificate_laws.specs.declared.limits.TheConstants.{MOST_REASONS};
+
+use bintree_addr::Tri;
+use fit_certify::{FitCert, MOST_REASONS, Off, Reject, Target, Verdict, check};
+use pgm_grid::Grid;
+use std::alloc::Global;
+use std::test::Fail;
+
+/// The reasons of these rows.
+fn reasons(alloc: Global, rows: &[(u32, u32, u32)]) -> Result<Vec<Off>, Fail>
+    ensures { IfOk result (λ v. length v.items ≤ MOST_REASONS) }
+{
+    let mut reasons = Vec::new(alloc);
+    for (address, x, y) in rows {
+        let triangle = Tri::new(*address).ok_or("an address")?;
+        reasons.push(Off {
+            triangle,
+            x: *x,
+            y: *y,
+        })?;
+    }
+    if reasons.len() > MOST_REASONS {
+        return Err("not too many reasons".into());
+    }
+    Ok(reasons)
+}
+
+/// Nine points, the middle one of height 10: each half is off by 20 there, and no quarter is off.
+fn peak(alloc: Global) -> Result<Grid, Fail> {
+    let mut grid = Grid::flat(alloc, 1, 65535)?;
+    grid.put(1, 1, 10);
+    Ok(grid)
+}
+
+/// Five points a side, the lower left corner of height 1.
+fn corner(alloc: Global) -> Result<Grid, Fail> {
+    let mut grid = Grid::flat(alloc, 2, 65535)?;
+    grid.put(0, 0, 1);
+    Ok(grid)
+}
+
+/// A tolerance, and the reasons before the mesh and behind it.
+type Parts<'a> = (u32, &'a [(u32, u32, u32)], &'a [(u32, u32, u32)]);
+
+/// The verdict on the certificate of these parts.
+fn verdict_on(alloc: Global, grid: &Grid, parts: Parts, target: Target) -> Result<Verdict, Fail> {
+    let (tolerance, needed, beyond) = parts;
+    let cert = FitCert::new(tolerance, reasons(alloc, needed)?, reasons(alloc, beyond)?);
+    Ok(check(alloc, grid, &cert, target)?)
+}
+
+/// The verdict that a certificate is sound.
+fn certified(triangles: u32, deviation: u32) -> Verdict {
+    Verdict::Certified {
+        triangles,
+        deviation,
+    }
+}
+
+/// The target of an error.
+fn error(tolerance: u32) -> Target {
+    Target::Error { tolerance }
+}
+
+/// The target of a budget.
+fn budget(triangles: u32) -> Target {
+    Target::Budget { triangles }
+}
+
+// With 2 split, its mate 3 is.
+#[test]
+fn a_peak_is_certified_for_errors_and_budgets(rt: HostRuntime) -> Result<(), Fail> {
+    let grid = peak(rt.alloc())?;
+    let top = [(2, 1, 1)];
+    let cases: [(Parts, Target, Verdict); 7] = [
+        ((20, &[], &[]), error(20), certified(2, 20)),
+        ((20, &[], &top), error(20), certified(2, 20)),
+        ((19, &top, &[]), error(19), certified(4, 0)),
+        ((0, &top, &[]), error(0), certified(4, 0)),
+        ((20, &[], &top), budget(2), certified(2, 20)),
+        ((20, &[], &top), budget(3), certified(2, 20)),
+        ((0, &top, &[]), budget(4), certified(4, 0)),
+    ];
+    for (parts, target, verdict) in cases {
+        assert_eq!(rt;
+            verdict_on(rt.alloc(), &grid, parts, target)?,
+            verdict,
+            "{target:?}"
+        );
+    }
+    Ok(())
+}
+
+// 2 holds no point above the falling diagonal, 4 is a finest triangle, and 3 is split with 2.
+#[test]
+fn each_test_that_fails_is_told(rt: HostRuntime) -> Result<(), Fail> {
+    let grid = peak(rt.alloc())?;
+    let top = [(2, 1, 1)];
+    let first = Reject::BadReason { index: 1 };
+    let second = Reject::BadReason { index: 2 };
+    let cases: [(Parts, Target, Reject); 11] = [
+        ((19, &top, &[]), error(18), Reject::OtherTolerance),
+        ((20, &top, &[]), error(20), first),
+        ((0, &[(2, 2, 2)], &[]), error(0), first),
+        ((0, &[(2, 3, 0)], &[]), error(0), first),
+        ((0, &[(2, 1, 0)], &[]), error(0), first),
+        ((0, &[(4, 1, 1)], &[]), error(0), first),
+        ((0, &[(2, 1, 1), (3, 1, 1)], &[]), error(0), second),
+        ((19, &top, &[(3, 1, 1)]), error(19), second),
+        ((19, &[], &top), error(19), Reject::OverTolerance),
+        ((0, &top, &[]), budget(3), Reject::OverBudget),
+        ((20, &[], &top), budget(4), Reject::TooFewReasons),
+    ];
+    for (parts, target, why) in cases {
+        let verdict = verdict_on(rt.alloc(), &grid, parts, target)?;
+        assert_eq!(rt; verdict, Verdict::Rejected { why }, "{why:?} {target:?}");
+    }
+    Ok(())
+}
+
+// 4 and 5 are leaves only once 2 is split.
+#[test]
+fn reasons_make_leaves_for_those_behind_them(rt: HostRuntime) -> Result<(), Fail> {
+    let grid = corner(rt.alloc())?;
+    let made = [(2, 1, 0), (4, 1, 0), (5, 0, 1)];
+    let turned = [(4, 1, 0), (2, 1, 0), (5, 0, 1)];
+    let cases: [(Parts, Target, Verdict); 3] = [
+        ((2, &made, &[]), error(2), certified(6, 2)),
+        ((3, &[], &made), budget(5), certified(2, 3)),
+        (
+            (2, &turned, &[]),
+            error(2),
+            Verdict::Rejected {
+                why: Reject::BadReason { index: 1 },
+            },
+        ),
+    ];
+    for (parts, target, verdict) in cases {
+        assert_eq!(rt;
+            verdict_on(rt.alloc(), &grid, parts, target)?,
+            verdict,
+            "{target:?}"
+        );
+    }
+    Ok(())
+}
