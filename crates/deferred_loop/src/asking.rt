@@ -24,6 +24,7 @@ pub fn settle_first<M: QueuedMesh, G: Gauge>(mesh: &mut M, gauge: &mut G) -> Opt
     requires within { leaf_count w.n (M.seen mesh.old).set.members ≤ w.budget }
     ensures told { G.told gauge.new ≡ G.told gauge.old }
     ensures readings { G.readings gauge.new ≡ G.readings gauge.old }
+    ensures log { M.log mesh.new ≡ M.log mesh.old }
     ensures asked { IsAskedOnly w (M.seen mesh.old) (M.seen mesh.new) (G.count gauge.old) (G.count gauge.new) }
     ensures first { MatchOption result
         (All (λ a. w.priority a ≡ 0) (leaves_of w.n (among (M.seen mesh.old).set.members)))
@@ -58,6 +59,7 @@ pub fn settle_last<M: QueuedMesh, G: Gauge>(
     requires allowed { IsAllowed w (M.seen mesh.old).set.members limit.now }
     ensures told { G.told gauge.new ≡ G.told gauge.old }
     ensures readings { G.readings gauge.new ≡ G.readings gauge.old }
+    ensures log { M.log mesh.new ≡ M.log mesh.old }
     ensures asked { IsAskedOnly w (M.seen mesh.old) (M.seen mesh.new) (G.count gauge.old) (G.count gauge.new) }
     ensures last { MatchOption result
         (IsNoneMet w (M.seen mesh.old).set.members limit.now)

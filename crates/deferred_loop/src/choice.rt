@@ -24,6 +24,7 @@ fn choose_over<M: QueuedMesh, G: Gauge>(mesh: &mut M, gauge: &mut G) -> Next
     requires over { w.budget < leaf_count w.n (M.seen mesh.old).set.members }
     ensures told { G.told gauge.new ≡ G.told gauge.old }
     ensures readings { G.readings gauge.new ≡ G.readings gauge.old }
+    ensures log { M.log mesh.new ≡ M.log mesh.old }
     ensures asked { IsAskedOnly w (M.seen mesh.old) (M.seen mesh.new) (G.count gauge.old) (G.count gauge.new) }
     ensures next { IsNext w.n w.budget w.priority (M.seen mesh.old).set.members result }
 {
@@ -52,6 +53,7 @@ fn choose_with<M: QueuedMesh, G: Gauge>(
     requires first { IsFirstRank w.n w.priority (M.seen mesh.old).set.members first.now }
     ensures told { G.told gauge.new ≡ G.told gauge.old }
     ensures readings { G.readings gauge.new ≡ G.readings gauge.old }
+    ensures log { M.log mesh.new ≡ M.log mesh.old }
     ensures asked { IsAskedOnly w (M.seen mesh.old) (M.seen mesh.new) (G.count gauge.old) (G.count gauge.new) }
     ensures split { SplitsUnasked result (M.seen mesh.old) (M.seen mesh.new) (G.count gauge.old) (G.count gauge.new) }
     ensures next { IsNext w.n w.budget w.priority (M.seen mesh.old).set.members result }
@@ -82,6 +84,7 @@ fn choose_without<M: QueuedMesh, G: Gauge>(mesh: &mut M, gauge: &mut G) -> Next
     requires none { All (λ a. w.priority a ≡ 0) (leaves_of w.n (among (M.seen mesh.old).set.members)) }
     ensures told { G.told gauge.new ≡ G.told gauge.old }
     ensures readings { G.readings gauge.new ≡ G.readings gauge.old }
+    ensures log { M.log mesh.new ≡ M.log mesh.old }
     ensures asked { IsAskedOnly w (M.seen mesh.old) (M.seen mesh.new) (G.count gauge.old) (G.count gauge.new) }
     ensures next { IsNext w.n w.budget w.priority (M.seen mesh.old).set.members result }
 {
@@ -103,6 +106,7 @@ pub fn choose<M: QueuedMesh, G: Gauge>(mesh: &mut M, gauge: &mut G, budget: u32)
     requires budget { budget ≡ w.budget }
     ensures told { G.told gauge.new ≡ G.told gauge.old }
     ensures readings { G.readings gauge.new ≡ G.readings gauge.old }
+    ensures log { M.log mesh.new ≡ M.log mesh.old }
     ensures asked { IsAskedOnly w (M.seen mesh.old) (M.seen mesh.new) (G.count gauge.old) (G.count gauge.new) }
     ensures next { IsNext w.n w.budget w.priority (M.seen mesh.old).set.members result }
 {

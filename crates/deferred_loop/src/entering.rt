@@ -6,6 +6,7 @@ ghost use Rattle.mesh_defs.specs.ClosedSet.{among};
 ghost use Rattle.frame_steps.specs.Deferred.{DeferredFrame, IsDeferredFrame};
 ghost use Rattle.frame_steps.specs.Stamps.{ReadingsHold};
 ghost use Rattle.deferred_loop.specs.Seen.{SeenMesh, IsQuiet};
+ghost use Rattle.deferred_loop.specs.Log.{emptied};
 ghost use Rattle.deferred_loop.specs.Kept.{told_of, IsFrameOf, IsSound, IsSettled, IsCharged, IsCaughtUp, IsStamped};
 
 use crate::gauge::Gauge;
@@ -22,6 +23,7 @@ pub fn enter_fresh<M: QueuedMesh, G: Gauge>(mesh: &mut M, gauge: &mut G, odomete
     requires far { odometer ≤ 2 ^ 62 }
     ensures told { G.told gauge.new ≡ G.told gauge.old }
     ensures readings { G.readings gauge.new ≡ G.readings gauge.old }
+    ensures log { M.log mesh.new ≡ M.log mesh.old }
     ensures entered { IsCaughtUp w (G.readings gauge.old) odometer (M.seen mesh.old) (M.seen mesh.new) }
     ensures most { G.count gauge.new ≤ G.count gauge.old + length (M.seen mesh.old).fresh }
     ensures least { G.count gauge.new < 2 ^ 64 - 1 → G.count gauge.old + length (M.seen mesh.old).fresh ≤ G.count gauge.new }
@@ -46,6 +48,7 @@ pub fn begin_frame<M: QueuedMesh, G: Gauge>(mesh: &mut M, gauge: &mut G, odomete
     requires far { odometer ≤ 2 ^ 62 }
     ensures told { G.told gauge.new ≡ G.told gauge.old }
     ensures readings { G.readings gauge.new ≡ G.readings gauge.old }
+    ensures log { M.log mesh.new ≡ emptied (M.log mesh.old) }
     ensures set { (M.seen mesh.new).set ≡ (M.seen mesh.old).set }
     ensures settled { IsSettled w (M.seen mesh.new) }
     ensures charged { IsCharged w (G.count gauge.old) (M.seen mesh.new) 0 0 (G.count gauge.new) }

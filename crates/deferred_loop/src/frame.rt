@@ -10,6 +10,7 @@ ghost use Rattle.closure_laws.specs.Frame.{IsFrame};
 ghost use Rattle.frame_steps.specs.Stamps.{StampsHold, ReadingsHold};
 ghost use Rattle.deferred_loop.specs.Choice.{IsSparing};
 ghost use Rattle.deferred_loop.specs.Seen.{SeenMesh, IsQuiet, HasRoom, IsCountedBy};
+ghost use Rattle.deferred_loop.specs.Log.{emptied, IsLogged, IsFrameLog};
 ghost use Rattle.deferred_loop.specs.Kept.{told_of, IsFrameOf, IsStamped};
 ghost use Rattle.deferred_loop.specs.Promise.{IsAtMost, IsAtLeast, AreStampsGood};
 
@@ -54,6 +55,7 @@ fn advance_over<M: QueuedMesh, G: Gauge>(
     requires counters { ((M.seen mesh.old).set.splits < 2 ^ 61) × ((M.seen mesh.old).set.merges < 2 ^ 61) }
     ensures told { G.told gauge.new ≡ G.told gauge.old }
     ensures readings { G.readings gauge.new ≡ G.readings gauge.old }
+    ensures log { IsLogged (M.seen mesh.old).set (M.seen mesh.new).set (emptied (M.log mesh.old)) (M.log mesh.new) }
     ensures grid { (M.seen mesh.new).set.n ≡ w.n }
     ensures quiet { IsQuiet (M.seen mesh.new) }
     ensures counted { G.count gauge.new < 2 ^ 64 - 1 }
@@ -88,6 +90,7 @@ fn advance_over<M: QueuedMesh, G: Gauge>(
 ///
 /// `run` and `frame`: the set is the rank closure of the budget, reached by the steps of the frame. `sparing`: it changes no
 /// more than it must. `most` and `least`: how often the gauge was asked. `stamps`: each entry has a stamp that is not due.
+/// `changed`: the log has each triangle whose membership differs.
 pub fn advance<M: QueuedMesh, G: Gauge>(
     mesh: &mut M,
     gauge: &mut G,
@@ -122,6 +125,8 @@ pub fn advance<M: QueuedMesh, G: Gauge>(
         (result.splits + result.merges) (G.count gauge.old) (G.count gauge.new) }
     ensures least { IsAtLeast (M.seen mesh.old) (M.seen mesh.new) (G.count gauge.old) (G.count gauge.new) }
     ensures stamps { AreStampsGood (G.readings gauge.old) odometer (M.seen mesh.old) (M.seen mesh.new) }
+    ensures changed { IsFrameLog (M.seen mesh.old).set.members (M.seen mesh.new).set.members
+        (result.splits + result.merges) (M.log mesh.old) (M.log mesh.new) }
 {
     advance_over(mesh, gauge, budget, odometer)
 }

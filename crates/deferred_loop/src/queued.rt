@@ -9,6 +9,7 @@ ghost use Rattle.closure_laws.specs.Diamond.{CanMerge};
 ghost use Rattle.frame_steps.specs.Steps.{leaf_count};
 ghost use Rattle.frame_steps.specs.Deferred.{IsEntry};
 ghost use Rattle.deferred_loop.specs.Seen.{SeenMesh, IsHead, IsLastHead, IsTold, IsEntered, IsSplitOf, IsMergeOf, IsBegun, IsForgotten, IsQuiet};
+ghost use Rattle.deferred_loop.specs.Log.{Log, emptied, IsLogged};
 
 use crate::gauge::Reading;
 use bintree_addr::{Rank, Tri};
@@ -34,9 +35,12 @@ pub struct Last {
 /// A mesh with its queues and stamps.
 ///
 /// It learns a priority only where it is told one, so no clause speaks of a gauge. A leaf stands in the split queue under
-/// the best that its priority can be, a diamond in the merge queue under the worst; the fresh entries stand in neither.
+/// the best that its priority can be, a diamond in the merge queue under the worst; the fresh entries stand in neither. Its
+/// log lists the triangles that steps split or merge, from `begin` on.
 pub trait QueuedMesh {
     ghost seen: { Self → SeenMesh };
+
+    ghost log: { Self → Log };
 
     fn leaf_count(&self) -> u32
         ensures { result ≡ leaf_count (seen self.now).set.n (seen self.now).set.members };
@@ -63,7 +67,8 @@ pub trait QueuedMesh {
         requires settled { (seen self.old).fresh ≡ [] }
         requires entry { IsEntry (seen self.old).set.n (among (seen self.old).set.members) rank.tri }
         requires unknown { (seen self.old).known rank.tri ≡ false }
-        ensures { IsTold (seen self.old) (seen self.new) rank };
+        ensures told { IsTold (seen self.old) (seen self.new) rank }
+        ensures log { log self.new ≡ log self.old };
 
     fn next_fresh(&self) -> Option<Tri>
         ensures { MatchOption result
@@ -77,9 +82,10 @@ pub trait QueuedMesh {
         requires small { reading.now.slack ≤ 2 ^ 32 }
         requires hi { reading.now.hi.tri ≡ t }
         requires lo { reading.now.lo.tri ≡ t }
-        ensures { IsEntered (seen self.old) (seen self.new) t reading.now odometer };
+        ensures entered { IsEntered (seen self.old) (seen self.new) t reading.now odometer }
+        ensures log { log self.new ≡ log self.old };
 
-    /// Splits a leaf with what it forces.
+    /// Splits a leaf with what it forces, and logs what was split.
     fn split(&mut self, t: Tri)
         requires settled { (seen self.old).fresh ≡ [] }
         requires splittable { IsSplittable (seen self.old).set.n t }
@@ -87,23 +93,27 @@ pub trait QueuedMesh {
         requires room { (after : List ℕ) → IsForced (seen self.old).set.n (seen self.old).set.members t after →
             leaf_count (seen self.old).set.n after ≤ (seen self.old).set.most }
         requires counter { (seen self.old).set.splits + 48 < 2 ^ 62 }
-        ensures { IsSplitOf (seen self.old) (seen self.new) t };
+        ensures split { IsSplitOf (seen self.old) (seen self.new) t }
+        ensures log { IsLogged (seen self.old).set (seen self.new).set (log self.old) (log self.new) };
 
-    /// Merges a diamond.
+    /// Merges a diamond, and logs its triangles.
     fn merge(&mut self, t: Tri)
         requires settled { (seen self.old).fresh ≡ [] }
         requires can { CanMerge (seen self.old).set.n (among (seen self.old).set.members) t }
         requires counter { (seen self.old).set.merges < 2 ^ 62 }
-        ensures { IsMergeOf (seen self.old) (seen self.new) t };
+        ensures merge { IsMergeOf (seen self.old) (seen self.new) t }
+        ensures log { IsLogged (seen self.old).set (seen self.new).set (log self.old) (log self.new) };
 
-    /// Lists what is due at this odometer.
+    /// Lists what is due at this odometer, and empties the log.
     fn begin(&mut self, odometer: u64)
         requires quiet { IsQuiet (seen self.old) }
         requires far { odometer ≤ 2 ^ 62 }
-        ensures { IsBegun (seen self.old) (seen self.new) odometer };
+        ensures begun { IsBegun (seen self.old) (seen self.new) odometer }
+        ensures log { log self.new ≡ emptied (log self.old) };
 
     /// Forgets what was told, so that the keys are those of the stamps again.
     fn forget(&mut self)
         requires settled { (seen self.old).fresh ≡ [] }
-        ensures { IsForgotten (seen self.old) (seen self.new) };
+        ensures forgotten { IsForgotten (seen self.old) (seen self.new) }
+        ensures log { log self.new ≡ log self.old };
 }

@@ -6,6 +6,7 @@ ghost use Rattle.frame_steps.specs.Deferred.{DeferredFrame, IsDeferredFrame};
 ghost use Rattle.frame_steps.specs.Stamps.{ReadingsHold};
 ghost use Rattle.deferred_loop.specs.Choice.{IsNextSplit, IsNextMerge};
 ghost use Rattle.deferred_loop.specs.Seen.{PoolSet, SeenMesh, HasRoom, IsCountedBy};
+ghost use Rattle.deferred_loop.specs.Log.{IsLogged};
 ghost use Rattle.deferred_loop.specs.Kept.{told_of, IsSettled, IsCharged, IsStamped};
 
 use crate::entering::enter_fresh;
@@ -33,6 +34,7 @@ pub fn split_at<M: QueuedMesh, G: Gauge>(
     requires room { HasRoom w.n (M.seen mesh.old).set.most w.budget }
     ensures told { G.told gauge.new ≡ G.told gauge.old }
     ensures readings { G.readings gauge.new ≡ G.readings gauge.old }
+    ensures log { IsLogged (M.seen mesh.old).set (M.seen mesh.new).set (M.log mesh.old) (M.log mesh.new) }
     ensures settled { IsSettled w (M.seen mesh.new) }
     ensures step { IsSplitStep w.n w.budget w.priority (M.seen mesh.old).set.members (M.seen mesh.new).set.members }
     ensures counters { (start : PoolSet) (removed : ℕ) → IsCountedBy start (M.seen mesh.old).set splits.old removed →
@@ -69,6 +71,7 @@ pub fn merge_at<M: QueuedMesh, G: Gauge>(
     requires counter { (M.seen mesh.old).set.merges < 2 ^ 62 }
     ensures told { G.told gauge.new ≡ G.told gauge.old }
     ensures readings { G.readings gauge.new ≡ G.readings gauge.old }
+    ensures log { IsLogged (M.seen mesh.old).set (M.seen mesh.new).set (M.log mesh.old) (M.log mesh.new) }
     ensures settled { IsSettled w (M.seen mesh.new) }
     ensures step { IsMergeStep w.n w.budget w.priority (M.seen mesh.old).set.members (M.seen mesh.new).set.members }
     ensures counters { (start : PoolSet) (added : ℕ) → IsCountedBy start (M.seen mesh.old).set added merges.old →

@@ -323,23 +323,39 @@ const FROM_UPPER_RIGHT: [Equal; 13] = [
     (26, 1310720),
 ];
 
-/// What three frames tell, the sets after the first two, all splits and merges, and whether the third asks at most twice.
-type ThreeFrames = ([Told; 3], [u64; 2], (u64, u64), bool);
+/// How many triangles a frame logged, and a bit for each; None where the log is lost.
+type Logged = Option<(usize, u64)>;
+
+fn logged(mesh: &Mesh) -> Logged {
+    let list = mesh.changed()?;
+    let mut bits = 0;
+    for t in list {
+        bits |= 1 << (t.number() % 64);
+    }
+    Some((list.len(), bits))
+}
+
+/// What three frames tell, the sets after the first two, all splits and merges, whether the third asks at most twice, and what each
+/// logged.
+type ThreeFrames = ([Told; 3], [u64; 2], (u64, u64), bool, [Logged; 3]);
 
 fn two_peaks(rt: &impl Abort, alloc: Global, run: &mut Run) -> Option<ThreeFrames> {
     let first = next_frame(rt, alloc, run, &FROM_LOWER_LEFT, (0, 9, 0))?;
     let set = members(run.mesh.pool());
+    let log = logged(&run.mesh);
     go_on(alloc, run, &FROM_UPPER_RIGHT)?;
     let second = next_frame(rt, alloc, run, &FROM_UPPER_RIGHT, (0, 9, 8))?;
     let other = members(run.mesh.pool());
+    let other_log = logged(&run.mesh);
     let third = next_frame(rt, alloc, run, &FROM_UPPER_RIGHT, (0, 9, 8))?;
     let counts = (run.mesh.pool().splits(), run.mesh.pool().merges());
     let told = [first.0, second.0, third.0];
-    Some((told, [set, other], counts, third.1 <= 2))
+    let logs = [log, other_log, logged(&run.mesh)];
+    Some((told, [set, other], counts, third.1 <= 2, logs))
 }
 
-fn frames_of_two_peaks(rt: &impl Abort, alloc: Global) -> Option<ThreeFrames> {
-    let mut run = run_between(alloc, 2, 9, &FROM_LOWER_LEFT, &FROM_LOWER_LEFT)?;
+fn frames_of_two_peaks(rt: &impl Abort, alloc: Global, most: u32) -> Option<ThreeFrames> {
+    let mut run = run_between(alloc, 2, most, &FROM_LOWER_LEFT, &FROM_LOWER_LEFT)?;
     two_peaks(rt, alloc, &mut run)
 }
 
@@ -355,8 +371,19 @@ fn three_frames_of_two_peaks(rt: HostRuntime) {
         bits(&[2, 3, 4, 5, 8, 11, 17]),
         bits(&[2, 3, 6, 7, 12, 15, 25]),
     ];
-    let wanted = (told, sets, (12, 5), true);
-    assert_eq!(rt; frames_of_two_peaks(&rt, rt.alloc()), Some(wanted));
+    let steps = bits(&[17, 8, 11, 5, 4, 6, 12, 15, 7, 25]);
+    let logs = [Some((7, sets[0])), Some((10, steps)), Some((0, 0))];
+    let wanted = (told, sets, (12, 5), true, logs);
+    assert_eq!(rt; frames_of_two_peaks(&rt, rt.alloc(), 10), Some(wanted));
+}
+
+/// With room for 9 triangles the 10 of the second frame are lost.
+#[test]
+fn a_log_without_room_is_lost(rt: HostRuntime) {
+    let frames = frames_of_two_peaks(&rt, rt.alloc(), 9);
+    let logs = frames.map(|frames| frames.4);
+    let sets = bits(&[2, 3, 4, 5, 8, 11, 17]);
+    assert_eq!(rt; logs, Some([Some((7, sets)), None, Some((0, 0))]));
 }
 
 /// What three frames tell, the third after the stamp of 2 has expired; whether the second asks nothing, and the third something.

@@ -65,7 +65,7 @@ second_parent pairs m None r are h = absurd h
 second_parent pairs m (Some pair) r are h = (are.0, pair_parent pairs m pair r are.1 h)
 
 -- the answers to two rows of splits
-born_either : (answers : List Born) (born : Born) (r : ℕ) → IsBornOf (answers ++ (born ∷ [])) r → IsBornOf answers r ⊎ IsBorn born r
+pub born_either : (answers : List Born) (born : Born) (r : ℕ) → IsBornOf (answers ++ (born ∷ [])) r → IsBornOf answers r ⊎ IsBorn born r
 born_either [] born r (inl own) = inr own
 born_either [] born r (inr none) = absurd none
 born_either (other ∷ answers) born r (inl own) = inl (inl own)

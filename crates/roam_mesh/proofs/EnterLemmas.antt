@@ -237,7 +237,7 @@ put_placed p due out s pool entry own below_split size below_due due_is waits pl
 -- ---- entering
 
 -- putting in changes nothing but the queues
-put_in-pool : (p : PartsState) (s : ℕ) → (put_in p s).pool ≡ p.pool
+pub put_in-pool : (p : PartsState) (s : ℕ) → (put_in p s).pool ≡ p.pool
 put_in-pool p s = cond_both (is_leaf_at p.pool.pairs s || cond (is_mate_fresh p s) false true) (rekeyed p s) p (λ q. q.pool ≡ p.pool) (λ _. refl) (λ _. refl)
 
 put_in-fresh : (p : PartsState) (s : ℕ) → (put_in p s).fresh ≡ p.fresh

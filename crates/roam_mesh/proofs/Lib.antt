@@ -8,6 +8,7 @@ pub mod FreshLemmas
 pub mod PoolChangeLemmas
 pub mod ChainSlotLemmas
 pub mod BornLemmas
+pub mod LogLemmas
 pub mod SplitAtLemmas
 pub mod SplitRoleLemmas
 pub mod SplitRepoolLemmas

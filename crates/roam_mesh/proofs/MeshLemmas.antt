@@ -11,6 +11,7 @@ use Rattle.edge_laws.proofs.SlotLemmas.{pair_of, set-has_children}
 use Rattle.frame_steps.specs.Deferred.{IsEntry}
 use Rattle.frame_steps.specs.Stamps.{Stamp, Readings, StampsHold}
 use Rattle.deferred_loop.specs.Seen.{IsQuiet}
+use Rattle.deferred_loop.specs.Log.{Log}
 use Rattle.roam_mesh.specs.Mesh.{slot_of, stamp_of, pool_members, with_expired, uncounted, OnlyEntriesStamped, seen_of}
 use Rattle.roam_mesh.specs.Parts.{PartsState, entry_at, entry_of, blank, best_of, worst_of, better_of, deadline_of, stamp_in, seen_parts, mesh_of, is_leaf_at, is_chief_at, is_entry_at, is_out, IsParts, IsWhole}
 use Rattle.roam_mesh.specs.Change.{expired_at}
@@ -22,8 +23,8 @@ use Rattle.deferred_loop.specs.Choice.{Priorities}
 use Rattle.deferred_loop.specs.Promise.{IsAtMost, IsAtLeast, AreStampsGood}
 
 -- the stamp of an address is that of its slot's entry
-stamp_of-parts : (parts : PartsState) (a : ℕ) → stamp_of (mesh_of parts) a ≡ stamp_in (entry_at parts (slot_of parts.pool.pairs a))
-stamp_of-parts parts a = get_or-map stamp_in parts.entries (slot_of parts.pool.pairs a) blank
+stamp_of-parts : (parts : PartsState) (log : Log) (a : ℕ) → stamp_of (mesh_of parts log) a ≡ stamp_in (entry_at parts (slot_of parts.pool.pairs a))
+stamp_of-parts parts log a = get_or-map stamp_in parts.entries (slot_of parts.pool.pairs a) blank
 
 -- parts of which nothing is kept are quiet
 pub blank_quiet : (parts : PartsState) → ((s : ℕ) → entry_at parts s ≡ blank) → parts.fresh ≡ [] → IsQuiet (seen_parts parts)
@@ -33,8 +34,8 @@ blank_quiet parts nothing none = record {
 }
 
 -- and no triangle has a stamp
-pub blank_stamps : (parts : PartsState) → ((s : ℕ) → entry_at parts s ≡ blank) → (a : ℕ) → stamp_of (mesh_of parts) a ≡ None
-blank_stamps parts nothing a = stamp_of-parts parts a ∙ ap stamp_in (nothing (slot_of parts.pool.pairs a))
+pub blank_stamps : (parts : PartsState) (log : Log) → ((s : ℕ) → entry_at parts s ≡ blank) → (a : ℕ) → stamp_of (mesh_of parts log) a ≡ None
+blank_stamps parts log nothing a = stamp_of-parts parts log a ∙ ap stamp_in (nothing (slot_of parts.pool.pairs a))
 
 -- in a pool that holds but the square's halves nothing is split
 base_low : (test : Bool) → cond test 0 1 ≤ 1
@@ -56,10 +57,10 @@ stamped_by e stamp there = true_from_ne_false e.stamped (λ none.
     none-some stamp (sym (ap (λ b. cond b (Some (record { odometer = e.odometer; slack = e.slack; upper = e.upper; lower = e.lower; expired = e.expired })) None) none) ∙ there))
 
 -- so only entries have one
-pub placed_only : (parts : PartsState) → IsParts parts → OnlyEntriesStamped (mesh_of parts)
-placed_only parts is a stamp there =
+pub placed_only : (parts : PartsState) (log : Log) → IsParts parts → OnlyEntriesStamped (mesh_of parts log)
+placed_only parts log is a stamp there =
     let s = slot_of parts.pool.pairs a in
-    let stamped = stamped_by (entry_at parts s) stamp (sym (stamp_of-parts parts a) ∙ there) in
+    let stamped = stamped_by (entry_at parts s) stamp (sym (stamp_of-parts parts log a) ∙ there) in
     let entry = is.placed.stamped s stamped in
     subst (λ z. IsEntry parts.pool.n (among (pool_members parts.pool)) z) (at-slot_of parts.pool.pairs s a (entry_live parts.pool.pairs s entry) refl)
     (entry_of-at parts.pool s is.pool entry)
@@ -147,39 +148,39 @@ unstamped : (e : Entry) → e.stamped ≡ false → stamp_in e ≡ None
 unstamped e none = ap (λ b. cond b (Some (record { odometer = e.odometer; slack = e.slack; upper = e.upper; lower = e.lower; expired = e.expired })) None) none
 
 -- and expires the stamp of its triangle alone
-pub expired_stamps : (parts : PartsState) (s t : ℕ) → IsWhole parts → IsParts parts → IsLive parts.pool.pairs s → address_at parts.pool.pairs s ≡ t → (a : ℕ) →
-    stamp_of (mesh_of (expired_at parts s)) a ≡ cond (nat_eq t a) (option_map with_expired (stamp_of (mesh_of parts) a)) (stamp_of (mesh_of parts) a)
-expired_stamps parts s t whole is live at a =
+pub expired_stamps : (parts : PartsState) (log : Log) (s t : ℕ) → IsWhole parts → IsParts parts → IsLive parts.pool.pairs s → address_at parts.pool.pairs s ≡ t → (a : ℕ) →
+    stamp_of (mesh_of (expired_at parts s) log) a ≡ cond (nat_eq t a) (option_map with_expired (stamp_of (mesh_of parts log) a)) (stamp_of (mesh_of parts log) a)
+expired_stamps parts log s t whole is live at a =
     let places = live_below parts.pool.pairs s live in
     let entries = whole.entries in
     let below : s < length parts.entries = omega arith in
     let pairs = parts.pool.pairs in
-    chosen t a (stamp_of (mesh_of (expired_at parts s)) a) (option_map with_expired (stamp_of (mesh_of parts) a)) (stamp_of (mesh_of parts) a)
+    chosen t a (stamp_of (mesh_of (expired_at parts s) log) a) (option_map with_expired (stamp_of (mesh_of parts log) a)) (stamp_of (mesh_of parts log) a)
     (λ own.
     let low : 2 ≤ a = subst (λ z. 2 ≤ z) (at ∙ own) live in
     let slot : slot_of pairs a ≡ s = one_slot parts.pool.n pairs s a is.pool low (at ∙ own) in
-    stamp_of-parts (expired_at parts s) a
+    stamp_of-parts (expired_at parts s) log a
     ∙ ap (λ z. stamp_in (entry_at (expired_at parts s) z)) slot
     ∙ ap stamp_in (get_or-set_same parts.entries s (record (entry_at parts s) { expired = true }) blank below)
     ∙ expired_stamp (entry_at parts s)
     ∙ ap (λ z. option_map with_expired (stamp_in (entry_at parts z))) (sym slot)
-    ∙ ap (option_map with_expired) (sym (stamp_of-parts parts a)))
+    ∙ ap (option_map with_expired) (sym (stamp_of-parts parts log a)))
     (λ apart.
-    stamp_of-parts (expired_at parts s) a
+    stamp_of-parts (expired_at parts s) log a
     ∙ ap stamp_in (get_or-set_other parts.entries s (slot_of pairs a) (record (entry_at parts s) { expired = true }) blank (λ same. apart (sym at ∙ at-slot_of pairs s a live same)))
-    ∙ sym (stamp_of-parts parts a))
+    ∙ sym (stamp_of-parts parts log a))
 
 -- a triangle that is not live has none
-pub dead_stamps : (parts : PartsState) (t : ℕ) → IsParts parts → ((s : ℕ) → IsLive parts.pool.pairs s → address_at parts.pool.pairs s ≡ t → ⊥) → (a : ℕ) →
-    stamp_of (mesh_of parts) a ≡ cond (nat_eq t a) (option_map with_expired (stamp_of (mesh_of parts) a)) (stamp_of (mesh_of parts) a)
-dead_stamps parts t is dead a =
+pub dead_stamps : (parts : PartsState) (log : Log) (t : ℕ) → IsParts parts → ((s : ℕ) → IsLive parts.pool.pairs s → address_at parts.pool.pairs s ≡ t → ⊥) → (a : ℕ) →
+    stamp_of (mesh_of parts log) a ≡ cond (nat_eq t a) (option_map with_expired (stamp_of (mesh_of parts log) a)) (stamp_of (mesh_of parts log) a)
+dead_stamps parts log t is dead a =
     let s = slot_of parts.pool.pairs a in
-    chosen t a (stamp_of (mesh_of parts) a) (option_map with_expired (stamp_of (mesh_of parts) a)) (stamp_of (mesh_of parts) a)
+    chosen t a (stamp_of (mesh_of parts log) a) (option_map with_expired (stamp_of (mesh_of parts log) a)) (stamp_of (mesh_of parts log) a)
     (λ own.
     let none : (entry_at parts s).stamped ≡ false = false_from_ne_true (entry_at parts s).stamped (λ stamped.
     let live = entry_live parts.pool.pairs s (is.placed.stamped s stamped) in
     dead s live (at-slot_of parts.pool.pairs s a live refl ∙ sym own)) in
-    let nothing : stamp_of (mesh_of parts) a ≡ None = stamp_of-parts parts a ∙ unstamped (entry_at parts s) none in
+    let nothing : stamp_of (mesh_of parts log) a ≡ None = stamp_of-parts parts log a ∙ unstamped (entry_at parts s) none in
     nothing ∙ sym (ap (option_map with_expired) nothing))
     (λ apart. refl)
 
@@ -201,28 +202,28 @@ uncounted_parts parts is = record {
 -- ---- a mesh between frames, as the loop sees it
 
 -- its stamps are those of the parts
-seen_stamps : (parts : PartsState) → (seen_parts parts).stamps ≡ stamp_of (mesh_of parts)
-seen_stamps parts = fun_ext (λ a. sym (stamp_of-parts parts a))
+seen_stamps : (parts : PartsState) (log : Log) → (seen_parts parts).stamps ≡ stamp_of (mesh_of parts log)
+seen_stamps parts log = fun_ext (λ a. sym (stamp_of-parts parts log a))
 
 -- stamps that hold between frames hold as the loop sees them
-pub stamps_hold : (priority : ℕ → ℕ) (odometer : ℕ) (parts : PartsState) → StampsHold priority odometer (stamp_of (mesh_of parts)) → StampsHold priority odometer (seen_parts parts).stamps
-stamps_hold priority odometer parts hold = subst (StampsHold priority odometer) (sym (seen_stamps parts)) hold
+pub stamps_hold : (priority : ℕ → ℕ) (odometer : ℕ) (parts : PartsState) (log : Log) → StampsHold priority odometer (stamp_of (mesh_of parts log)) → StampsHold priority odometer (seen_parts parts).stamps
+stamps_hold priority odometer parts log hold = subst (StampsHold priority odometer) (sym (seen_stamps parts log)) hold
 
 -- what the loop takes at most is said of the mesh between frames
-pub at_most : (told : Priorities) (readings : Readings) (odometer : ℕ) (parts : PartsState) (budget steps count more : ℕ) →
-    IsAtMost told readings odometer (seen_parts parts) budget steps count more → IsAtMost told readings odometer (seen_of (mesh_of parts)) budget steps count more
-at_most told readings odometer parts budget steps count more most =
-    subst (λ (stamps : ℕ → Option Stamp). IsAtMost told readings odometer (record (seen_of (mesh_of parts)) { stamps = stamps }) budget steps count more) (seen_stamps parts) most
+pub at_most : (told : Priorities) (readings : Readings) (odometer : ℕ) (parts : PartsState) (log : Log) (budget steps count more : ℕ) →
+    IsAtMost told readings odometer (seen_parts parts) budget steps count more → IsAtMost told readings odometer (seen_of (mesh_of parts log)) budget steps count more
+at_most told readings odometer parts log budget steps count more most =
+    subst (λ (stamps : ℕ → Option Stamp). IsAtMost told readings odometer (record (seen_of (mesh_of parts log)) { stamps = stamps }) budget steps count more) (seen_stamps parts log) most
 
 -- and what it takes at least
-pub at_least : (before after : PartsState) (count more : ℕ) → IsAtLeast (seen_parts before) (seen_parts after) count more → IsAtLeast (seen_of (mesh_of before)) (seen_of (mesh_of after)) count more
-at_least before after count more least =
-    subst (λ (stamps : ℕ → Option Stamp). IsAtLeast (record (seen_of (mesh_of before)) { stamps = stamps }) (seen_of (mesh_of after)) count more) (seen_stamps before)
-    (subst (λ (stamps : ℕ → Option Stamp). IsAtLeast (seen_parts before) (record (seen_of (mesh_of after)) { stamps = stamps }) count more) (seen_stamps after) least)
+pub at_least : (before after : PartsState) (old new : Log) (count more : ℕ) → IsAtLeast (seen_parts before) (seen_parts after) count more → IsAtLeast (seen_of (mesh_of before old)) (seen_of (mesh_of after new)) count more
+at_least before after old new count more least =
+    subst (λ (stamps : ℕ → Option Stamp). IsAtLeast (record (seen_of (mesh_of before old)) { stamps = stamps }) (seen_of (mesh_of after new)) count more) (seen_stamps before old)
+    (subst (λ (stamps : ℕ → Option Stamp). IsAtLeast (seen_parts before) (record (seen_of (mesh_of after new)) { stamps = stamps }) count more) (seen_stamps after new) least)
 
 -- and that its stamps are good
-pub stamps_good : (readings : Readings) (odometer : ℕ) (before after : PartsState) → AreStampsGood readings odometer (seen_parts before) (seen_parts after) →
-    AreStampsGood readings odometer (seen_of (mesh_of before)) (seen_of (mesh_of after))
-stamps_good readings odometer before after good =
-    subst (λ (stamps : ℕ → Option Stamp). AreStampsGood readings odometer (record (seen_of (mesh_of before)) { stamps = stamps }) (seen_of (mesh_of after))) (seen_stamps before)
-    (subst (λ (stamps : ℕ → Option Stamp). AreStampsGood readings odometer (seen_parts before) (record (seen_of (mesh_of after)) { stamps = stamps })) (seen_stamps after) good)
+pub stamps_good : (readings : Readings) (odometer : ℕ) (before after : PartsState) (old new : Log) → AreStampsGood readings odometer (seen_parts before) (seen_parts after) →
+    AreStampsGood readings odometer (seen_of (mesh_of before old)) (seen_of (mesh_of after new))
+stamps_good readings odometer before after old new good =
+    subst (λ (stamps : ℕ → Option Stamp). AreStampsGood readings odometer (record (seen_of (mesh_of before old)) { stamps = stamps }) (seen_of (mesh_of after new))) (seen_stamps before old)
+    (subst (λ (stamps : ℕ → Option Stamp). AreStampsGood readings odometer (seen_parts before) (record (seen_of (mesh_of after new)) { stamps = stamps })) (seen_stamps after new) good)

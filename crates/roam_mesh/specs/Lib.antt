@@ -8,3 +8,4 @@ pub mod Merging
 pub mod Keeping
 pub mod Places
 pub mod Base
+pub mod Log

@@ -1,4 +1,4 @@
--- What a contract sees of a mesh: its pool, and a finite map of stamps.
+-- What a contract sees of a mesh: its pool, a finite map of stamps, and a log of what the last frame split or merged.
 -- Source: Duchaineau et al., "ROAMing Terrain", IEEE Visualization 1997, the part on deferred priority lists.
 -- Words: MeshState, slot_of, stamp_of, pool_members, pool_set, seen_of, with_expired, uncounted,
 -- OnlyEntriesStamped.
@@ -10,11 +10,13 @@ use Rattle.triangle_pool.specs.Slots.{PoolState}
 use Rattle.frame_steps.specs.Deferred.{IsEntry}
 use Rattle.frame_steps.specs.Stamps.{Stamp}
 use Rattle.deferred_loop.specs.Seen.{PoolSet, SeenMesh}
+use Rattle.deferred_loop.specs.Log.{Log}
 
--- a mesh between frames: its pool, and the stamp of each slot
+-- a mesh between frames: its pool, the stamp of each slot, and the log of the last frame
 pub record MeshState : Type 0 where
   pub pool : PoolState
   pub stamps : List (Option Stamp)
+  pub log : Log
 
 -- The slot of address a: pairs has the address of its parent in the place of the pair where it stands. Past the end
 -- where a is not live.

@@ -1,6 +1,6 @@
 -- A mesh half way through a frame: its pool, what is kept of each slot, and what the three heaps hold.
 -- All of it is this project's own.
--- Words: PartsState, parts_of, stamp_in, best_of, worst_of, deadline_of, blank, entry_at, entry_of, seen_parts, mesh_of, is_leaf_at, is_bare,
+-- Words: PartsState, parts_of, stamp_in, best_of, worst_of, deadline_of, blank, entry_at, entry_of, seen_parts, QueuedState, mesh_of, is_leaf_at, is_bare,
 -- is_ready, is_ready_at, is_chief_at, is_entry_at, is_out, leaf_rank, worst_rank, better_of, diamond_rank, IsSlotList, IsWhole,
 -- IsPlaced, IsNear, IsParts.
 use Rattle.std.specs.Prelude.{◌≡◌, ℕ, ◌+◌, ◌*◌, ◌^◌, ◌≤◌, Bool, true, false, not, ◌&&◌, ◌||◌, cond, nat_eq, nat_le, nat_lt, List, length, map, take, reverse, Option, None, Some, slice_index, slice_index_or}
@@ -15,6 +15,7 @@ use Rattle.bintree_addr.specs.declared.slot.Slot.{Slot}
 use Rattle.frame_steps.specs.Stamps.{Stamp}
 use Rattle.edge_laws.specs.Chief.{chief_of}
 use Rattle.deferred_loop.specs.Seen.{SeenMesh}
+use Rattle.deferred_loop.specs.Log.{Log}
 use Rattle.roam_mesh.specs.Mesh.{MeshState, slot_of, pool_set}
 use Rattle.roam_mesh.specs.declared.entry.Entry.{Entry}
 
@@ -78,9 +79,14 @@ seen_parts parts = record {
   fresh = reverse (map (address_at parts.pool.pairs) parts.fresh);
 }
 
--- the mesh that its parts are, between frames
-abbrev pub mesh_of : PartsState → MeshState
-mesh_of parts = record { pool = parts.pool; stamps = map stamp_in parts.entries }
+-- the parts, and the log of the frame
+pub record QueuedState : Type 0 where
+  pub parts : PartsState
+  pub log : Log
+
+-- the mesh that parts with a log are, between frames
+abbrev pub mesh_of : PartsState → Log → MeshState
+mesh_of parts log = record { pool = parts.pool; stamps = map stamp_in parts.entries; log = log }
 
 -- the slot has a leaf
 abbrev pub is_leaf_at : List ℕ → ℕ → Bool

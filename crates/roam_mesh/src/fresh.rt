@@ -106,6 +106,7 @@ impl Parts {
     pub fn take_back(&mut self, was: &Entry)
         requires last { (rest : List ℕ) × (s : ℕ) × CanTakeBack self.old rest s was.now }
         ensures parts { IsParts self.new }
+        ensures pool { self.new.pool ≡ self.old.pool }
         ensures seated { (rest : List ℕ) (s : ℕ) → self.old.fresh ≡ rest ++ (s ∷ []) → self.new ≡ seated self.old rest s was.now }
     {
         self.fresh_count -= 1;

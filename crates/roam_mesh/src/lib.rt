@@ -10,6 +10,7 @@ mod entry;
 mod find;
 mod fresh;
 mod keys;
+mod log;
 mod merging;
 mod mesh;
 mod parts;

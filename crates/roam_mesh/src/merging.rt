@@ -1,8 +1,8 @@
 //! What a merge does to the places of the entries.
 
-ghost use Rattle.std.specs.Prelude.{◌≡◌, ◌<◌, ◌≤◌, ◌^◌, ◌++◌, true, cond, nat_lt, [], IsNone, IfSome};
+ghost use Rattle.std.specs.Prelude.{◌≡◌, ◌+◌, ◌<◌, ◌≤◌, ◌^◌, ◌++◌, true, cond, nat_lt, [], IsNone, IfSome};
 ghost use Rattle.edge_laws.specs.Edge.{mate_of};
-ghost use Rattle.edge_laws.specs.Slots.{address_at};
+ghost use Rattle.edge_laws.specs.Slots.{address_at, diamond_size, IsMerge};
 ghost use Rattle.roam_mesh.specs.Mesh.{slot_of};
 ghost use Rattle.deferred_loop.specs.Seen.{IsMergeOf};
 ghost use Rattle.roam_mesh.specs.Parts.{entry_at, is_ready_at, seen_parts, IsParts};
@@ -22,6 +22,8 @@ impl Parts {
         requires count { self.old.pool.merges < 2 ^ 62 }
         ensures parts { IsParts self.new }
         ensures merge { IsMergeOf (seen_parts self.old) (seen_parts self.new) (address_at self.old.pool.pairs s.0) }
+        ensures pool { IsMerge self.old.pool.pairs self.new.pool.pairs (address_at self.old.pool.pairs s.0) }
+        ensures merges { self.new.pool.merges ≡ self.old.pool.merges + diamond_size (address_at self.old.pool.pairs s.0) }
     {
         let own = self.entries[s.0 as usize];
         let other = self.kept_partner(s);

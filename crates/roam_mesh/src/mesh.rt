@@ -1,6 +1,6 @@
 //! The mesh.
 
-ghost use Rattle.std.specs.Prelude.{◌≡◌, ℕ, ◌+◌, ◌-◌, ◌*◌, ◌^◌, ◌<◌, ◌≤◌, false, None, cond, nat_eq, option_map, slice_index, ◌↔◌, All, IsNone, IfOk};
+ghost use Rattle.std.specs.Prelude.{◌≡◌, ℕ, ◌+◌, ◌-◌, ◌*◌, ◌^◌, ◌<◌, ◌≤◌, false, None, Some, [], MatchOption, cond, nat_eq, option_map, slice_index, ◌↔◌, All, IsNone, IfOk};
 ghost use Rattle.mesh_defs.specs.ClosedSet.{leaves_of, among};
 ghost use Rattle.mesh_defs.specs.Falling.{IsFalling};
 ghost use Rattle.mesh_defs.specs.declared.level.TheConstants.{GREATEST_LEVEL};
@@ -10,6 +10,7 @@ ghost use Rattle.closure_laws.specs.Frame.{IsFrame};
 ghost use Rattle.frame_steps.specs.Steps.{IsFrameRun};
 ghost use Rattle.frame_steps.specs.Stamps.{StampsHold, ReadingsHold};
 ghost use Rattle.deferred_loop.specs.Seen.{HasRoom, IsCountedBy};
+ghost use Rattle.deferred_loop.specs.Log.{IsFrameLog};
 ghost use Rattle.deferred_loop.specs.Choice.{IsSparing};
 ghost use Rattle.deferred_loop.specs.Promise.{IsAtMost, IsAtLeast, AreStampsGood};
 ghost use Rattle.roam_mesh.specs.Mesh.{stamp_of, pool_members, pool_set, seen_of, with_expired, uncounted, OnlyEntriesStamped};
@@ -37,9 +38,9 @@ impl Model for Mesh {
 
     ghost Value = { MeshState };
 
-    ghost view = { λ m. mesh_of m.queued };
+    ghost view = { λ m. mesh_of m.queued.parts m.queued.log };
 
-    ghost invariant = { λ m. IsQuiet (seen_parts m.queued) };
+    ghost invariant = { λ m. IsQuiet (seen_parts m.queued.parts) };
 }
 
 impl Mesh {
@@ -54,6 +55,7 @@ impl Mesh {
         ensures splits { IfOk result (λ m. m.pool.splits ≡ 0) }
         ensures merges { IfOk result (λ m. m.pool.merges ≡ 0) }
         ensures stamps { IfOk result (λ m. (a : ℕ) → stamp_of m a ≡ None) }
+        ensures log { IfOk result (λ m. m.log ≡ record { changed = Some []; room = leaves }) }
     {
         Ok(Mesh {
             queued: QueuedParts::make(alloc, n, leaves)?,
@@ -75,6 +77,7 @@ impl Mesh {
         ensures pool { self.new.pool ≡ self.old.pool }
         ensures stamps { (a : ℕ) → stamp_of self.new a
             ≡ cond (nat_eq t a) (option_map with_expired (stamp_of self.old a)) (stamp_of self.old a) }
+        ensures log { self.new.log ≡ self.old.log }
     {
         self.queued.expire(t);
     }
@@ -87,6 +90,7 @@ impl Mesh {
         ensures pool { self.new.pool ≡ self.old.pool }
         ensures stamps { (a : ℕ) → stamp_of self.new a ≡ cond (nat_eq (address_at self.old.pool.pairs s.0) a)
             (option_map with_expired (stamp_of self.old a)) (stamp_of self.old a) }
+        ensures log { self.new.log ≡ self.old.log }
     {
         self.queued.expire_at(s);
     }
@@ -98,12 +102,26 @@ impl Mesh {
         self.queued.restart_counts();
     }
 
+    /// The triangles that the last frame split or merged, in the order of its steps. Each that is split now and was not before it is
+    /// among them, and each that was and is not; one that was split and merged again is listed twice. None where the frame split
+    /// and merged more triangles than `make` took room for leaves.
+    ///
+    /// Nothing is listed before the first frame, and no other call changes the list. Cost (not proved): nothing; `advance` pays for
+    /// the list, a place for each triangle that it splits or merges.
+    pub fn changed(&self) -> Option<&[Tri]>
+        ensures { MatchOption result
+            (self.now.log.changed ≡ None)
+            (λ list. self.now.log.changed ≡ Some list.now) }
+    {
+        self.queued.log.changed()
+    }
+
     /// Makes the mesh of one frame from that of the frame before.
     ///
     /// `run` and `frame`: the set is the rank closure of the budget, reached by the steps of the frame. `sparing` and `spares`: it
     /// changes no more than it must, and merges no diamond that holds a triangle which greedy splitting picks. `unblocked`: nothing
-    /// blocks exactly where no leaf is worth a split. `most` and `least`: how often the gauge was asked. `stamps`: each entry has a stamp that is not due; `only`:
-    /// nothing else has one.
+    /// blocks exactly where no leaf is worth a split. `most` and `least`: how often the gauge was asked. `stamps`: each entry has a
+    /// stamp that is not due; `only`: nothing else has one. `changed`: what `Mesh::changed` lists from then on.
     pub fn advance<G: Gauge>(&mut self, gauge: &mut G, budget: u32, odometer: u64) -> Steps
         requires grid { (G.told gauge.old).n ≡ self.old.pool.n }
         requires budget { 2 ≤ budget }
@@ -135,6 +153,8 @@ impl Mesh {
         ensures counted { G.count gauge.new < 2 ^ 64 - 1 }
         ensures stamps { AreStampsGood (G.readings gauge.old) odometer (seen_of self.old) (seen_of self.new) }
         ensures only { OnlyEntriesStamped self.new }
+        ensures changed { IsFrameLog (pool_members self.old.pool) (pool_members self.new.pool)
+            (result.splits + result.merges) self.old.log self.new.log }
     {
         frame_laws();
         let _before = self.queued.pool();

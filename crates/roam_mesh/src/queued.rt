@@ -5,6 +5,7 @@ ghost use Rattle.edge_laws.specs.Slots.{address_at, IsLive};
 ghost use Rattle.roam_mesh.specs.Parts.{seen_parts};
 
 use crate::find::find;
+use crate::log::ChangeLog;
 use crate::parts::Parts;
 use bintree_addr::{Rank, Slot, Tri};
 use deferred_loop::{Head, Last, QueuedMesh, Reading};
@@ -15,14 +16,16 @@ use std::marker::Model;
 #[derive(Drop)]
 pub struct QueuedParts {
     pub parts: Parts,
+    /// What the frame split and merged so far; between frames, what the last one did.
+    pub log: ChangeLog,
 }
 
 impl Model for QueuedParts {
-    ghost use Rattle.roam_mesh.specs.Parts.{PartsState, IsParts};
+    ghost use Rattle.roam_mesh.specs.Parts.{QueuedState, IsParts};
 
-    ghost Value = { PartsState };
+    ghost Value = { QueuedState };
 
-    ghost view = { λ m. m.parts };
+    ghost view = { λ m. record { parts = m.parts; log = m.log } };
 
     ghost invariant = { λ m. IsParts m.parts };
 }
@@ -30,8 +33,8 @@ impl Model for QueuedParts {
 impl QueuedParts {
     /// The slot of a live triangle. Mostly it is at the head of a queue.
     fn slot(&self, t: Tri) -> Option<Slot>
-        ensures none { IsNone result → (s : ℕ) → IsLive self.now.pool.pairs s → address_at self.now.pool.pairs s ≡ t → ⊥ }
-        ensures some { IfSome result (λ s. address_at self.now.pool.pairs s.0 ≡ t) }
+        ensures none { IsNone result → (s : ℕ) → IsLive self.now.parts.pool.pairs s → address_at self.now.parts.pool.pairs s ≡ t → ⊥ }
+        ensures some { IfSome result (λ s. address_at self.now.parts.pool.pairs s.0 ≡ t) }
     {
         if let Some((s, rank)) = self.parts.split_queue.first() {
             if rank.tri == t {
@@ -53,7 +56,9 @@ impl QueuedParts {
 }
 
 impl QueuedMesh for QueuedParts {
-    ghost seen = { seen_parts };
+    ghost seen = { λ q. seen_parts q.parts };
+
+    ghost log = { λ q. q.log };
 
     fn leaf_count(&self) -> u32 {
         self.parts.pool.leaf_count()
@@ -115,18 +120,21 @@ impl QueuedMesh for QueuedParts {
     fn split(&mut self, t: Tri) {
         if let Some(s) = self.slot(t) {
             let _before = self.parts.pool.n();
-            self.parts.split(s);
+            let born = self.parts.split(s);
+            self.log.note_split(&self.parts, &born);
         }
     }
 
     fn merge(&mut self, t: Tri) {
         let _n = self.parts.pool.n();
         if let Some(s) = self.slot(t) {
+            self.log.note_diamond(&self.parts, s);
             self.parts.merge(s);
         }
     }
 
     fn begin(&mut self, odometer: u64) {
+        self.log.clear();
         while self.parts.list_due(odometer) {}
     }
 

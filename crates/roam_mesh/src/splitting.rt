@@ -11,6 +11,7 @@ ghost use Rattle.deferred_loop.specs.Seen.{IsSplitOf};
 ghost use Rattle.roam_mesh.specs.Parts.{is_leaf_at, seen_parts, IsParts};
 ghost use Rattle.roam_mesh.specs.Keeping.{IsKeptMate};
 ghost use Rattle.roam_mesh.specs.Change.{with_mate, with_chain, left_all, pushed_all};
+ghost use Rattle.roam_mesh.specs.Log.{IsBornOfSplit};
 ghost use Rattle.roam_mesh.specs.Splitting.{IsLeafMate, IsCarriedOut, IsSplitAt, pair_slots, second_slots, born_slots, born_leaves};
 
 use crate::entry::Entry;
@@ -21,8 +22,9 @@ use force_split::{Chain, carry_out, plan};
 use triangle_pool::Born;
 
 impl Parts {
-    /// Splits a leaf with what it forces. The leaf keeps what it has, and so does its mate where that is a leaf.
-    pub fn split(&mut self, s: Slot)
+    /// Splits a leaf with what it forces, and answers the slots of the children. The leaf keeps what it has, and so does its mate where
+    /// that is a leaf.
+    pub fn split(&mut self, s: Slot) -> ArrayVec<Born, 24>
         requires parts { IsParts self.old }
         requires settled { self.old.fresh ≡ [] }
         requires leaf { is_leaf_at self.old.pool.pairs s.0 ≡ true }
@@ -31,15 +33,17 @@ impl Parts {
         requires count { self.old.pool.splits + 48 < 2 ^ 62 }
         ensures parts { IsParts self.new }
         ensures split { IsSplitOf (seen_parts self.old) (seen_parts self.new) (address_at self.old.pool.pairs s.0) }
+        ensures born { IsBornOfSplit self.old.pool self.new.pool result.items }
     {
         let own = self.entries[s.0 as usize];
         let other = self.kept_mate(s);
-        self.split_at(s);
+        let born = self.split_at(s);
         let _n = self.pool.n();
         self.take_back(&own);
         if let Some(other) = other {
             self.take_back(&other);
         }
+        born
     }
 
     /// What is kept of the mate of a leaf, where it is a leaf.
@@ -59,18 +63,20 @@ impl Parts {
     /// First all leaves that will be split leave their places, and the diamonds above them, which can be merged no longer.
     /// Then the pool splits the chain. Last the new leaves are fresh, and the diamond of the leaf itself, the one of the
     /// chain that can be merged, the leaf last.
-    fn split_at(&mut self, s: Slot)
+    fn split_at(&mut self, s: Slot) -> ArrayVec<Born, 24>
         requires leaf { is_leaf_at self.old.pool.pairs s.0 ≡ true }
         requires coarse { level_of (address_at self.old.pool.pairs s.0) < 2 * self.old.pool.n }
         requires room { (gain : ℕ) → IsGainOf self.old.pool.n self.old.pool.pairs (address_at self.old.pool.pairs s.0) gain → gain ≤ room_of self.old.pool.pairs }
         requires count { self.old.pool.splits + 48 < 2 ^ 62 }
-        ensures { IsSplitAt self.old self.new s.0 }
+        ensures split { IsSplitAt self.old self.new s.0 }
+        ensures born { IsBornOfSplit self.old.pool self.new.pool result.items }
     {
         let chain = plan(&self.pool, s);
         self.leave_chain(&chain.slots);
         let answers = self.split_pool(&chain);
         self.push_born(&answers);
         self.push_diamond(s);
+        answers
     }
 
     /// The splits of a chain in the pool.

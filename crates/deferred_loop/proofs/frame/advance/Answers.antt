@@ -1,5 +1,6 @@
 use Rattle.std.proofs.Common.{◌+◌, refl, subst}
 use Rattle.frame_steps.specs.Stamps.{ReadingsHold}
+use Rattle.deferred_loop.proofs.LogLemmas.{frame_log}
 use Rattle.deferred_loop.proofs.PickLemmas.{picked_told, picked_of, picked_frame, end_sparing, end_at_most, end_at_least, end_stamps}
 use Rattle.deferred_loop.proofs.frame.advance.Goals as goal
 
@@ -31,3 +32,8 @@ pub returns-clause-stamps : goal.returns-clause-stamps
 returns-clause-stamps g c =
     end_stamps (g.G.Gauge.readings c.args.gauge.now) c.args.odometer (g.M.QueuedMesh.seen c.args.mesh.now) (g.M.QueuedMesh.seen c.advance_over.new.mesh)
     (g.G.Gauge.count c.args.gauge.now) (g.G.Gauge.count c.advance_over.new.gauge) c.advance_over.ensures.stamped
+
+pub returns-clause-changed : goal.returns-clause-changed
+returns-clause-changed g c =
+    frame_log (g.M.QueuedMesh.seen c.args.mesh.now).set (g.M.QueuedMesh.seen c.advance_over.new.mesh).set (g.M.QueuedMesh.log c.args.mesh.now) (g.M.QueuedMesh.log c.advance_over.new.mesh)
+    c.advance_over.result.splits c.advance_over.result.merges c.advance_over.ensures.log c.advance_over.ensures.counters

@@ -4,6 +4,8 @@ use Rattle.deferred_loop.specs.Choice.{IsNextSplit, IsNextMerge}
 use Rattle.frame_steps.specs.Stamps.{Readings, ReadingsHold}
 use Rattle.deferred_loop.specs.Kept.{IsStamped}
 use Rattle.deferred_loop.proofs.StepLemmas.{asked_stamped}
+use Rattle.deferred_loop.specs.Log.{emptied}
+use Rattle.deferred_loop.proofs.LogLemmas.{logged_on, logged_then}
 use Rattle.deferred_loop.proofs.FrameLemmas.{split_less, merge_less, charged_small, counters_small, count_small, end_most, forgotten_stamped}
 use Rattle.deferred_loop.proofs.frame.advance_over.Goals as goal
 
@@ -35,6 +37,11 @@ steps-preserved-in-Split g c =
       settled = c.split_at.ensures.settled;
       counters = c.split_at.ensures.counters (g.M.QueuedMesh.seen c.args.mesh.now).set c.steps.merges
           (subst (λ (z : PoolSet). IsCountedBy (g.M.QueuedMesh.seen c.args.mesh.now).set z c.steps.splits c.steps.merges) (sym asked.set) c.steps.invariant.counters);
+      log = logged_then (g.M.QueuedMesh.seen c.args.mesh.now).set (g.M.QueuedMesh.seen c.choose.new.mesh).set (g.M.QueuedMesh.seen c.split_at.new.mesh).set
+          (emptied (g.M.QueuedMesh.log c.args.mesh.now)) (g.M.QueuedMesh.log c.choose.new.mesh) (g.M.QueuedMesh.log c.split_at.new.mesh)
+          (logged_on (g.M.QueuedMesh.seen c.args.mesh.now).set (g.M.QueuedMesh.seen c.steps.mesh).set (g.M.QueuedMesh.seen c.choose.new.mesh).set
+          (emptied (g.M.QueuedMesh.log c.args.mesh.now)) (g.M.QueuedMesh.log c.steps.mesh) (g.M.QueuedMesh.log c.choose.new.mesh) c.steps.invariant.log asked.set c.in-Split.ensures.log)
+          c.split_at.ensures.log;
       charged = c.split_at.ensures.charged (g.G.Gauge.count c.args.gauge.now) c.steps.merges (asked.charged (g.G.Gauge.count c.args.gauge.now) c.steps.splits c.steps.merges c.steps.invariant.charged);
       stamped = subst (λ (z : Readings). IsStamped z c.args.odometer (g.M.QueuedMesh.seen c.args.mesh.now) (g.G.Gauge.count c.args.gauge.now) (g.M.QueuedMesh.seen c.split_at.new.mesh) (g.G.Gauge.count c.split_at.new.gauge)) readings
           (c.split_at.ensures.stamped (g.M.QueuedMesh.seen c.args.mesh.now) (g.G.Gauge.count c.args.gauge.now)
@@ -68,6 +75,11 @@ steps-preserved g c =
       settled = c.merge_at.ensures.settled;
       counters = c.merge_at.ensures.counters (g.M.QueuedMesh.seen c.args.mesh.now).set c.steps.splits
           (subst (λ (z : PoolSet). IsCountedBy (g.M.QueuedMesh.seen c.args.mesh.now).set z c.steps.splits c.steps.merges) (sym asked.set) c.steps.invariant.counters);
+      log = logged_then (g.M.QueuedMesh.seen c.args.mesh.now).set (g.M.QueuedMesh.seen c.choose.new.mesh).set (g.M.QueuedMesh.seen c.merge_at.new.mesh).set
+          (emptied (g.M.QueuedMesh.log c.args.mesh.now)) (g.M.QueuedMesh.log c.choose.new.mesh) (g.M.QueuedMesh.log c.merge_at.new.mesh)
+          (logged_on (g.M.QueuedMesh.seen c.args.mesh.now).set (g.M.QueuedMesh.seen c.steps.mesh).set (g.M.QueuedMesh.seen c.choose.new.mesh).set
+          (emptied (g.M.QueuedMesh.log c.args.mesh.now)) (g.M.QueuedMesh.log c.steps.mesh) (g.M.QueuedMesh.log c.choose.new.mesh) c.steps.invariant.log asked.set c.in-Merge.ensures.log)
+          c.merge_at.ensures.log;
       charged = c.merge_at.ensures.charged (g.G.Gauge.count c.args.gauge.now) c.steps.splits (asked.charged (g.G.Gauge.count c.args.gauge.now) c.steps.splits c.steps.merges c.steps.invariant.charged);
       stamped = subst (λ (z : Readings). IsStamped z c.args.odometer (g.M.QueuedMesh.seen c.args.mesh.now) (g.G.Gauge.count c.args.gauge.now) (g.M.QueuedMesh.seen c.merge_at.new.mesh) (g.G.Gauge.count c.merge_at.new.gauge)) readings
           (c.merge_at.ensures.stamped (g.M.QueuedMesh.seen c.args.mesh.now) (g.G.Gauge.count c.args.gauge.now)
@@ -86,11 +98,17 @@ returns-in-End-clause-counted g c =
 
 pub returns-in-End-clause-counters : goal.returns-in-End-clause-counters
 returns-in-End-clause-counters g c = subst (λ (z : PoolSet). IsCountedBy (g.M.QueuedMesh.seen c.args.mesh.now).set z c.steps.splits c.steps.merges)
-    (sym (c.forget.ensures.set ∙ c.in-End.ensures.asked.set)) c.steps.invariant.counters
+    (sym (c.forget.ensures.forgotten.set ∙ c.in-End.ensures.asked.set)) c.steps.invariant.counters
 
 pub returns-in-End-clause-stamped : goal.returns-in-End-clause-stamped
 returns-in-End-clause-stamped g c =
     forgotten_stamped (g.G.Gauge.readings c.args.gauge.now) c.args.odometer (g.M.QueuedMesh.seen c.args.mesh.now) (g.G.Gauge.count c.args.gauge.now) (g.M.QueuedMesh.seen c.choose.new.mesh) (g.M.QueuedMesh.seen c.forget.new.self)
-    (g.G.Gauge.count c.choose.new.gauge) c.forget.ensures
+    (g.G.Gauge.count c.choose.new.gauge) c.forget.ensures.forgotten
     (asked_stamped g.w (g.G.Gauge.readings c.args.gauge.now) c.args.odometer (g.M.QueuedMesh.seen c.args.mesh.now) (g.G.Gauge.count c.args.gauge.now) (g.M.QueuedMesh.seen c.steps.mesh) (g.M.QueuedMesh.seen c.choose.new.mesh)
     (g.G.Gauge.count c.steps.gauge) (g.G.Gauge.count c.choose.new.gauge) c.in-End.ensures.asked c.steps.invariant.stamped)
+
+pub returns-in-End-clause-log : goal.returns-in-End-clause-log
+returns-in-End-clause-log g c =
+    logged_on (g.M.QueuedMesh.seen c.args.mesh.now).set (g.M.QueuedMesh.seen c.steps.mesh).set (g.M.QueuedMesh.seen c.forget.new.self).set
+    (emptied (g.M.QueuedMesh.log c.args.mesh.now)) (g.M.QueuedMesh.log c.steps.mesh) (g.M.QueuedMesh.log c.forget.new.self)
+    c.steps.invariant.log (c.forget.ensures.forgotten.set ∙ c.in-End.ensures.asked.set) (c.forget.ensures.log ∙ c.in-End.ensures.log)

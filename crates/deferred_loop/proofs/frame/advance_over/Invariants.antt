@@ -1,6 +1,7 @@
 use Rattle.std.proofs.Common.{◌≡◌}
 use Rattle.deferred_loop.specs.Seen.{IsCountedBy}
 use Rattle.frame_steps.proofs.MeasureLemmas.{steps_left}
+use Rattle.deferred_loop.specs.Log.{emptied, IsLogged}
 use Rattle.deferred_loop.specs.Kept.{IsSettled, IsCharged, IsStamped}
 use Rattle.deferred_loop.proofs.frame.advance_over.Given as goal
 
@@ -22,6 +23,7 @@ invariant-steps g l = record {
   readings : g.G.Gauge.readings l.gauge ≡ g.G.Gauge.readings l.fn.gauge;
   settled : IsSettled g.w (g.M.QueuedMesh.seen l.mesh);
   counters : IsCountedBy (g.M.QueuedMesh.seen l.fn.mesh).set (g.M.QueuedMesh.seen l.mesh).set l.splits l.merges;
+  log : IsLogged (g.M.QueuedMesh.seen l.fn.mesh).set (g.M.QueuedMesh.seen l.mesh).set (emptied (g.M.QueuedMesh.log l.fn.mesh)) (g.M.QueuedMesh.log l.mesh);
   charged : IsCharged g.w (g.G.Gauge.count l.fn.gauge) (g.M.QueuedMesh.seen l.mesh) l.splits l.merges (g.G.Gauge.count l.gauge);
   stamped : IsStamped (g.G.Gauge.readings l.fn.gauge) l.odometer (g.M.QueuedMesh.seen l.fn.mesh) (g.G.Gauge.count l.fn.gauge) (g.M.QueuedMesh.seen l.mesh) (g.G.Gauge.count l.gauge);
 }

@@ -8,10 +8,12 @@ use Rattle.triangle_pool.specs.Answer.{numbers}
 use Rattle.triangle_pool.specs.Slots.{PoolState}
 use Rattle.triangle_pool.specs.declared.pool.Born.{Born}
 use Rattle.roam_mesh.specs.Parts.{is_leaf_at, is_ready_at}
-use Rattle.roam_mesh.specs.Change.{with_chain, left_all, pushed_all}
+use Rattle.roam_mesh.specs.Change.{diamond_slots, with_chain, left_all, pushed_all}
 use Rattle.roam_mesh.specs.Splitting.{born_slots, born_leaves}
 use Rattle.roam_mesh.proofs.FreshLemmas.{pushed_all-pool}
 use Rattle.roam_mesh.proofs.PlacedLemmas.{left_all-pool}
+use Rattle.roam_mesh.specs.Log.{IsBornOfSplit}
+use Rattle.roam_mesh.proofs.LogLemmas.{carried_born}
 use Rattle.roam_mesh.proofs.SplitAtLemmas.{carried_parts, split_own_ready, split_at_end, chain_leaves, answers_live, IsPlanned}
 use Rattle.roam_mesh.proofs.parts.Parts.split_at.Goals as goal
 
@@ -73,8 +75,8 @@ push_diamond-requires c =
     let pool = ap (λ z. z.pool) c.push_born.ensures ∙ pushed_all-pool c.split_pool-answers.new.self (born_leaves c.split_pool-answers.new.self.pool.pairs c.deref-2.result.now) in
     record { ready = subst (λ (z : PoolState). is_ready_at z.pairs c.args.s.0 ≡ true) (sym pool) ready }
 
-pub returns : goal.returns
-returns c =
+pub returns-clause-split : goal.returns-clause-split
+returns-clause-split c =
     let planned = subst (λ (z : PoolState). IsPlanned z c.args.s.0 (numbers c.plan-chain.result.slots.items) c.plan-chain.result.gain) (ap (λ z. z.pool) c.self.view_is)
     (record { first = c.plan-chain.ensures.first; linked = c.plan-chain.ensures.chain; size = c.plan-chain.ensures.size; gains = c.plan-chain.ensures.gain }) in
     let left = c.leave_chain.ensures ∙ ap (λ (x : List Slot). left_all c.args.self.now (with_chain c.args.self.now.pool.pairs (numbers x))) c.deref.ensures.0 in
@@ -83,3 +85,15 @@ returns c =
     let born = c.push_born.ensures ∙ ap (λ (x : List Born). pushed_all c.split_pool-answers.new.self (born_leaves c.split_pool-answers.new.self.pool.pairs x)) c.deref-2.ensures.0 in
     split_at_end c.args.self.now c.leave_chain.new.self c.split_pool-answers.new.self c.push_born.new.self c.push_diamond.new.self c.args.s.0 (numbers c.plan-chain.result.slots.items) c.plan-chain.result.gain
     c.split_pool-answers.result.items (omega arith) planned c.requires.leaf left c.split_pool-answers.ensures.pool c.split_pool-answers.ensures.rest born c.push_diamond.ensures
+
+pub returns-clause-born : goal.returns-clause-born
+returns-clause-born c =
+    let planned = subst (λ (z : PoolState). IsPlanned z c.args.s.0 (numbers c.plan-chain.result.slots.items) c.plan-chain.result.gain) (ap (λ z. z.pool) c.self.view_is)
+    (record { first = c.plan-chain.ensures.first; linked = c.plan-chain.ensures.chain; size = c.plan-chain.ensures.size; gains = c.plan-chain.ensures.gain }) in
+    let left = c.leave_chain.ensures ∙ ap (λ (x : List Slot). left_all c.args.self.now (with_chain c.args.self.now.pool.pairs (numbers x))) c.deref.ensures.0 in
+    let carried = carried_parts c.args.self.now c.leave_chain.new.self c.split_pool-answers.new.self.pool (numbers c.plan-chain.result.slots.items) c.split_pool-answers.result.items left c.split_pool-answers.ensures.pool in
+    let pool : c.push_diamond.new.self.pool ≡ c.split_pool-answers.new.self.pool =
+    ap (λ z. z.pool) c.push_diamond.ensures ∙ pushed_all-pool c.push_born.new.self (diamond_slots c.push_born.new.self.pool.pairs c.args.s.0)
+    ∙ ap (λ z. z.pool) c.push_born.ensures ∙ pushed_all-pool c.split_pool-answers.new.self (born_leaves c.split_pool-answers.new.self.pool.pairs c.deref-2.result.now) in
+    subst (λ (z : PoolState). IsBornOfSplit c.args.self.now.pool z c.split_pool-answers.result.items) (sym pool)
+    (carried_born c.args.self.now.pool c.split_pool-answers.new.self.pool (numbers c.plan-chain.result.slots.items) c.split_pool-answers.result.items planned.linked carried)

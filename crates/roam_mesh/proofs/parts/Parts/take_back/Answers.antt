@@ -10,7 +10,7 @@ use Rattle.roam_mesh.specs.declared.parts.Parts.TheInside.{Inside}
 use Rattle.roam_mesh.proofs.RoleLemmas.{entry_cases}
 use Rattle.roam_mesh.proofs.PlacedLemmas.{leaf_absent, diamond_absent}
 use Rattle.roam_mesh.proofs.SlotListLemmas.{listed_below, among_last}
-use Rattle.roam_mesh.proofs.EnterLemmas.{read_whole, back_last, seated_has, seated_same}
+use Rattle.roam_mesh.proofs.EnterLemmas.{put_in-pool, read_whole, back_last, seated_has, seated_same}
 use Rattle.roam_mesh.proofs.parts.Parts.take_back.Goals as goal
 use Rattle.roam_mesh.proofs.parts.Parts.take_back.Goals.{After-index-s}
 
@@ -90,3 +90,7 @@ overflow_sub-self c = grind (arith, common_steps)
 
 pub index-s-requires : goal.index-s-requires
 index-s-requires c = grind (arith, common_steps)
+
+pub returns-clause-pool : goal.returns-clause-pool
+returns-clause-pool c =
+    ap (λ (p : PartsState). p.pool) c.put_in.ensures ∙ put_in-pool _ c.index-s.result.now.0 ∙ ap (λ (p : PartsState). p.pool) c.self.view_is

@@ -5,7 +5,7 @@ pub returns-clause-base : goal.returns-clause-base
 returns-clause-base c = base_set c.in_ok-new.field-0.pool.pairs c.in_ok-new.ensures.base
 
 pub returns-clause-stamps : goal.returns-clause-stamps
-returns-clause-stamps c = blank_stamps c.in_ok-new.field-0 c.in_ok-new.ensures.entries
+returns-clause-stamps c = blank_stamps c.in_ok-new.field-0 c.in_ok-new-2.field-0 c.in_ok-new.ensures.entries
 
 pub returns-clause-quiet : goal.returns-clause-quiet
 returns-clause-quiet c = blank_quiet c.in_ok-new.field-0 c.in_ok-new.ensures.entries c.in_ok-new.ensures.fresh

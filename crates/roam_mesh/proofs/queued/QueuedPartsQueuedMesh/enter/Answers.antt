@@ -3,7 +3,7 @@ use Rattle.std.proofs.lemmas.Bool.{both_ways}
 use Rattle.edge_laws.specs.Slots.{address_at}
 use Rattle.deferred_loop.specs.Seen.{IsEntered}
 use Rattle.mesh_defs.specs.ClosedSet.{among}
-use Rattle.roam_mesh.specs.Parts.{PartsState, is_leaf_at, is_ready_at, IsParts, seen_parts}
+use Rattle.roam_mesh.specs.Parts.{QueuedState, PartsState, is_leaf_at, is_ready_at, IsParts, seen_parts}
 use Rattle.roam_mesh.specs.Change.{entered}
 use Rattle.roam_mesh.proofs.RoleLemmas.{entry_cases}
 use Rattle.roam_mesh.proofs.PlacedLemmas.{leaf_absent, diamond_absent}
@@ -38,13 +38,13 @@ invariant_of-self c =
 same_head : (a b : ℕ) (xs ys : List ℕ) → a ∷ xs ≡ b ∷ ys → a ≡ b
 same_head a b xs ys same = cc
 
-pub returns : goal.returns
-returns c =
+pub returns-clause-entered : goal.returns-clause-entered
+returns-clause-entered c =
     let parts = c.self.inside.parts in
     let reading = c.args.reading.now in
     let after = c.enter_next.ensures.entered in
     let seen = entered_seen parts after.0 after.1 reading c.args.odometer c.enter_next.ensures.whole c.self.invariant after.2 in
-    let head = same_head (address_at parts.pool.pairs after.1) c.args._t _ _ (sym seen.fresh ∙ ap (λ (p : PartsState). (seen_parts p).fresh) c.self.view_is ∙ c.requires.next.1) in
+    let head = same_head (address_at parts.pool.pairs after.1) c.args._t _ _ (sym seen.fresh ∙ ap (λ (p : PartsState). (seen_parts p).fresh) (ap (λ (z : QueuedState). z.parts) c.self.view_is) ∙ c.requires.next.1) in
     let one = subst (λ t. IsEntered (seen_parts parts) (seen_parts (entered parts after.0 after.1 reading c.args.odometer)) t reading c.args.odometer) head seen in
     let two = subst (λ p. IsEntered (seen_parts parts) (seen_parts p) c.args._t reading c.args.odometer) (sym after.3) one in
-    subst (λ (p : PartsState). IsEntered (seen_parts p) (seen_parts c.enter_next.new.self) c.args._t reading c.args.odometer) c.self.view_is two
+    subst (λ (p : PartsState). IsEntered (seen_parts p) (seen_parts c.enter_next.new.self) c.args._t reading c.args.odometer) (ap (λ (z : QueuedState). z.parts) c.self.view_is) two
