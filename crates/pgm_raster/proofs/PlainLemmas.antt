@@ -1,13 +1,15 @@
 -- Facts about the digits of samples.
-use Rattle.std.proofs.Common.{◌≡◌, ℕ, ◌+◌, ◌-◌, ◌<◌, ◌≤◌, true, false, ◌&&◌, nat_lt, List, [], ◌∷◌, ◌++◌, length, take, drop, Err, sym, ap, ◌∙◌, arith, append_assoc, take-append-drop, length-take-le, length-drop, length-append}
+use Rattle.std.proofs.Common.{◌≡◌, ℕ, ◌+◌, ◌-◌, ◌<◌, ◌≤◌, true, false, ◌&&◌, nat_lt, List, [], ◌∷◌, ◌++◌, length, take, drop, get_or, Err, sym, ap, ◌∙◌, arith, append_assoc, take-append-drop, length-take-le, length-drop, length-append}
 use Rattle.std.specs.Char.{is_ascii_digit}
+use Rattle.std.proofs.lemmas.List.{drop-drop, drop_more}
 use Rattle.std.proofs.lemmas.Bool.{lt-ltb, le-ltb, eq-eqb, ne_eqb, cond-true, cond-false}
 use Rattle.text_laws.specs.Blanks.{is_white}
 use Rattle.pgm_raster.specs.declared.fault.RasterFault.{RasterFault}
 use Rattle.pgm_raster.specs.declared.fault.RasterFault.TheVariants.{BadSample, Trailing, TooLong}
 use Rattle.pgm_raster.specs.declared.part.Limits.{Limits}
 use Rattle.pgm_raster.specs.declared.part.Digits.{Digits}
-use Rattle.pgm_raster.specs.Progress.{most_bytes, after, ended_then, no_digits, with_digit, plain_from}
+use Rattle.pgm_raster.specs.declared.part.Part.TheVariants as part
+use Rattle.pgm_raster.specs.Progress.{most_bytes, after, ended_then, no_digits, with_digit, plain_from, reads}
 
 -- ---- one more byte, before the most that a file has
 
@@ -52,3 +54,28 @@ front-long l old new index i digits next at n piece short here front more =
     ∙ ap (λ (s : List ℕ). after old (plain_from l index digits at s)) (append_assoc (take n piece) (drop n piece) more)
     ∙ front (drop n piece ++ more)
     ∙ ap (after new) (plain-long l i next (at + length (take n piece)) (drop n piece ++ more) (omega arith) (omega arith))
+
+-- ---- digits of a sample, and the byte behind them
+
+-- what the first i bytes have come to, with some of the rest, and the byte behind those
+pub told-next : (l : Limits) (old mid : List ℕ) (first digits next : Digits) (at i taken : ℕ)
+    (piece rest : List ℕ) → rest ≡ drop i piece → i ≤ length piece → i + taken < length piece
+    → at + length piece ≤ most_bytes
+    → ((more : List ℕ) → reads l old (part.Plain first) at (piece ++ more)
+    ≡ reads l mid (part.Plain digits) (at + i) (drop i piece ++ more))
+    → ((place : ℕ) (more : List ℕ) → place + length rest ≤ most_bytes
+    → reads l mid (part.Plain digits) place (rest ++ more)
+    ≡ reads l mid (part.Plain next) (place + taken) (drop taken rest ++ more))
+    → (more : List ℕ) → reads l old (part.Plain first) at (piece ++ more)
+    ≡ reads l mid (part.Plain next) (at + (i + taken))
+    (get_or piece (i + taken) 0 ∷ (drop (i + taken + 1) piece ++ more))
+told-next l old mid first digits next at i taken piece rest is within below fits so_far on more =
+    let left : length rest ≡ length piece - i = ap length is ∙ length-drop i piece in
+    let place : at + i + taken ≡ at + (i + taken) = omega arith in
+    let cut : drop taken rest ≡ get_or piece (i + taken) 0 ∷ drop (i + taken + 1) piece =
+    ap (drop taken) is ∙ drop-drop taken i piece ∙ drop_more piece (i + taken) 0 below in
+    so_far more
+    ∙ ap (λ (s : List ℕ). reads l mid (part.Plain digits) (at + i) (s ++ more)) (sym is)
+    ∙ on (at + i) more (omega arith)
+    ∙ ap (λ (k : ℕ). reads l mid (part.Plain next) k (drop taken rest ++ more)) place
+    ∙ ap (λ (s : List ℕ). reads l mid (part.Plain next) (at + (i + taken)) (s ++ more)) cut

@@ -1,9 +1,9 @@
 //! Further bytes of a plain raster.
 
-ghost use Rattle.std.specs.Prelude.{◌≡◌, ◌+◌, ◌^◌, ◌<◌, ◌≤◌, ◌++◌, ◌∷◌, ℕ, List, length, vec_len, OnOk, IfOk, IfErr};
+ghost use Rattle.std.specs.Prelude.{◌≡◌, ◌+◌, ◌^◌, ◌<◌, ◌≤◌, ◌++◌, ◌∷◌, ℕ, List, length, drop, vec_len, OnOk, IfOk, IfErr};
 ghost use Rattle.std.specs.Vec.{vec_capacity};
 ghost use Rattle.text_laws.specs.Blanks.{is_white};
-ghost use Rattle.pgm_raster.specs.Progress.{Answer, after, reads, ended_then, no_digits};
+ghost use Rattle.pgm_raster.specs.Progress.{Answer, after, reads, plain_from, ended_then, no_digits};
 ghost use Rattle.pgm_raster.specs.Stage.{HasRoom, IsPart, IsDigits};
 ghost use Rattle.pgm_raster.specs.declared.part.Part.TheVariants as part;
 ghost use Rattle.pgm_raster.specs.declared.plain.TheConstants.{MOST_BYTES};
@@ -95,6 +95,56 @@ fn plain_step(
     Err(RasterFault::Trailing { at })
 }
 
+/// Takes the digits before which nothing else stands, as many as a sample may still have, and answers all its digits
+/// and how many bytes were taken.
+#[inline(always)]
+fn digits_after(digits: Digits, piece: &[u8]) -> (Digits, usize)
+    requires short { digits.count ≤ 9 }
+    requires small { digits.value < 10 ^ digits.count }
+    ensures told { (l : Limits) (index at : ℕ) (more : List ℕ) → index < l.count → at + length piece.now ≤ MOST_BYTES →
+        plain_from l index digits at (piece.now ++ more)
+        ≡ plain_from l index result.0 (at + result.1) (drop result.1 piece.now ++ more) }
+    ensures within { result.1 ≤ length piece.now }
+    ensures short { result.0.count ≤ 9 }
+    ensures small { result.0.value < 10 ^ result.0.count }
+{
+    let mut digits = digits;
+    for i in 0..piece.len() {
+        if piece[i].is_ascii_digit() && digits.count < LONGEST {
+            digits = Digits {
+                count: digits.count + 1,
+                value: 10 * digits.value + u32::from(piece[i] - b'0'),
+            };
+        } else {
+            return (digits, i);
+        }
+    }
+    (digits, piece.len())
+}
+
+/// Takes the digits of a sample that is still wanted, and answers all its digits and how many bytes were taken: none
+/// where no sample is wanted.
+#[inline(always)]
+fn wanted_digits(
+    heights: &Vec<u16>,
+    limits: Limits,
+    digits: Digits,
+    piece: &[u8],
+) -> (Digits, usize)
+    requires part { IsPart limits (vec_len heights.now) (part.Plain digits) }
+    ensures told { (at : ℕ) (more : List ℕ) → at + length piece.now ≤ MOST_BYTES →
+        reads limits heights.now.items (part.Plain digits) at (piece.now ++ more)
+        ≡ reads limits heights.now.items (part.Plain result.0) (at + result.1) (drop result.1 piece.now ++ more) }
+    ensures within { result.1 ≤ length piece.now }
+    ensures part { IsPart limits (vec_len heights.now) (part.Plain result.0) }
+{
+    if heights.len() < limits.count {
+        digits_after(digits, piece)
+    } else {
+        (digits, 0)
+    }
+}
+
 /// Takes bytes, and answers the digits of the sample that is not ended.
 pub(crate) fn plain_after(
     heights: &mut Vec<u16>,
@@ -115,8 +165,15 @@ pub(crate) fn plain_after(
     ensures part { IfOk result (λ next. IsPart limits (vec_len heights.new) (part.Plain next)) }
 {
     let mut digits = digits;
-    for i in 0..piece.len() {
-        digits = plain_step(heights, limits, at + i as u64, digits, piece[i])?;
+    let mut i = 0;
+    while i < piece.len() {
+        let (more, taken) = wanted_digits(heights, limits, digits, &piece[i..]);
+        i += taken;
+        digits = more;
+        if i < piece.len() {
+            digits = plain_step(heights, limits, at + i as u64, digits, piece[i])?;
+            i += 1;
+        }
     }
     Ok(digits)
 }
