@@ -4,13 +4,11 @@ use Rattle.mesh_defs.specs.declared.point.Corners.{Corners}
 use Rattle.mesh_defs.specs.HeightField.{HeightField, height_at}
 use Rattle.mesh_defs.specs.State.{Area, is_in_area}
 use Rattle.mesh_defs.specs.Triangle.{level_of, corners_of, IsSplittable}
-use Rattle.bintree_laws.specs.Corners.{IsWithin}
 use Rattle.wedgie_tree.specs.declared.wedge.Wedge.{Wedge}
 use Rattle.wedgie_tree.specs.Table.{HasEntry, AllUnder, IsTable, IsRightOff, IsKept, kept_levels}
 use Rattle.bintree_laws.specs.Areas.{MeetsArea, IsInRectangle}
 use Rattle.wedgie_tree.specs.Edits.{IsClearOf, area_of}
 use Rattle.wedgie_tree.proofs.AreaLemmas.{AddressLaws}
-use Rattle.wedgie_tree.proofs.HeightLemmas.{apex-passes}
 use Rattle.bintree_laws.proofs.AreaLemmas.{made-area}
 use Rattle.wedgie_tree.proofs.EditLemmas.{IsInRectangle-held, held-x, held-y, held-left, held-right, IsWedge-same}
 
@@ -61,19 +59,7 @@ IsRightOff-edited laws g h area table same right others = λ a kept clear d.
     (λ r held. sym (others r.x r.y (held-x laws g.n a r some fits held) (held-y laws g.n a r some fits held) (free r held)))
     (right.each a before d)
 
--- each triangle holds a point of the whole square, so nothing is asked of a table that is filled
-pub IsRightOff-whole : AddressLaws → (g : HeightField) (side : ℕ) (table : List Wedge) → side ≡ 2 ^ g.n →
-    IsRightOff g (area_of 0 0 side side) table
-IsRightOff-whole laws g side table is = λ a kept clear.
-    let coarse : level_of a < kept_levels g.n = kept.coarse in
-    let w : IsWithin (2 ^ g.n) (corners_of g.n a) = laws.within g.n a in
-    let x : (corners_of g.n a).apex.x ≤ side = omega (arith, w.apex_x) in
-    let y : (corners_of g.n a).apex.y ≤ side = omega (arith, w.apex_y) in
-    absurd (clear (corners_of g.n a).apex (apex-passes laws g.n a kept.low (omega arith))
-    (made-area (area_of 0 0 side side) (corners_of g.n a).apex.x (corners_of g.n a).apex.y
-    (record { left = omega arith; right = x; bottom = omega arith; top = y })))
-
--- the same after one height was set
+-- after one height was set
 pub IsRightOff-set : AddressLaws → (g h : HeightField) (area : Area) (one two : List Wedge) (x y : ℕ) → area ≡ area_of x y x y →
     two ≡ one → h.n ≡ g.n → IsTable g one → ((i j : ℕ) → i ≤ 2 ^ g.n → j ≤ 2 ^ g.n → (i ≡ x → j ≡ y → ⊥) →
     height_at g.n h.heights i j ≡ height_at g.n g.heights i j) → IsRightOff h area two

@@ -27,7 +27,3 @@ v1-of within n a c is = let w : IsWithin (2 ^ n) c = IsWithin-of within n a c is
 -- the number of places as it is computed
 pub places-shift : (n : ℕ) → n ≤ 11 → 1 * 2 ^ (2 * n + 1) % 2 ^ 64 ≡ 2 ^ (2 * n + 1)
 places-shift n small = one_shl (2 * n + 1) 64 (omega arith)
-
--- the last column of the grid as it is computed
-pub side-shift : (n k : ℕ) → k ≡ n → k ≤ 11 → 1 * 2 ^ k % 2 ^ 32 ≡ 2 ^ n
-side-shift n k is small = let P : ℕ → Type 0 = λ i. 1 * 2 ^ k % 2 ^ 32 ≡ 2 ^ i in subst P is (one_shl k 32 (omega arith))

@@ -36,7 +36,7 @@ fn place(grid: &Grid, point: Point) -> usize
 
 /// The places of the corners of a triangle.
 #[inline(always)]
-fn places_at(grid: &Grid, tri: Tri, corners: Corners) -> Places
+pub(crate) fn places_at(grid: &Grid, tri: Tri, corners: Corners) -> Places
     requires of_tri { corners ≡ corners_of grid.now.n tri }
     ensures { IsAt grid.now.n (corners_of grid.now.n tri) result }
 {
@@ -50,7 +50,7 @@ fn places_at(grid: &Grid, tri: Tri, corners: Corners) -> Places
 
 /// The places of the left child.
 #[inline(always)]
-fn left_of(grid: &Grid, tri: Tri, places: Places) -> Places
+pub(crate) fn left_of(grid: &Grid, tri: Tri, places: Places) -> Places
     requires splittable { level_of tri < 2 * grid.now.n }
     requires at { IsAt grid.now.n (corners_of grid.now.n tri) places }
     ensures { IsAt grid.now.n (corners_of grid.now.n (2 * tri)) result }
@@ -65,7 +65,7 @@ fn left_of(grid: &Grid, tri: Tri, places: Places) -> Places
 
 /// The places of the right child.
 #[inline(always)]
-fn right_of(grid: &Grid, tri: Tri, places: Places) -> Places
+pub(crate) fn right_of(grid: &Grid, tri: Tri, places: Places) -> Places
     requires splittable { level_of tri < 2 * grid.now.n }
     requires at { IsAt grid.now.n (corners_of grid.now.n tri) places }
     ensures { IsAt grid.now.n (corners_of grid.now.n (2 * tri + 1)) result }
@@ -102,7 +102,7 @@ fn deviation_at(grid: &Grid, tri: Tri, places: Places) -> u32
 
 /// The wedge of a splittable triangle by those of its children.
 #[inline(always)]
-fn over(grid: &Grid, tri: Tri, places: Places, left: Wedge, right: Wedge) -> Wedge
+pub(crate) fn over(grid: &Grid, tri: Tri, places: Places, left: Wedge, right: Wedge) -> Wedge
     requires splittable { level_of tri < 2 * grid.now.n }
     requires at { IsAt grid.now.n (corners_of grid.now.n tri) places }
     requires of_left { IsWedge grid.now (2 * tri) left }
@@ -189,16 +189,15 @@ fn wedge_4(grid: &Grid, tri: Tri, places: Places) -> Wedge
     over(grid, tri, places, left, right)
 }
 
-/// The wedge of a triangle of the last levels, from the heights of the points that it holds.
+/// The wedge of a triangle of the last levels, whose corners have these places, from the heights of the points that it holds.
 ///
 /// Cost (not proved): at most 15 heights and 15 joins.
-pub fn fine_wedge(grid: &Grid, tri: Tri, corners: Corners) -> Wedge
+pub(crate) fn fine_wedge_at(grid: &Grid, tri: Tri, places: Places) -> Wedge
     requires level { level_of tri ≤ 2 * grid.now.n }
     requires fine { 2 * grid.now.n ≤ level_of tri + LEFT_OUT }
-    requires of_tri { corners ≡ corners_of grid.now.n tri }
+    requires at { IsAt grid.now.n (corners_of grid.now.n tri) places }
     ensures { IsWedge grid.now tri result }
 {
-    let places = places_at(grid, tri, corners);
     match 2 * grid.n() - tri.level() {
         0 => wedge_0(grid, tri, places),
         1 => wedge_1(grid, tri, places),
@@ -206,4 +205,14 @@ pub fn fine_wedge(grid: &Grid, tri: Tri, corners: Corners) -> Wedge
         3 => wedge_3(grid, tri, places),
         _ => wedge_4(grid, tri, places),
     }
+}
+
+/// The same, where the corners are known.
+pub(crate) fn fine_wedge(grid: &Grid, tri: Tri, corners: Corners) -> Wedge
+    requires level { level_of tri ≤ 2 * grid.now.n }
+    requires fine { 2 * grid.now.n ≤ level_of tri + LEFT_OUT }
+    requires of_tri { corners ≡ corners_of grid.now.n tri }
+    ensures { IsWedge grid.now tri result }
+{
+    fine_wedge_at(grid, tri, places_at(grid, tri, corners))
 }

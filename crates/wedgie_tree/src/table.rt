@@ -3,10 +3,11 @@
 ghost use Rattle.std.specs.Prelude.{◌≡◌, ℕ, ◌+◌, ◌-◌, ◌*◌, ◌^◌, ◌<◌, ◌≤◌, length};
 ghost use Rattle.mesh_defs.specs.Triangle.{level_of, corners_of};
 ghost use Rattle.mesh_defs.specs.declared.level.TheConstants.{GREATEST_LEVEL};
+ghost use Rattle.wedgie_tree.specs.Places.{IsAt};
 ghost use Rattle.wedgie_tree.specs.Table.{kept_levels, IsWedge, HasEntry, AllUnder, IsTable, IsRightOff};
 
 use crate::Area;
-use crate::fine::fine_wedge;
+use crate::fine::{Places, fine_wedge, fine_wedge_at, left_of, over, places_at, right_of};
 use crate::laws::wedge_laws;
 use crate::shape::deviation_of;
 use crate::wedge::Wedge;
@@ -71,7 +72,7 @@ pub fn mend_under(table: &mut [Wedge], grid: &Grid, area: Area, tri: Tri, corner
 {
     corner_laws();
     level_laws();
-    if levels(grid.n()) <= tri.level() {
+    if tri.level() >= levels(grid.n()) {
         return fine_wedge(grid, tri, corners);
     }
     if !area.meets(corners) {
@@ -99,14 +100,41 @@ pub fn mend(table: &mut [Wedge], grid: &Grid, area: Area)
     mend_under(table, grid, area, above_diagonal, above_diagonal.corners(n));
 }
 
-/// Fills the whole table: each triangle meets the whole square.
+/// Fills the entries of a triangle, whose corners have these places, and of all its descendants, and answers its own wedge.
+///
+/// `mend_under` over an area that each triangle meets does the same, and asks each of them.
+fn fill_under(table: &mut [Wedge], grid: &Grid, tri: Tri, places: Places) -> Wedge
+    requires room { length table.old ≡ 2 ^ (kept_levels grid.now.n + 1) }
+    requires level { level_of tri ≤ 2 * grid.now.n }
+    requires at { IsAt grid.now.n (corners_of grid.now.n tri) places }
+    ensures value { IsWedge grid.now tri result }
+    ensures under { AllUnder (kept_levels grid.now.n - level_of tri) (HasEntry grid.now table.new) tri }
+    ensures others { (a : ℕ) → HasEntry grid.now table.old a → HasEntry grid.now table.new a }
+{
+    level_laws();
+    if levels(grid.n()) <= tri.level() {
+        return fine_wedge_at(grid, tri, places);
+    }
+    let left = fill_under(table, grid, tri.left(), left_of(grid, tri, places));
+    let right = fill_under(table, grid, tri.right(), right_of(grid, tri, places));
+    let wedge = over(grid, tri, places, left, right);
+    table[tri.number() as usize] = wedge;
+    wedge
+}
+
+/// Fills the whole table.
 pub fn fill(table: &mut [Wedge], grid: &Grid)
     requires { length table.old ≡ 2 ^ (kept_levels grid.now.n + 1) }
     ensures { IsTable grid.now table.new }
 {
-    let side = 1 << grid.n();
-    let square = Area::new(0, 0, side, side);
-    mend(table, grid, square);
+    level_laws();
+    let n = grid.n();
+    let below_diagonal = base(2);
+    let above_diagonal = base(3);
+    let lower = places_at(grid, below_diagonal, below_diagonal.corners(n));
+    let upper = places_at(grid, above_diagonal, above_diagonal.corners(n));
+    fill_under(table, grid, below_diagonal, lower);
+    fill_under(table, grid, above_diagonal, upper);
 }
 
 /// One of the halves of the square, 2 or 3.
