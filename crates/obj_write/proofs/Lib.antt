@@ -4,6 +4,7 @@ pub mod FieldLemmas
 pub mod LineLemmas
 pub mod NumberLemmas
 pub mod PageLemmas
+pub mod PatchLemmas
 pub mod PlaceLemmas
 pub mod RowLemmas
 pub mod ScanLemmas

@@ -5,6 +5,7 @@ pub mod LinesLeft
 pub mod MeshView
 pub mod Numbers
 pub mod Page
+pub mod Patch
 pub mod Row
 pub mod Scan
 pub mod Table

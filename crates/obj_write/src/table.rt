@@ -19,7 +19,7 @@ use std::alloc::Global;
 use std::marker::Model;
 
 /// How many places a flag tells of.
-const BLOCK: usize = 64;
+pub(crate) const BLOCK: usize = 64;
 
 /// The vertex number of each grid point of a mesh, or 0, by y and then by x.
 ///
@@ -27,9 +27,9 @@ const BLOCK: usize = 64;
 /// on a large grid is bounded by the triangles, but for a look at one flag in 64 places.
 #[derive(Drop)]
 pub struct VertexTable {
-    numbers: Vec<u32>,
+    pub(crate) numbers: Vec<u32>,
     /// For each block of places whether a number may stand there.
-    used: Vec<bool>,
+    pub(crate) used: Vec<bool>,
 }
 
 impl Model for VertexTable {
@@ -81,7 +81,7 @@ impl VertexTable {
         let used = self.used.as_mut_slice();
         clear(numbers, used);
         mark_vertices(leaves, n, numbers, used);
-        number_blocks(numbers, used)
+        number_blocks(numbers, used, 0, 0)
     }
 }
 
@@ -147,16 +147,19 @@ fn mark_vertex(n: u32, numbers: &mut [u32], used: &mut [bool], point: Point)
     used[at / BLOCK] = true;
 }
 
-/// Puts in place of each mark how many marks there are up to it, and answers how many there are.
-fn number_blocks(numbers: &mut [u32], used: &[bool]) -> u32
+/// Puts in place of each mark how many marks there are up to it, from a block on, where those before it are counted and numbered,
+/// so many; answers how many there are in all.
+pub(crate) fn number_blocks(numbers: &mut [u32], used: &[bool], first: usize, before: u32) -> u32
     requires room { length numbers.old < 2 ^ 32 }
     requires flagged { AreFlagged numbers.old used.now }
+    requires first { first ≤ length used.now }
+    requires counted { IsCounted numbers.old numbers.old before (block_end numbers.old first) }
     ensures numbers { numbers.new ≡ numbered 0 numbers.old }
     ensures count { result ≡ marked numbers.old }
     ensures flagged { AreFlagged numbers.new used.now }
 {
-    let mut count = 0;
-    for block in 0..used.len() {
+    let mut count = before;
+    for block in first..used.len() {
         if used[block] {
             count = number_block(numbers, block, count);
         }

@@ -30,6 +30,8 @@ mod kernels;
 #[cfg(test)]
 mod leaves;
 #[cfg(test)]
+mod mended_numbers;
+#[cfg(test)]
 mod mesh_texts;
 #[cfg(test)]
 mod numbers;
