@@ -1,6 +1,6 @@
 //! Calls that change what an engine shows.
 
-ghost use Rattle.std.specs.Prelude.{◌≡◌, ⊤};
+ghost use Rattle.std.specs.Prelude.{⊤};
 ghost use Rattle.roam_embed.specs.Calls.{IsCameraMoved, IsPlaneAdded, ArePlanesCleared, IsBudgetPut, IsHeightPut, IsAreaRaised};
 ghost use Rattle.roam_embed.specs.Looking.{ArePlanesPut};
 ghost use Rattle.roam_embed.specs.Renewal.{IsRenewed};

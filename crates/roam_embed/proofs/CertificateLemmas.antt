@@ -6,7 +6,7 @@ use Rattle.cert_text.specs.Certificate.{Certificate}
 use Rattle.cert_text.specs.CertText.{cert_text}
 use Rattle.view_priority.specs.Camera.{IsCamera}
 use Rattle.roam_embed.specs.declared.answer.Answer.{Answer}
-use Rattle.roam_embed.specs.declared.answer.Answer.TheVariants.{Done, NoMemory, BadCamera, NoRoom}
+use Rattle.roam_embed.specs.declared.answer.Answer.TheVariants.{Done, NoRoom}
 use Rattle.roam_embed.specs.Answer.{number_of}
 use Rattle.roam_embed.specs.Certificates.{unplaned_at, IsCertificateAt, IsCertificateText, IsCertificateTold}
 

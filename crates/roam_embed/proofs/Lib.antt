@@ -1,2 +1,3 @@
 pub mod CertificateLemmas
-pub mod OpenLemmas
+pub mod DrawnLemmas
+mod OpenLemmas

@@ -4,6 +4,7 @@ pub mod Told
 pub mod Calls
 pub mod Looking
 pub mod Renewal
+pub mod Drawn
 pub mod Shapes
 pub mod Fitting
 pub mod Certificates

@@ -1,6 +1,5 @@
 //! Changes of heights.
 
-ghost use Rattle.std.specs.Prelude.{◌≡◌};
 ghost use Rattle.roam_embed.specs.Calls.{IsHeightPut, IsAreaRaised};
 
 use crate::answer::Answer;

@@ -1,6 +1,5 @@
 //! The triangles of the mesh, written into a caller's array.
 
-ghost use Rattle.std.specs.Prelude.{◌≡◌};
 ghost use Rattle.roam_embed.specs.Calls.{AreIndicesTold, AreLeavesTold};
 
 use crate::answer::Answer;

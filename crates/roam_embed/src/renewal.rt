@@ -1,6 +1,5 @@
 //! Counts that start again.
 
-ghost use Rattle.std.specs.Prelude.{◌≡◌};
 ghost use Rattle.roam_embed.specs.Renewal.{IsRenewed};
 
 use crate::answer::Answer;

@@ -1,6 +1,6 @@
 //! The mesh by its own vertices, as a strip, and how far the surface is from it.
 
-ghost use Rattle.std.specs.Prelude.{◌≡◌, ◌*◌, ◌≤◌, ℕ, IfOk, All, length, count_by, nat_eq};
+ghost use Rattle.std.specs.Prelude.{◌≡◌, ◌*◌, ◌≤◌, IfOk, All, length};
 ghost use Rattle.mesh_defs.specs.Triangle.{level_of};
 ghost use Rattle.frame_loop.specs.Engine.{mesh_seen};
 ghost use Rattle.roam_embed.specs.Shapes.{strip_seen, ArePositionsTold, IsCompactTold, IsStripTold, IsDeviationTold};
@@ -34,6 +34,7 @@ pub fn tell_positions(engine: &Engine, out: &mut [u32], vertices: &mut usize) ->
 ///
 /// A vertex is its place among those of `tell_positions`, counted from 0.
 /// Cost (not proved): a step a level for each triangle. Takes no memory.
+#[tactic(auto, using(crate::proofs::DrawnLemmas::told_drawn))]
 pub fn tell_compact(engine: &Engine, out: &mut [u32], triangles: &mut usize) -> Answer
     ensures { IsCompactTold engine.now out.old out.new triangles.old triangles.new result }
 {

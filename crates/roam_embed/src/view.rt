@@ -1,6 +1,5 @@
 //! The camera, the planes and the budget.
 
-ghost use Rattle.std.specs.Prelude.{◌≡◌};
 ghost use Rattle.roam_embed.specs.Calls.{IsCameraMoved, IsPlaneAdded, ArePlanesCleared, IsBudgetPut};
 
 use crate::answer::Answer;

@@ -1,4 +1,4 @@
-use Rattle.std.proofs.Common.{◌≡◌, rules, sym, subst}
+use Rattle.std.proofs.Common.{rules, sym, subst}
 use Rattle.mesh_defs.specs.BoundingBox.{CameraAt}
 use Rattle.view_priority.specs.Camera.{IsCamera}
 use Rattle.roam_embed.specs.Certificates.{IsCertificateText}

@@ -1,5 +1,4 @@
 use Rattle.std.proofs.Common.{◌≡◌, ℕ, ◌*◌, ◌^◌, ◌≤◌, List, length, sym, ◌∙◌, subst, arith}
-use Rattle.std.specs.List.{All}
 use Rattle.std.proofs.lemmas.List.Elements.{All-weaker}
 use Rattle.mesh_defs.specs.Triangle.{level_of, IsAddress}
 use Rattle.mesh_defs.specs.Tiling.{IsConforming}
