@@ -81,6 +81,14 @@ static void told_frames(const char *name, int count, double seconds) {
     asked = changed = 0;
 }
 
+/* Four planes of a view that has turned k times, from (x, y, z). */
+static void view(int k, int64_t x, int64_t y, int64_t z, roam_plane *planes) {
+    planes[0] = (roam_plane){ 1000, 1000 + k, 0, -1000 * x - (1000 + k) * y };
+    planes[1] = (roam_plane){ -1000, 1000 - k, 0, 1000 * x - (1000 - k) * y };
+    planes[2] = (roam_plane){ 0, 1000, 1500 + k, -1000 * y };
+    planes[3] = (roam_plane){ 0, 1000, -1500, 1500 * z - 1000 * y };
+}
+
 int main(int argc, char **argv) {
     bool is_memory = argc == 4 && strcmp(argv[1], "memory") == 0;
     if (argc != 4) return fprintf(stderr, "usage: calls N BUDGET STEP, or calls memory N BUDGET\n"), 2;
@@ -147,21 +155,32 @@ int main(int argc, char **argv) {
     must(roam_certificate(&terrain, x, y, z, text, 48 + 30 * room, &length));
     tell("certificate", 1, now() - start);
 
-    /* A view of four planes that turns in each frame. */
+    /* A view of four planes that turns in each frame: put one by one, and then all at once. */
+    roam_plane planes[4];
     in_frame = 0;
     double in_planes = 0;
     for (int k = 1; k <= 10; k++) {
         must(roam_camera(&terrain, x += step, y, z));
+        view(k, x, y, z, planes);
         start = now();
         must(roam_clear_planes(&terrain));
-        must(roam_add_plane(&terrain, 1000, 1000 + k, 0, -1000 * x - (1000 + k) * y));
-        must(roam_add_plane(&terrain, -1000, 1000 - k, 0, 1000 * x - (1000 - k) * y));
-        must(roam_add_plane(&terrain, 0, 1000, 1500 + k, -1000 * y)), must(roam_add_plane(&terrain, 0, 1000, -1500, 1500 * z - 1000 * y));
+        for (int i = 0; i < 4; i++) must(roam_add_plane(&terrain, planes[i].a, planes[i].b, planes[i].c, planes[i].d));
         in_planes += now() - start;
         in_frame += frame();
     }
     tell("planes", 10, in_planes);
     told_frames("turned", 10, in_frame);
+    in_frame = in_planes = 0;
+    for (int k = 11; k <= 20; k++) {
+        must(roam_camera(&terrain, x += step, y, z));
+        view(k, x, y, z, planes);
+        start = now();
+        must(roam_look(&terrain, planes, 4));
+        in_planes += now() - start;
+        in_frame += frame();
+    }
+    tell("look", 10, in_planes);
+    told_frames("looked", 10, in_frame);
     must(roam_clear_planes(&terrain));
     frame(), asked = changed = 0;
 

@@ -298,7 +298,7 @@ if [ -x "$single" ]; then
     for flight in 9_20000_30 9_20000_602 11_20000_30 11_100000_30; do
       IFS=_ read -r level most step <<<"$flight"
       for ((k = 0; k < runs; k++)); do "$room/calls" "$level" "$most" "$step"; done >"$room/called"
-      for name in open first later indices leaves changes positions compact strip deviation fit_budget fit_error certificate planes turned camera state set raise edited; do
+      for name in open first later indices leaves changes positions compact strip deviation fit_budget fit_error certificate planes turned look looked camera state set raise edited; do
         read -r _ count seconds _ asked _ changed <<<"$(grep "^$name " "$room/called" | sort -t ' ' -k 3 -g | head -n 1)"
         beside=
         case $name in

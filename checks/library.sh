@@ -244,4 +244,8 @@ if has library_csharp mcs mono; then
   if builds library_csharp mcs -warnaserror -out:frames.exe "$prefix/share/roam/Roam.cs" "$tests/Frames.cs"; then
     runs library_csharp 'frames of C#' env LD_LIBRARY_PATH="$prefix/lib" mono frames.exe
   fi
+  { echo 'static class Loop { static void Fly(ushort[] heights, bool flying, long x, long y, long z) {'; block csharp; echo '} }'; } >loop.cs
+  if builds library_csharp_loop_of_the_docs mcs -target:library -out:loop.dll "$prefix/share/roam/Roam.cs" loop.cs; then
+    ok library_csharp_loop_of_the_docs
+  fi
 fi

@@ -7,6 +7,7 @@ usage: python3 checks/viewer.py GRID PICTURE CHROMIUM       all; the picture of 
 
 The browser is driven over its debugging pipe, so nothing but Python's std is wanted.
 """
+import array
 import base64
 import http.client
 import json
@@ -291,6 +292,30 @@ def check_lift(server):
     decide("viewer_raised_ground_is_the_engines", why)
 
 
+def check_worn():
+    """A flight whose engine has made its million frames goes on: its counts begin again, and mesh, planes and ground stay."""
+    sys.path[:0] = [str(TOP / "examples/fly"), str(TOP / "lib/python")]
+    import fly
+    import roam
+    flight = fly.Flight(roam.Engine, 3, array.array("H", [0, 0, 0, 0, 100, 0, 0, 0, 0]), 8, 10, False)
+    asked, engine = [7, 10, 10, 150, 0, 0, 1, -5], flight.engine
+    flight.lift([1, 1, 1, 20])
+    first, why = flight.frame(asked), []
+    for _ in range(999_999):
+        engine.frame()
+    try:
+        engine.frame()
+        why.append("a million and one frames are made")
+    except roam.Worn:
+        pass
+    last, state = flight.frame(asked), engine.state()
+    if flight.engine is not engine or (state.frames, state.budget, state.planes) != (1, 7, 1):
+        why.append(f"it goes on as {state}")
+    if last[:16] != first[:16] or last[64:] != first[64:] or engine.deviation() != 0:
+        why.append("with another mesh")
+    decide("viewer_flight_goes_on_after_a_million_frames", why)
+
+
 def check_browser(server, picture, chromium):
     """Ten frames of the recorded path, and a click."""
     with tempfile.TemporaryDirectory(ignore_cleanup_errors=True) as profile:
@@ -386,6 +411,7 @@ def main():
         if len(words) == 3:
             check_browser(server, words[1], words[2])
         check_lift(server)
+        check_worn()
         decide("viewer_server_stays_and_says_nothing_wrong", [it.strip() for it in server.errors] + ([] if server.process.poll() is None else ["it ended"]))
     finally:
         server.process.terminate()

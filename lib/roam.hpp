@@ -7,8 +7,6 @@
 #define ROAM_HPP
 #include "roam.h"
 #include <algorithm>
-#include <cstddef>
-#include <cstdint>
 #include <iterator>
 #include <stdexcept>
 #include <string>
@@ -16,16 +14,15 @@
 #include <vector>
 
 namespace roam {
-
 /// What an answer says, in words.
 inline const char *text_of(int32_t answer) noexcept {
     static const char *const texts[] = {
         "done", "out of memory", "the count of heights is not (2^n + 1)^2 with n from 1 to 11",
         "the budget is below 2, above 1048576, or above the budget at opening", "the spacing is not from 1 to 1024",
         "a coordinate of the camera is beyond 2^30", "a slope of the plane is beyond 2^20, or its offset beyond 2^50",
-        "six planes are in force, or more than six are given", "a point is outside the grid, or the area is empty", "the change is beyond 65535",
-        "the engine has made 1000000 frames, or its camera has gone 2^61 units: renew it", "the array has too few places",
-        "there is no engine", "the tolerance is above 65535999 thousandths"};
+        "six planes are in force, or more than six are given", "a point is outside the grid, or the area is empty",
+        "the change is beyond 65535", "the engine has made 1000000 frames, or its camera has gone 2^61 units: renew it",
+        "the array has too few places", "there is no engine", "the tolerance is above 65535999 thousandths"};
     return answer >= 0 && answer <= ROAM_BAD_TOLERANCE ? texts[answer] : "an unknown answer";
 }
 
@@ -34,8 +31,7 @@ using result = roam_answer;
 inline result told(int32_t answer, const char *) noexcept { return static_cast<roam_answer>(answer); }
 #else
 /// A call that was refused. It has changed nothing.
-class error : public std::runtime_error {
-public:
+struct error : std::runtime_error {
     roam_answer answer;
     error(int32_t answer, const char *call)
         : std::runtime_error(std::string(call) + ": " + text_of(answer)), answer(static_cast<roam_answer>(answer)) {}
@@ -51,33 +47,28 @@ inline void told(int32_t answer, const char *call) {
 /// No member is const: each call uses the engine, so two threads may not make two calls at once.
 class engine {
     roam_handle h = ROAM_EMPTY;
-    static uint32_t *room(uint32_t *at) noexcept { // never null
-        static uint32_t none;
+    template <class T> static T *some(T *at) noexcept { // never null
+        static T none{};
         return at ? at : &none;
     }
-    using list = int32_t (*)(roam_handle *, uint32_t *, std::size_t, std::size_t *);
-    result listed(list call, uint32_t *out, std::size_t places, std::size_t &count, const char *name) {
-        return told(call(&h, room(out), out ? places : 0, &count), name);
+    using list = int32_t (*)(roam_handle *, uint32_t *, size_t, size_t *);
+    result listed(list call, uint32_t *out, size_t places, size_t &count, const char *name) {
+        return told(call(&h, some(out), out ? places : 0, &count), name);
     }
 
 public:
     engine() noexcept = default;
     engine(engine &&o) noexcept : h(std::exchange(o.h, roam_handle ROAM_EMPTY)) {}
-    engine &operator=(engine &&o) noexcept {
-        if (this != &o) {
-            close();
-            h = std::exchange(o.h, roam_handle ROAM_EMPTY);
-        }
+    engine &operator=(engine o) noexcept { // by a move alone: what was open goes with o
+        std::swap(h, o.h);
         return *this;
     }
     engine(const engine &) = delete;
-    engine &operator=(const engine &) = delete;
     ~engine() { close(); }
 
     /// Opens it over heights; all memory is taken here. What was open is closed, unless this is refused.
-    result open(const uint16_t *heights, std::size_t count, uint32_t budget, uint32_t spacing) {
-        static const uint16_t none = 0;
-        return told(roam_open(&h, heights ? heights : &none, heights ? count : 0, budget, spacing), "open");
+    result open(const uint16_t *heights, size_t count, uint32_t budget, uint32_t spacing) {
+        return told(roam_open(&h, some(heights), heights ? count : 0, budget, spacing), "open");
     }
     /// The same of a vector, an array or a span of heights.
     template <class Heights> result open(const Heights &heights, uint32_t budget, uint32_t spacing) {
@@ -87,9 +78,8 @@ public:
 
     result camera(int64_t x, int64_t y, int64_t z) { return told(roam_camera(&h, x, y, z), "camera"); }
     result add_plane(int64_t a, int64_t b, int64_t c, int64_t d) { return told(roam_add_plane(&h, a, b, c, d), "add_plane"); }
-    result look(const roam_plane *planes, std::size_t count) { // in the place of those before: for a view that turns
-        static const roam_plane none{};
-        return told(roam_look(&h, planes ? planes : &none, planes ? count : 0), "look");
+    result look(const roam_plane *planes, size_t count) { // in the place of those before: for a view that turns
+        return told(roam_look(&h, some(planes), planes ? count : 0), "look");
     }
     template <class Planes> result look(const Planes &planes) { return look(std::data(planes), std::size(planes)); }
     result renew() { return told(roam_renew(&h), "renew"); }
@@ -103,67 +93,58 @@ public:
     result state(roam_state_note &out) { return told(roam_state(&h, &out), "state"); }
     result deviation(roam_deviation_note &out) { return told(roam_deviation(&h, &out), "deviation"); }
     /// Numbers into memory of the caller's, such as a mapped buffer, and how many triangles or vertices they are.
-    result indices(uint32_t *out, std::size_t places, std::size_t &n) { return listed(roam_indices, out, places, n, "indices"); }
-    result leaves(uint32_t *out, std::size_t places, std::size_t &n) { return listed(roam_leaves, out, places, n, "leaves"); }
-    result positions(uint32_t *out, std::size_t places, std::size_t &n) { return listed(roam_positions, out, places, n, "positions"); }
-    result compact(uint32_t *out, std::size_t places, std::size_t &n) { return listed(roam_compact, out, places, n, "compact"); }
-    result strip(uint32_t *out, std::size_t places, std::size_t &n) { return listed(roam_strip, out, places, n, "strip"); }
-    result fit(uint32_t thousandths, uint32_t budget, uint32_t *out, std::size_t places, roam_fit_note &found) {
-        return told(roam_fit(&h, thousandths, budget, room(out), out ? places : 0, &found), "fit");
+    result indices(uint32_t *out, size_t places, size_t &n) { return listed(roam_indices, out, places, n, "indices"); }
+    result leaves(uint32_t *out, size_t places, size_t &n) { return listed(roam_leaves, out, places, n, "leaves"); }
+    result positions(uint32_t *out, size_t places, size_t &n) { return listed(roam_positions, out, places, n, "positions"); }
+    result compact(uint32_t *out, size_t places, size_t &n) { return listed(roam_compact, out, places, n, "compact"); }
+    result strip(uint32_t *out, size_t places, size_t &n) { return listed(roam_strip, out, places, n, "strip"); }
+    result fit(uint32_t thousandths, uint32_t budget, uint32_t *out, size_t places, roam_fit_note &found) {
+        return told(roam_fit(&h, thousandths, budget, some(out), out ? places : 0, &found), "fit");
     }
-    result certificate(int64_t x, int64_t y, int64_t z, char *out, std::size_t bytes, std::size_t &length) {
-        static char none;
-        return told(roam_certificate(&h, x, y, z, out ? out : &none, out ? bytes : 0, &length), "certificate");
+    result certificate(int64_t x, int64_t y, int64_t z, char *out, size_t bytes, size_t &length) {
+        return told(roam_certificate(&h, x, y, z, some(out), out ? bytes : 0, &length), "certificate");
     }
 
 #ifndef ROAM_ANSWERS
     template <class Heights> engine(const Heights &heights, uint32_t budget, uint32_t spacing) { open(heights, budget, spacing); }
-    roam_frame_note frame() {
-        roam_frame_note out;
-        frame(out);
-        return out;
-    }
-    roam_state_note state() {
-        roam_state_note out;
-        state(out);
-        return out;
-    }
-    roam_deviation_note deviation() {
-        roam_deviation_note out;
-        deviation(out);
-        return out;
-    }
+    roam_frame_note frame() { return noted(roam_frame, "frame"); }
+    roam_state_note state() { return noted(roam_state, "state"); }
+    roam_deviation_note deviation() { return noted(roam_deviation, "deviation"); }
     /// The same as vectors, made as long as is needed. Kept from frame to frame, they take memory once.
     void indices(std::vector<uint32_t> &out) { fill(roam_indices, out, 3, state().most, "indices"); }
     void leaves(std::vector<uint32_t> &out) { fill(roam_leaves, out, 1, state().most, "leaves"); }
-    void positions(std::vector<uint32_t> &out) { fill(roam_positions, out, 3, std::size_t{state().most} + 2, "positions"); }
+    void positions(std::vector<uint32_t> &out) { fill(roam_positions, out, 3, size_t{state().most} + 2, "positions"); }
     void compact(std::vector<uint32_t> &out) { fill(roam_compact, out, 3, state().most, "compact"); }
     void strip(std::vector<uint32_t> &out) { fill(roam_strip, out, 3, state().most, "strip"); }
     roam_fit_note fit(uint32_t thousandths, uint32_t budget, std::vector<uint32_t> &out) {
-        const std::size_t steps = state().side - 1;
+        const size_t steps = state().side - 1;
         roam_fit_note found;
-        out.resize(3 * std::min(std::size_t{budget}, 2 * steps * steps));
+        out.resize(3 * std::min(size_t{budget}, 2 * steps * steps));
         fit(thousandths, budget, out.data(), out.size(), found);
-        out.resize(3 * std::size_t{found.triangles});
+        out.resize(3 * size_t{found.triangles});
         return found;
     }
     std::string certificate(int64_t x, int64_t y, int64_t z) {
-        std::string out(48 + 30 * std::size_t{state().budget}, ' ');
-        std::size_t length = 0;
+        std::string out(48 + 30 * size_t{state().budget}, ' ');
+        size_t length = 0;
         certificate(x, y, z, &out[0], out.size(), length);
         out.resize(length);
         return out;
     }
 
 private:
-    void fill(list call, std::vector<uint32_t> &out, std::size_t each, std::size_t most, const char *name) {
-        std::size_t count = 0;
+    template <class Note> Note noted(int32_t (*call)(roam_handle *, Note *), const char *name) {
+        Note out;
+        told(call(&h, &out), name);
+        return out;
+    }
+    void fill(list call, std::vector<uint32_t> &out, size_t each, size_t most, const char *name) {
+        size_t count = 0;
         out.resize(each * most);
         listed(call, out.data(), out.size(), count, name);
         out.resize(each * count);
     }
 #endif
 };
-
 } // namespace roam
 #endif

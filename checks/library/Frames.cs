@@ -44,6 +44,14 @@ static class Frames {
         Must(AnswerOf(() => engine.Indices(new uint[0])) == Answer.NoRoom, "no room");
         Must(AnswerOf(() => engine.Camera(1L << 31, 0, 0)) == Answer.BadCamera, "a far camera");
         Must(AnswerOf(() => engine.Fit(65536000, 2, new uint[6])) == Answer.BadTolerance, "a tolerance of 65536");
+        Must(AnswerOf(() => engine.Look(new Plane[7])) == Answer.TooManyPlanes && engine.State().Planes == 1, "seven planes");
+        engine.Look(new Plane { C = 1 }, new Plane { C = -1, D = 5000 });
+        engine.Renew();
+        state = engine.State();
+        Must(state.Planes == 2 && state.Frames == 0 && state.Way == 0 && state.Budget == 5, "a view of two planes, and counts that begin again");
+        engine.Look();
+        Must(engine.State().Planes == 0, "a view of no plane");
+        note = engine.Frame();
         Note there = note;
         var beside = new Thread(() => {
             there = engine.Frame();
@@ -51,7 +59,7 @@ static class Frames {
         });
         beside.Start();
         beside.Join();
-        Must(there.Triangles == note.Triangles && there.Worst == note.Worst && there.Splits == 0 && engine.State().Frames == 3, "a frame on another thread");
+        Must(there.Triangles == note.Triangles && there.Worst == note.Worst && there.Splits == 0 && engine.State().Frames == 2, "a frame on another thread");
         engine.AddPlane(0, 0, 1, 1);
         var last = new Thread(() => engine.Dispose());
         last.Start();

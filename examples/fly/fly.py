@@ -43,14 +43,10 @@ class Flight:
     """One engine, its ground and its last planes. One method at a time runs: who calls holds `lock`."""
 
     def __init__(self, engine_of, side, heights, most, spacing, report):
-        self.engine_of, self.side, self.heights, self.spacing, self.most = engine_of, side, heights, spacing, most
+        self.side, self.heights, self.spacing, self.most = side, heights, spacing, most
         self.report, self.edits, self.frames, self.lock = report, 0, 0, threading.Lock()
         self.names = array.array("I", bytes(4 * most))
-        self.open()
-
-    def open(self):
-        """An engine over the ground as it stands."""
-        self.engine, self.planes, self.budget = self.engine_of(self.heights, self.most, self.spacing), [], self.most
+        self.engine, self.planes, self.budget = engine_of(heights, most, spacing), [], most
 
     def frame(self, numbers):
         """budget, x, y, z, then a, b, c, d of each plane: 16 numbers of 32 bits, and a name a triangle."""
@@ -67,10 +63,9 @@ class Flight:
             self.planes = planes
         try:
             note = engine.frame()
-        except RuntimeError:  # worn by a million frames
-            engine.close()
-            self.open()
-            return self.frame(numbers)
+        except RuntimeError:  # worn by a million frames: its counts begin again, and the mesh goes on
+            engine.renew()
+            note = engine.frame()
         made = time.perf_counter()
         names = bytes(engine.leaves(self.names))
         micros = [round(1e6 * (made - began)), round(1e6 * (time.perf_counter() - made))]
