@@ -3,7 +3,8 @@
 # no figure fails the run, and no claim rests on one. It takes some minutes, python3, and 100 MB of the folder for
 # temporary files.
 #
-# usage: bench/run.sh [PROGRAM]     RUNS=N: the least of N runs is printed (5, if not given)
+# usage: bench/run.sh [whole] [PROGRAM]   with `whole`, the cases from file to file alone
+#                                   RUNS=N: the least of N runs is printed (5, if not given)
 #                                   PEER=PROGRAM: another mesher with the same words, `PEER mesh GRID SCRIPT PREFIX BUDGET SPACING`,
 #                                   is timed beside ours from file to file, and has to write the same files
 set -u
@@ -11,6 +12,8 @@ export LC_ALL=C
 
 here=$(readlink -f -- "${BASH_SOURCE[0]}")
 top=${here%/*/*}
+whole=
+[ "${1:-}" != whole ] || { whole=1; shift; }
 program=$(readlink -f -- "${1:-$top/crates/roam_cli/out/roam_cli}")
 [ -x "$program" ] || { echo "bench/run.sh: there is no program $program; run 'rt ci' or ./roam first" >&2; exit 1; }
 runs=${RUNS:-5}
@@ -80,58 +83,13 @@ by_loop() {
 }
 by_cp() { cp -- "$room"/source/*.obj .; }
 
-{ printf 'P5\n2049 2049\n65535\n'; head -c "$((2 * 2049 * 2049))" /dev/zero; } >"$room/large.pgm"
-{ printf 'P5\n3 3\n65535\n'; head -c 18 /dev/zero; } >"$room/small.pgm"
-echo frame >"$room/one"
-yes frame | head -n "$frames" >"$room/many"
-printf 'v 0 0 0\nv 2 0 0\nv 0 2 0\nv 2 2 0\nf 1 2 3\nf 4 3 2\n' >"$room/mesh"
-
-large=$(least "$program" mesh "$room/large.pgm" "$room/one" out 2 1)
-memory=$(peak "$program" mesh "$room/large.pgm" "$room/one" out 2 1)
-info=$(least "$program" info "$room/large.pgm")
-info_memory=$(peak "$program" info "$room/large.pgm")
-read_alone=$(least cat "$room/large.pgm")
-many=$(least "$program" mesh "$room/small.pgm" "$room/many" out 2 1)
-made=$(find "$room/made" -name '*.obj' | wc -l)
-[ "$made" -eq "$frames" ] || { echo "bench/run.sh: the program made $made meshes of $frames" >&2; exit 1; }
-mv -- "$room/made" "$room/source"
-jacksboro=$top/examples/jacksboro/grid.pgm
-small_budget=$(least "$program" mesh "$jacksboro" "$room/one" out 2000 90)
-small_budget_memory=$(peak "$program" mesh "$jacksboro" "$room/one" out 2000 90)
-large_budget=$(least "$program" mesh "$jacksboro" "$room/one" out 20000 90)
-large_budget_memory=$(peak "$program" mesh "$jacksboro" "$room/one" out 20000 90)
-for ((k = 0; k < 50; k++)); do
-  echo "camera $((1000 + 400 * k)) $((1000 + 400 * k)) 1200"
-  echo frame
-done >"$room/flight"
-flight=$(least "$program" mesh "$jacksboro" "$room/flight" out 20000 90)
-flight_memory=$(peak "$program" mesh "$jacksboro" "$room/flight" out 20000 90)
-made_terrain=$(least "$program" try 9 1)
-made_terrain_memory=$(peak "$program" try 9 1)
-rough_grid 1025 >"$room/rough.pgm"
-rough=$(least "$program" mesh "$room/rough.pgm" "$room/one" out 20000 30)
-rough_memory=$(peak "$program" mesh "$room/rough.pgm" "$room/one" out 20000 30)
-loop=$(least by_loop)
-copy=$(least by_cp)
-
-echo "$(date -u +%Y-%m-%d), $(uname -sm), $(nproc) processors, $(sed -n 's/^model name[[:space:]]*: //p' /proc/cpuinfo 2>/dev/null | head -n 1), files in ${TMPDIR:-/tmp}, least of $runs runs"
-echo
-cat <<TABLE
-| case | count | measured | beside it | target |
-|---|---|---|---|---|
-| flat grid of side 2049, budget 2, one frame: time | 8,396,821 bytes, 8,388,606 splittable triangles | $large s | cat of the grid $read_alone s | |
-| flat grid of side 2049, budget 2, one frame: peak memory | 8,396,802 bytes of heights | $memory MB | | |
-| info on a grid of side 2049: time | 8,396,821 bytes, 16,777,214 triangles | $info s | | under 0.1 s |
-| info on a grid of side 2049: peak memory | 8,396,802 bytes of heights | $info_memory MB | | under 10 MB beyond the grid |
-| the Jacksboro grid, side 257, budget 2,000, one frame | 131,070 splittable triangles | $small_budget s, $small_budget_memory MB | | |
-| the Jacksboro grid, side 257, budget 20,000, one frame | 131,070 splittable triangles | $large_budget s, $large_budget_memory MB | | under 1 s |
-| a flight of 50 frames over the Jacksboro grid, budget 20,000 | a camera move before each frame | $flight s, $flight_memory MB | | |
-| try 9 1 | 50 frames over made terrain of side 513 | $made_terrain s, $made_terrain_memory MB | | |
-| a rough grid of side 1025, budget 20,000, one frame | 2,097,150 splittable triangles | $rough s, $rough_memory MB | | |
-| $frames frames on a 3x3 grid: time | $frames files of 48 bytes | $many s, $(a_frame "$many") us a frame | | |
-| the same files by a loop of the shell | $frames files of 48 bytes | $loop s, $(a_frame "$loop") us a file | program / loop $(ratio "$many" "$loop") | at most 1 |
-| the same files by one cp | $frames files of 48 bytes | $copy s, $(a_frame "$copy") us a file | program / cp $(ratio "$many" "$copy") | at most 1 |
-TABLE
+# about: the date, the machine and its load now.
+about() {
+  local load model
+  read -r load _ </proc/loadavg
+  model=$(sed -n 's/^model name[[:space:]]*: //p' /proc/cpuinfo 2>/dev/null | head -n 1)
+  echo "$(date -u +%Y-%m-%d), $(uname -sm), $(nproc) processors, $model, load $load, files in ${TMPDIR:-/tmp}, least of $runs runs"
+}
 
 # From file to file over made heights, in processor time of program and system: one frame, and flights 30 units a frame.
 peer=
@@ -197,11 +155,80 @@ whole_row() {
   fi
   echo "| file to file, side $((2 ** $1 + 1)), budget $2, $3 frames | $written bytes | $ours s, $ours_memory MB | $beside | at most 1.3 |"
 }
-for level in 8 9 10 11; do whole_row "$level" 20000 1; done
-whole_row 11 100000 1
-whole_row 11 1048576 1
-whole_row 9 20000 200
-whole_row 11 20000 200
+
+# The cases from file to file.
+whole_rows() {
+  local level
+  for level in 8 9 10 11; do whole_row "$level" 20000 1; done
+  whole_row 11 100000 1
+  whole_row 11 1048576 1
+  whole_row 9 20000 200
+  whole_row 11 20000 200
+}
+
+if [ -n "$whole" ]; then
+  about
+  echo
+  echo '| case | count | measured | beside it | target |'
+  echo '|---|---|---|---|---|'
+  whole_rows
+  exit
+fi
+
+{ printf 'P5\n2049 2049\n65535\n'; head -c "$((2 * 2049 * 2049))" /dev/zero; } >"$room/large.pgm"
+{ printf 'P5\n3 3\n65535\n'; head -c 18 /dev/zero; } >"$room/small.pgm"
+echo frame >"$room/one"
+yes frame | head -n "$frames" >"$room/many"
+printf 'v 0 0 0\nv 2 0 0\nv 0 2 0\nv 2 2 0\nf 1 2 3\nf 4 3 2\n' >"$room/mesh"
+
+large=$(least "$program" mesh "$room/large.pgm" "$room/one" out 2 1)
+memory=$(peak "$program" mesh "$room/large.pgm" "$room/one" out 2 1)
+info=$(least "$program" info "$room/large.pgm")
+info_memory=$(peak "$program" info "$room/large.pgm")
+read_alone=$(least cat "$room/large.pgm")
+many=$(least "$program" mesh "$room/small.pgm" "$room/many" out 2 1)
+made=$(find "$room/made" -name '*.obj' | wc -l)
+[ "$made" -eq "$frames" ] || { echo "bench/run.sh: the program made $made meshes of $frames" >&2; exit 1; }
+mv -- "$room/made" "$room/source"
+jacksboro=$top/examples/jacksboro/grid.pgm
+small_budget=$(least "$program" mesh "$jacksboro" "$room/one" out 2000 90)
+small_budget_memory=$(peak "$program" mesh "$jacksboro" "$room/one" out 2000 90)
+large_budget=$(least "$program" mesh "$jacksboro" "$room/one" out 20000 90)
+large_budget_memory=$(peak "$program" mesh "$jacksboro" "$room/one" out 20000 90)
+for ((k = 0; k < 50; k++)); do
+  echo "camera $((1000 + 400 * k)) $((1000 + 400 * k)) 1200"
+  echo frame
+done >"$room/flight"
+flight=$(least "$program" mesh "$jacksboro" "$room/flight" out 20000 90)
+flight_memory=$(peak "$program" mesh "$jacksboro" "$room/flight" out 20000 90)
+made_terrain=$(least "$program" try 9 1)
+made_terrain_memory=$(peak "$program" try 9 1)
+rough_grid 1025 >"$room/rough.pgm"
+rough=$(least "$program" mesh "$room/rough.pgm" "$room/one" out 20000 30)
+rough_memory=$(peak "$program" mesh "$room/rough.pgm" "$room/one" out 20000 30)
+loop=$(least by_loop)
+copy=$(least by_cp)
+
+about
+echo
+cat <<TABLE
+| case | count | measured | beside it | target |
+|---|---|---|---|---|
+| flat grid of side 2049, budget 2, one frame: time | 8,396,821 bytes, 8,388,606 splittable triangles | $large s | cat of the grid $read_alone s | |
+| flat grid of side 2049, budget 2, one frame: peak memory | 8,396,802 bytes of heights | $memory MB | | |
+| info on a grid of side 2049: time | 8,396,821 bytes, 16,777,214 triangles | $info s | | under 0.1 s |
+| info on a grid of side 2049: peak memory | 8,396,802 bytes of heights | $info_memory MB | | under 10 MB beyond the grid |
+| the Jacksboro grid, side 257, budget 2,000, one frame | 131,070 splittable triangles | $small_budget s, $small_budget_memory MB | | |
+| the Jacksboro grid, side 257, budget 20,000, one frame | 131,070 splittable triangles | $large_budget s, $large_budget_memory MB | | under 1 s |
+| a flight of 50 frames over the Jacksboro grid, budget 20,000 | a camera move before each frame | $flight s, $flight_memory MB | | |
+| try 9 1 | 50 frames over made terrain of side 513 | $made_terrain s, $made_terrain_memory MB | | |
+| a rough grid of side 1025, budget 20,000, one frame | 2,097,150 splittable triangles | $rough s, $rough_memory MB | | |
+| $frames frames on a 3x3 grid: time | $frames files of 48 bytes | $many s, $(a_frame "$many") us a frame | | |
+| the same files by a loop of the shell | $frames files of 48 bytes | $loop s, $(a_frame "$loop") us a file | program / loop $(ratio "$many" "$loop") | at most 1 |
+| the same files by one cp | $frames files of 48 bytes | $copy s, $(a_frame "$copy") us a file | program / cp $(ratio "$many" "$copy") | at most 1 |
+TABLE
+
+whole_rows
 
 # Single calls, by the program roam_bench where it is built.
 single=$top/crates/roam_bench/out/roam_bench
