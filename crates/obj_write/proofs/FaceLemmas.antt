@@ -1,5 +1,7 @@
 -- Corners of a child from those of its parent, by places.
-use Rattle.std.proofs.Common.{◌≡◌, ◌⊎◌, inl, inr, ℕ, zero, suc, ◌+◌, ◌*◌, ◌/◌, ◌%◌, ◌^◌, ◌<◌, ◌≤◌, List, refl, sym, ◌∙◌, ap, subst, arith}
+use Rattle.std.proofs.Common.{◌≡◌, ◌⊎◌, inl, inr, ℕ, zero, suc, ◌+◌, ◌-◌, ◌*◌, ◌/◌, ◌%◌, ◌^◌, ◌<◌, ◌≤◌, List, ◌++◌, length, set, refl, sym, ◌∙◌, ap, subst, arith}
+use Rattle.std.proofs.lemmas.List.{set-append_right}
+use Rattle.std.proofs.lemmas.List.Elements.{All-set}
 use Rattle.std.proofs.Math.Pow.{pow_mono}
 use Rattle.mesh_defs.specs.declared.point.Point.{Point}
 use Rattle.mesh_defs.specs.HeightField.{side_of}
@@ -8,7 +10,7 @@ use Rattle.bintree_laws.proofs.CornerLemmas.{corners_of-left, corners_of-right, 
 use Rattle.bintree_laws.proofs.LatticeLemmas.{HasEvenBase-corners_of}
 use Rattle.obj_write.specs.declared.faces.Corner.{Corner}
 use Rattle.obj_write.specs.declared.faces.Face.{Face}
-use Rattle.obj_write.specs.Faces.{IsCornerAt, IsFace}
+use Rattle.obj_write.specs.Faces.{IsCornerAt, IsFace, AreFaces}
 use Rattle.obj_write.specs.VertexMarks.{grid_place}
 use Rattle.obj_write.proofs.PlaceLemmas.{place-below}
 
@@ -88,6 +90,17 @@ module _ (n t : ℕ) (numbers : List ℕ) (f : Face) (big : 4 ≤ t) (of : f.tri
       by_half : ((t % 2 ≡ 0) ⊎ (t % 2 ≡ 1)) → IsCornerAt n numbers (corners_of n t).apex f.middle
       by_half (inl even) = rw (left_is even) face.middle_is
       by_half (inr odd) = rw (right_is odd) face.middle_is
+
+-- faces stay faces where one is put to a level: the list is cut there, and the face stands first in the rest
+pub AreFaces-put : (n : ℕ) (numbers : List ℕ) (faces coarse fine : List Face) (level : ℕ) (f : Face)
+    → faces ≡ coarse ++ fine → length coarse ≡ level → IsFace n numbers f → AreFaces n numbers faces
+    → AreFaces n numbers (coarse ++ set fine 0 f)
+AreFaces-put n numbers faces coarse fine level f is long face known =
+    let none : level - level ≡ 0 = omega arith in
+    let whole : set faces level f ≡ coarse ++ set fine 0 f =
+    ap (λ (s : List Face). set s level f) is ∙ set-append_right coarse fine level level f long (omega arith)
+    ∙ ap (λ (k : ℕ). coarse ++ set fine k f) none in
+    subst (AreFaces n numbers) whole (All-set (IsFace n numbers) faces level f face known)
 
 -- the halves of the square have level 0
 pub level_of-small : (t : ℕ) → t < 4 → level_of t ≡ 0

@@ -17,21 +17,21 @@ use bintree_addr::{Point, Tri};
 /// How many levels triangles have.
 pub(crate) const LEVELS: usize = 23;
 
-/// A place of the grid, and the field of the number there.
+/// The field of the number at a place of the grid, and the place.
 #[derive(Clone, Copy, Debug)]
 pub(crate) struct Corner {
-    place: usize,
     pub(crate) field: Field,
+    place: usize,
 }
 
 /// A triangle that is split: its corners, and the midpoint of its base, which is the apex of its children.
 #[derive(Clone, Copy, Debug)]
 pub(crate) struct Face {
-    pub(crate) tri: Tri,
     pub(crate) apex: Corner,
     pub(crate) v0: Corner,
     pub(crate) v1: Corner,
     pub(crate) middle: Corner,
+    pub(crate) tri: Tri,
 }
 
 /// Faces before any triangle was asked for: each is a half of the square.
@@ -57,11 +57,11 @@ pub(crate) fn half_face(numbers: &[u32], n: u32, half: Tri) -> Face
     let v0 = corner_at(numbers, n, corners.v0);
     let v1 = corner_at(numbers, n, corners.v1);
     Face {
-        tri: half,
         apex: corner_at(numbers, n, corners.apex),
         v0,
         v1,
         middle: corner_between(numbers, n, half, &v0, &v1),
+        tri: half,
     }
 }
 
@@ -83,8 +83,8 @@ fn corner_of(numbers: &[u32], place: usize) -> Corner
     ensures field { IsFieldOf result.field (slice_index numbers.now place) }
 {
     Corner {
-        place,
         field: field_of(numbers[place]),
+        place,
     }
 }
 
@@ -106,6 +106,8 @@ fn corner_between(numbers: &[u32], n: u32, t: Tri, v0: &Corner, v1: &Corner) -> 
 /// So the field of a vertex is made once for each triangle whose base it halves, and else handed on from parent to child.
 /// Cost (not proved): a step for each level at which the way down is another than the last one that was asked for. For the
 /// parents of triangles in depth-first order these are one for each of them, by and large.
+#[cycle(known)]
+#[inline(always)]
 pub(crate) fn make_known(faces: &mut [Face], numbers: &[u32], n: u32, t: Tri)
     requires in_grid { (1 ≤ n) × (n ≤ GREATEST_LEVEL) }
     requires splittable { level_of t < 2 * n }
@@ -116,53 +118,83 @@ pub(crate) fn make_known(faces: &mut [Face], numbers: &[u32], n: u32, t: Tri)
     ensures known { AreFaces n numbers.now faces.new }
     ensures there { IsKnown faces.new t }
 {
-    let level = t.level() as usize;
-    if faces[level].tri == t {
-        return;
+    if faces[t.level() as usize].tri != t {
+        renew_face(faces, numbers, n, t);
     }
-    let face = match t.parent() {
-        None => half_face(numbers, n, t),
-        Some(above) => {
-            make_known(faces, numbers, n, above);
-            child_face(numbers, n, &faces[level - 1], t)
-        }
-    };
-    faces[level] = face;
 }
 
-/// The face of a child: of its corners only the midpoint of its base is new.
+/// Puts the face of a triangle to its level, in the place of another one's.
+#[cycle(known)]
+fn renew_face(faces: &mut [Face], numbers: &[u32], n: u32, t: Tri)
+    requires in_grid { (1 ≤ n) × (n ≤ GREATEST_LEVEL) }
+    requires splittable { level_of t < 2 * n }
+    requires places { length numbers.now ≡ side_of n * side_of n }
+    requires count { length faces.old ≡ LEVELS }
+    requires known { AreFaces n numbers.now faces.old }
+    ensures count { length faces.new ≡ LEVELS }
+    ensures known { AreFaces n numbers.now faces.new }
+    ensures there { IsKnown faces.new t }
+{
+    let level = t.level() as usize;
+    match t.parent() {
+        None => renew_half(faces, numbers, n, t),
+        Some(above) => {
+            make_known(faces, numbers, n, above);
+            let (coarse, fine) = faces.split_at_mut(level);
+            put_child(&mut fine[0], numbers, n, &coarse[level - 1], t);
+        }
+    }
+}
+
+/// Puts the face of a half of the square to its level.
+#[cold]
+#[inline(never)]
+fn renew_half(faces: &mut [Face], numbers: &[u32], n: u32, half: Tri)
+    requires in_grid { (1 ≤ n) × (n ≤ GREATEST_LEVEL) }
+    requires half { half < 4 }
+    requires places { length numbers.now ≡ side_of n * side_of n }
+    requires count { length faces.old ≡ LEVELS }
+    requires known { AreFaces n numbers.now faces.old }
+    ensures count { length faces.new ≡ LEVELS }
+    ensures known { AreFaces n numbers.now faces.new }
+    ensures there { IsKnown faces.new half }
+{
+    faces[0] = half_face(numbers, n, half);
+}
+
+/// Makes a face that of a child: of its corners only the midpoint of its base is new.
+///
+/// It is written in its place, since a copy of it waits for the writes before.
 #[inline(always)]
-fn child_face(numbers: &[u32], n: u32, parent: &Face, t: Tri) -> Face
+fn put_child(face: &mut Face, numbers: &[u32], n: u32, parent: &Face, t: Tri)
     requires in_grid { (1 ≤ n) × (n ≤ GREATEST_LEVEL) }
     requires splittable { level_of t < 2 * n }
     requires child { 4 ≤ t }
     requires of { parent.now.tri ≡ t / 2 }
     requires places { length numbers.now ≡ side_of n * side_of n }
-    requires face { IsFace n numbers.now parent.now }
-    ensures face { IsFace n numbers.now result }
-    ensures tri { result.tri ≡ t }
+    requires of_parent { IsFace n numbers.now parent.now }
+    ensures face { IsFace n numbers.now face.new }
+    ensures tri { face.new.tri ≡ t }
 {
     let (v0, v1) = base_of(parent, t);
-    Face {
-        tri: t,
-        apex: parent.middle,
-        v0,
-        v1,
-        middle: corner_between(numbers, n, t, &v0, &v1),
-    }
+    face.apex = parent.middle;
+    face.v0 = *v0;
+    face.v1 = *v1;
+    face.middle = corner_between(numbers, n, t, v0, v1);
+    face.tri = t;
 }
 
 /// The ends of a child's base, which is a leg of its parent.
 #[inline(always)]
-pub(crate) fn base_of(parent: &Face, t: Tri) -> (Corner, Corner)
+pub(crate) fn base_of(parent: &Face, t: Tri) -> (&Corner, &Corner)
     requires child { 4 ≤ t }
     requires of { parent.now.tri ≡ t / 2 }
-    ensures v0 { (n : ℕ) (numbers : List ℕ) → IsFace n numbers parent.now → IsCornerAt n numbers (corners_of n t).v0 result.0 }
-    ensures v1 { (n : ℕ) (numbers : List ℕ) → IsFace n numbers parent.now → IsCornerAt n numbers (corners_of n t).v1 result.1 }
+    ensures v0 { (n : ℕ) (numbers : List ℕ) → IsFace n numbers parent.now → IsCornerAt n numbers (corners_of n t).v0 result.0.now }
+    ensures v1 { (n : ℕ) (numbers : List ℕ) → IsFace n numbers parent.now → IsCornerAt n numbers (corners_of n t).v1 result.1.now }
 {
     if t.number() % 2 == 0 {
-        (parent.apex, parent.v0)
+        (&parent.apex, &parent.v0)
     } else {
-        (parent.v1, parent.apex)
+        (&parent.v1, &parent.apex)
     }
 }

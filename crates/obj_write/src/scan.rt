@@ -20,6 +20,9 @@ pub(crate) fn first_numbered(numbers: &[u32], from: usize) -> usize
     ensures clear { IsClear numbers.now from result }
     ensures number { result < length numbers.now → slice_index numbers.now result ≡ 0 → ⊥ }
 {
+    if from == numbers.len() {
+        return from;
+    }
     let mut at = from;
     while numbers.len() - at >= LANES {
         let passed = clear_lanes(numbers, at);
