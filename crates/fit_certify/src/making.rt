@@ -1,0 +1,87 @@
+//! Making a certificate.
+
+ghost use Rattle.std.specs.Prelude.{◌≡◌, ℕ, ◌+◌, ◌-◌, ◌*◌, ◌^◌, ◌≤◌, false, List, IfOk, length};
+ghost use Rattle.mesh_defs.specs.ClosedSet.{IsClosed, leaves_of};
+ghost use Rattle.least_laws.specs.Sweep.{is_flagged};
+ghost use Rattle.fit_laws.specs.Error.{error_of};
+ghost use Rattle.fit_certificate_laws.specs.Certificate.{LeadsTo, IsSound};
+ghost use Rattle.fit_certificate_laws.specs.declared.limits.TheConstants.{MOST_REASONS};
+ghost use Rattle.fit_certify.specs.Making.{IsPossible, IsBestTolerance, IsBelow};
+
+use crate::settle::settle;
+use address_flags::end;
+use fit_certificate_laws::{FitCert, Off, Target};
+use fit_mesh::Fit;
+use pgm_grid::Grid;
+use roam_edge::NoMemory;
+use std::alloc::Global;
+
+/// A sound certificate of the best mesh for an error or a budget: the mesh of `Fit::frame` of `fit_mesh`.
+///
+/// Its tolerance is that of the target, or the deviation of the mesh.
+/// Cost (not proved): that of `Fit::frame` for a budget; a byte for each splittable triangle, and a few passes over all of
+/// them, in each the error of each leaf; 12 bytes for each reason.
+pub fn make(alloc: Global, grid: &Grid, target: Target) -> Result<FitCert, NoMemory>
+    requires possible { IsPossible target }
+    ensures sound { IfOk result (λ c. (mesh : List ℕ) × IsSound grid.now.n grid.now.heights target c mesh) }
+{
+    let tolerance = tolerance_for(alloc, grid, target)?;
+    let mut flags = vec![in alloc; false; end(grid.n()) as usize]?;
+    cert_of(alloc, grid, target, tolerance, &mut flags)
+}
+
+/// The same for this tolerance, with flags of no triangle.
+fn cert_of(
+    alloc: Global,
+    grid: &Grid,
+    target: Target,
+    tolerance: u32,
+    flags: &mut [bool],
+) -> Result<FitCert, NoMemory>
+    requires flags { length flags.old ≡ 2 ^ (2 * grid.now.n + 1) }
+    requires empty { (a : ℕ) → is_flagged flags.old a ≡ false }
+    requires best { IsBestTolerance grid.now.n (error_of grid.now.n grid.now.heights) target tolerance }
+    ensures sound { IfOk result (λ c. (mesh : List ℕ) × IsSound grid.now.n grid.now.heights target c mesh) }
+{
+    let _level = grid.n();
+    let needed = settle(alloc, grid, tolerance, flags)?;
+    let beyond = settle_below(alloc, grid, target, tolerance, flags)?;
+    Ok(FitCert::new(tolerance, needed, beyond))
+}
+
+/// The tolerance of the target, or the deviation of the mesh of its budget.
+fn tolerance_for(alloc: Global, grid: &Grid, target: Target) -> Result<u32, NoMemory>
+    requires possible { IsPossible target }
+    ensures best { IfOk result (IsBestTolerance grid.now.n (error_of grid.now.n grid.now.heights) target) }
+{
+    match target {
+        Target::Error { tolerance } => Ok(tolerance),
+        Target::Budget { triangles } => {
+            let mut fit = Fit::make(alloc, grid.n(), triangles)?;
+            let note = fit.frame(grid, 0);
+            Ok(note.deviation)
+        }
+    }
+}
+
+/// For a budget, splits each leaf that is off by no less than the tolerance, until none is. Answers the reasons.
+fn settle_below(
+    alloc: Global,
+    grid: &Grid,
+    target: Target,
+    tolerance: u32,
+    flags: &mut [bool],
+) -> Result<Vec<Off>, NoMemory>
+    requires flags { length flags.old ≡ 2 ^ (2 * grid.now.n + 1) }
+    requires closed { IsClosed grid.now.n (is_flagged flags.old) }
+    ensures leads { IfOk result (λ v. LeadsTo grid.now.n grid.now.heights (tolerance - 1)
+        (is_flagged flags.old) v.items (is_flagged flags.new)) }
+    ensures below { IfOk result (λ v. IsBelow target (error_of grid.now.n grid.now.heights)
+        (tolerance - 1) (leaves_of grid.now.n (is_flagged flags.new))) }
+    ensures few { IfOk result (λ v. length v.items ≤ MOST_REASONS) }
+{
+    match target {
+        Target::Error { tolerance: _ } => Ok(Vec::new(alloc)),
+        Target::Budget { triangles: _ } => settle(alloc, grid, tolerance.saturating_sub(1), flags),
+    }
+}
