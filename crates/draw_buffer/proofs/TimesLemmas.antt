@@ -82,7 +82,7 @@ times-place (t ∷ ts) a some =
 
 -- ---- one list within another
 
-pub length-swap_remove : (ts : List ℕ) (k d : ℕ) → k < length ts → length (swap_remove ts k d) + 1 ≡ length ts
+pub length-swap_remove : {X : Type 0} (ts : List X) (k : ℕ) (d : X) → k < length ts → length (swap_remove ts k d) + 1 ≡ length ts
 length-swap_remove ts k d within =
     let whole = length-set ts k (get_or ts (length ts - 1) d) in
     let short = length-take-le (length ts - 1) (set ts k (get_or ts (length ts - 1) d)) (omega arith) in

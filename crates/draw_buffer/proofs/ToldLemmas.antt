@@ -4,7 +4,7 @@ use Rattle.std.specs.List.{swap_remove}
 use Rattle.std.proofs.lemmas.List.{length-set, length_push, get_or-set_other, get_or_append_left, get_or-take}
 use Rattle.draw_buffer.specs.declared.indices.Indices.{Indices}
 use Rattle.draw_buffer.specs.Times.{times}
-use Rattle.draw_buffer.specs.Exchange.{ExchangeState, IsTold}
+use Rattle.draw_buffer.specs.Exchange.{ExchangeState, IsTold, IsGiven}
 use Rattle.draw_buffer.proofs.TimesLemmas.{same-one, times-push, length-swap_remove}
 
 -- a place that is told last is not one that is not told
@@ -88,3 +88,14 @@ pub told-last : (e f : ExchangeState) (at : ℕ) (x : Indices) → at < length e
     → f.written ≡ e.written → f.triangles ≡ swap_remove e.triangles at 0 → f.corners ≡ swap_remove e.corners at x → IsTold e f
 told-last e f at x inside last long told triangles corners =
     told-close e f at x inside long (λ k none. rw (← told) none) (λ k low none. omega arith) triangles corners
+
+-- ---- numbers that were given out
+
+pub given-none : (e : ExchangeState) → IsGiven e e
+given-none e = record { grows = λ v none. none; points_stay = λ v none. refl }
+
+pub given-trans : (e f g : ExchangeState) → IsGiven e f → IsGiven f g → IsGiven e g
+given-trans e f g first second = record {
+  grows = λ v none. first.grows v (second.grows v none);
+  points_stay = λ v none. second.points_stay v none ∙ first.points_stay v (second.grows v none);
+}

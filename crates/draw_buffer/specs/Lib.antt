@@ -1,5 +1,6 @@
 pub mod Times
 pub mod Places
 pub mod Corners
+pub mod Vertices
 pub mod Exchange
 pub mod Buffer

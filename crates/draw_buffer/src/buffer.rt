@@ -1,13 +1,13 @@
 //! The drawing buffer.
 
-ghost use Rattle.std.specs.Prelude.{◌≡◌, ℕ, ◌+◌, ◌-◌, ◌*◌, ◌^◌, ◌<◌, ◌≤◌, ◌↔◌, ◌++◌, [], ◌∷◌, max, All, IfOk, IsTrue, length, map};
+ghost use Rattle.std.specs.Prelude.{◌≡◌, ℕ, ◌+◌, ◌-◌, ◌*◌, ◌^◌, ◌<◌, ◌≤◌, ◌↔◌, ◌++◌, [], ◌∷◌, max, All, IfOk, IsTrue, length, map, slice_index};
 ghost use Rattle.mesh_defs.specs.Triangle.{level_of};
 ghost use Rattle.mesh_defs.specs.declared.level.TheConstants.{GREATEST_LEVEL};
 ghost use Rattle.draw_buffer.specs.Times.{times};
-ghost use Rattle.draw_buffer.specs.Corners.{grid_indices};
-ghost use Rattle.draw_buffer.specs.Exchange.{addresses_of, IsTold};
+ghost use Rattle.draw_buffer.specs.Corners.{grid_indices, shown, uses_in};
+ghost use Rattle.draw_buffer.specs.Exchange.{addresses_of, IsTold, IsGiven};
 
-use crate::exchange::Exchange;
+use crate::exchange::{Exchange, MOST_TRIANGLES};
 use crate::indices::Indices;
 use bintree_addr::Tri;
 use roam_edge::NoMemory;
@@ -36,14 +36,17 @@ impl DrawBuffer {
 
     /// A buffer for a grid of side 2^n + 1, with room for so many triangles and none in it.
     ///
-    /// Memory: 4 bytes for each address of the grid, 16 * 4^n in all (4 MB at n = 9, 67 MB at n = 11), and 36 for each triangle
-    /// that there is room for.
+    /// Memory: 4 bytes for each address and each point of the grid, about 20 * 4^n in all (5 MB at n = 9, 84 MB at n = 11), and 132
+    /// for each triangle that there is room for.
     pub fn make(alloc: Global, n: u32, most: u32) -> Result<DrawBuffer, NoMemory>
         requires in_grid { (1 ≤ n) × (n ≤ GREATEST_LEVEL) }
+        requires few { most ≤ MOST_TRIANGLES }
         ensures n { IfOk result (λ b. b.n ≡ n) }
         ensures most { IfOk result (λ b. b.most ≡ most) }
         ensures triangles { IfOk result (λ b. b.triangles ≡ []) }
         ensures written { IfOk result (λ b. b.written ≡ []) }
+        ensures points { IfOk result (λ b. b.points ≡ []) }
+        ensures given { IfOk result (λ b. b.given ≡ []) }
     {
         Ok(DrawBuffer {
             exchange: Exchange::new(alloc, n, most)?,
@@ -80,10 +83,11 @@ impl DrawBuffer {
         self.exchange.triangles()
     }
 
-    /// The corners of the triangle at each place, for a graphics card.
+    /// The vertex numbers of the corners of the triangle at each place, for a graphics card.
     pub fn corners(&self) -> &[Indices]
         ensures value { result.now ≡ self.now.corners }
-        ensures drawn { self.now.corners ≡ map (grid_indices self.now.n) self.now.triangles }
+        ensures drawn { map (shown self.now.points) self.now.corners
+            ≡ map (grid_indices self.now.n) self.now.triangles }
     {
         self.exchange.corners()
     }
@@ -95,7 +99,28 @@ impl DrawBuffer {
         self.exchange.written()
     }
 
+    /// The grid point of each vertex number, as its place in the list of heights: rows from the top, each from left to right. Of a
+    /// number that no corner has it says nothing.
+    pub fn points(&self) -> &[u32]
+        ensures value { result.now ≡ self.now.points }
+        ensures apart { (v w : ℕ) → 0 < uses_in self.now.corners v → 0 < uses_in self.now.corners w
+            → slice_index self.now.points v ≡ slice_index self.now.points w → v ≡ w }
+    {
+        self.exchange.points()
+    }
+
+    /// The vertex numbers that the last patch gave to grid points.
+    pub fn given(&self) -> &[u32]
+        ensures { result.now ≡ self.now.given }
+    {
+        self.exchange.given()
+    }
+
     /// Takes triangles out and puts others in.
+    ///
+    /// A triangle that comes has the place of one that goes; what gaps are left the last ones close. A grid point keeps its number
+    /// while a triangle has it at a corner, those that come counted before those that go. A written place may be past the end.
+    /// Cost (not proved): a few steps for each triangle that goes, and a step a level for each that comes; takes no memory.
     pub fn patch(&mut self, gone: &[Tri], come: &[Tri])
         requires levels { All (λ a. level_of a ≤ 2 * self.old.n) come.now }
         requires gone { (a : ℕ) → times gone.now a ≤ times self.old.triangles a }
@@ -106,11 +131,13 @@ impl DrawBuffer {
         ensures members { (a : ℕ) → times self.new.triangles a + times gone.now a
             ≡ times self.old.triangles a + times come.now a }
         ensures once { (a : ℕ) → times self.new.triangles a ≤ 1 }
-        ensures drawn { self.new.corners ≡ map (grid_indices self.new.n) self.new.triangles }
+        ensures drawn { map (shown self.new.points) self.new.corners
+            ≡ map (grid_indices self.new.n) self.new.triangles }
         ensures count { length self.new.triangles + length gone.now
             ≡ length self.old.triangles + length come.now }
         ensures kept { IsKept self.old self.new }
         ensures few { length self.new.written ≤ max (length gone.now) (length come.now) }
+        ensures given { length self.new.given ≤ 3 * length come.now }
     {
         self.exchange.begin();
         admit_all(&mut self.exchange, come);
@@ -125,8 +152,16 @@ fn admit_all(exchange: &mut Exchange, come: &[Tri])
     requires none { exchange.old.waiting ≡ [] }
     requires come { (a : ℕ) → times exchange.old.triangles a + times come.now a ≤ 1 }
     requires room { length come.now ≤ exchange.old.most }
+    requires given { exchange.old.given ≡ [] }
     ensures waiting { addresses_of exchange.new.waiting ≡ come.now }
-    ensures rest { exchange.new ≡ record exchange.old { waiting = exchange.new.waiting } }
+    ensures rest { exchange.new ≡ record exchange.old {
+      waiting = exchange.new.waiting;
+      points = exchange.new.points;
+      uses = exchange.new.uses;
+      given = exchange.new.given;
+    } }
+    ensures given { IsGiven exchange.old exchange.new }
+    ensures few { length exchange.new.given ≤ 3 * length come.now }
 {
     for t in come {
         exchange.admit(*t);
@@ -140,6 +175,8 @@ fn leave_all(exchange: &mut Exchange, gone: &[Tri])
     requires room { length gone.now ≤ exchange.old.most }
     ensures n { exchange.new.n ≡ exchange.old.n }
     ensures most { exchange.new.most ≡ exchange.old.most }
+    ensures points { exchange.new.points ≡ exchange.old.points }
+    ensures given { exchange.new.given ≡ exchange.old.given }
     ensures total { (a : ℕ) → times exchange.new.triangles a + times (addresses_of exchange.new.waiting) a + times gone.now a
         ≡ times exchange.old.triangles a + times (addresses_of exchange.old.waiting) a }
     ensures waiting { length exchange.new.waiting ≡ length exchange.old.waiting - length gone.now }
@@ -159,8 +196,11 @@ fn settle_all(exchange: &mut Exchange)
     requires written { length exchange.old.written + length exchange.old.waiting ≤ exchange.old.most }
     ensures n { exchange.new.n ≡ exchange.old.n }
     ensures most { exchange.new.most ≡ exchange.old.most }
+    ensures points { exchange.new.points ≡ exchange.old.points }
+    ensures given { exchange.new.given ≡ exchange.old.given }
     ensures none { exchange.new.waiting ≡ [] }
-    ensures drawn { exchange.new.corners ≡ map (grid_indices exchange.new.n) exchange.new.triangles }
+    ensures drawn { map (shown exchange.new.points) exchange.new.corners
+        ≡ map (grid_indices exchange.new.n) exchange.new.triangles }
     ensures total { (a : ℕ) → times exchange.new.triangles a
         ≡ times exchange.old.triangles a + times (addresses_of exchange.old.waiting) a }
     ensures count { length exchange.new.triangles ≡ length exchange.old.triangles + length exchange.old.waiting }

@@ -1,7 +1,7 @@
 //! The corners of a triangle as numbers.
 
-ghost use Rattle.std.specs.Prelude.{◌≡◌, ◌+◌, ◌*◌, ◌^◌, ◌≤◌};
-ghost use Rattle.mesh_defs.specs.HeightField.{place_of};
+ghost use Rattle.std.specs.Prelude.{◌≡◌, ◌+◌, ◌*◌, ◌^◌, ◌<◌, ◌≤◌};
+ghost use Rattle.mesh_defs.specs.HeightField.{place_of, side_of};
 ghost use Rattle.mesh_defs.specs.Triangle.{level_of};
 ghost use Rattle.mesh_defs.specs.declared.level.TheConstants.{GREATEST_LEVEL};
 ghost use Rattle.draw_buffer.specs.Corners.{grid_indices};
@@ -27,7 +27,10 @@ pub struct Indices {
 pub fn grid_indices(n: u32, t: Tri) -> Indices
     requires in_grid { (1 ≤ n) × (n ≤ GREATEST_LEVEL) }
     requires level { level_of t ≤ 2 * n }
-    ensures { result ≡ grid_indices n t }
+    ensures value { result ≡ grid_indices n t }
+    ensures apex { result.apex < side_of n * side_of n }
+    ensures v0 { result.v0 < side_of n * side_of n }
+    ensures v1 { result.v1 < side_of n * side_of n }
 {
     let corners = t.corners(n);
     Indices {
@@ -43,7 +46,8 @@ fn place(n: u32, point: Point) -> u32
     requires in_grid { n ≤ GREATEST_LEVEL }
     requires column { point.x ≤ 2 ^ n }
     requires row { point.y ≤ 2 ^ n }
-    ensures { result ≡ place_of n point.x point.y }
+    ensures value { result ≡ place_of n point.x point.y }
+    ensures within { result < side_of n * side_of n }
 {
     let last = 1 << n;
     (last - point.y) * (last + 1) + point.x

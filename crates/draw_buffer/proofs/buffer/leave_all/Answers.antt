@@ -9,6 +9,8 @@ pub loop-t-init : goal.loop-t-init
 loop-t-init c = record {
   n = refl;
   most = refl;
+  points = refl;
+  given = refl;
   total = λ a. let none = times-none a in omega arith;
   here = c.requires.here;
   waiting = omega arith;
@@ -33,6 +35,8 @@ loop-t-preserved c =
     record {
       n = c.leave.ensures.n ∙ i.n;
       most = c.leave.ensures.most ∙ i.most;
+      points = c.leave.ensures.points ∙ i.points;
+      given = c.leave.ensures.given ∙ i.given;
       total = λ a.
           let more = times-take c.args.gone.now c.loop-t.t-index a c.loop-t-test.true in
           let same_one = ap (λ s. same s a) read in

@@ -8,6 +8,8 @@ abbrev pub invariant-loop-t : goal.invariant-loop-t
 invariant-loop-t l = record {
   n : l.exchange.n ≡ l.initial.exchange.n;
   most : l.exchange.most ≡ l.initial.exchange.most;
+  points : l.exchange.points ≡ l.initial.exchange.points;
+  given : l.exchange.given ≡ l.initial.exchange.given;
   total : (a : ℕ) → times l.exchange.triangles a + times (addresses_of l.exchange.waiting) a + times (take l.t-index l.gone) a
       ≡ times l.initial.exchange.triangles a + times (addresses_of l.initial.exchange.waiting) a;
   here : (a : ℕ) → times (drop l.t-index l.gone) a ≤ times l.exchange.triangles a;

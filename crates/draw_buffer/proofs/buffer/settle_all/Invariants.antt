@@ -8,6 +8,8 @@ abbrev pub invariant-loop-exchange : goal.invariant-loop-exchange
 invariant-loop-exchange l = record {
   n : l.exchange.n ≡ l.initial.exchange.n;
   most : l.exchange.most ≡ l.initial.exchange.most;
+  points : l.exchange.points ≡ l.initial.exchange.points;
+  given : l.exchange.given ≡ l.initial.exchange.given;
   total : (a : ℕ) → times l.exchange.triangles a + times (addresses_of l.exchange.waiting) a
       ≡ times l.initial.exchange.triangles a + times (addresses_of l.initial.exchange.waiting) a;
   count : length l.exchange.triangles + length l.exchange.waiting

@@ -1,5 +1,6 @@
-use Rattle.std.proofs.Common.{length, get_or, ap, ◌∙◌, arith}
+use Rattle.std.proofs.Common.{sym, length, get_or, ap, ◌∙◌, arith}
 use Rattle.std.proofs.lemmas.List.{length-map}
+use Rattle.draw_buffer.specs.Times.{times}
 use Rattle.draw_buffer.specs.Exchange.{ExchangeState}
 use Rattle.draw_buffer.specs.Buffer.{BufferState}
 use Rattle.draw_buffer.proofs.TimesLemmas.{length-le-times}
@@ -49,4 +50,9 @@ returns-clause-kept c =
       within = λ k inside none. let h = told.within k inside none in omega (arith, ap length triangles);
       triangle = λ k inside none. told.triangles_stay k inside none ∙ ap (λ ts. get_or ts k 0) triangles;
       corner = λ k d inside none. told.corners_stay k d inside none ∙ ap (λ xs. get_or xs k d) corners;
+      point = λ v none.
+          let given = c.settle_all.ensures.given ∙ c.leave_all.ensures.given in
+          let points = c.settle_all.ensures.points ∙ c.leave_all.ensures.points in
+          let before = ap (λ (e : ExchangeState). e.points) c.begin.ensures.value in
+          ap (λ ps. get_or ps v 0) points ∙ c.admit_all.ensures.given.points_stay v (ap (λ gs. times gs v) (sym given) ∙ none) ∙ ap (λ ps. get_or ps v 0) before;
     })

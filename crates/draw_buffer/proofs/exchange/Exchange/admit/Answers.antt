@@ -1,6 +1,7 @@
-use Rattle.std.proofs.Common.{◌≡◌, ◌+◌, ◌*◌, ◌<◌, ◌≤◌, ap}
+use Rattle.std.proofs.Common.{◌≡◌, ◌+◌, ◌*◌, ◌<◌, ◌≤◌, ap, subst}
 use Rattle.mesh_defs.specs.Triangle.{level_of}
 use Rattle.draw_buffer.specs.Times.{times}
+use Rattle.draw_buffer.specs.Vertices.{AreTaken}
 use Rattle.draw_buffer.specs.Exchange.{ExchangeState, addresses_of}
 use Rattle.draw_buffer.proofs.ExchangeLemmas.{address-low, whole-admit}
 use Rattle.draw_buffer.proofs.exchange.Exchange.admit.Goals as goal
@@ -14,6 +15,6 @@ invariant_of-self c =
     let fine : level_of c.args.t ≤ 2 * i.n = rw n c.requires.level in
     let low : c.args.t < i.places.end = rw c.self.invariant.end (address-low i.n c.args.t fine) in
     let away : times i.places.triangles c.args.t + times (addresses_of i.waiting.items) c.args.t ≡ 0 = rw (triangles, waiting) c.requires.new in
-    rw c.in-Ok.ensures.items (whole-admit i.n i.places i.corners.items i.waiting.items _ _ _ c.self.invariant
-    (record { tri = c.args.t; corners = c.grid_indices-corners.result }) _ c.in-Ok.ensures.capacity
-    (record { drawn = c.grid_indices-corners.ensures; low = low }) away)
+    let taken = subst (λ p. AreTaken i.vertices c.take_three-corners.new.vertices p c.take_three-corners.result) c.grid_indices-places.ensures.value c.take_three-corners.ensures in
+    rw c.in-Ok.ensures.items (whole-admit i.n i.places i.vertices i.corners.items i.waiting.items _ _ _ c.self.invariant c.take_three-corners.new.vertices
+    (record { tri = c.args.t; corners = c.take_three-corners.result }) _ c.in-Ok.ensures.capacity low taken away)
