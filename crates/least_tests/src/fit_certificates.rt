@@ -6,7 +6,7 @@ ghost use Rattle.std.specs.Prelude.{◌≤◌, IfOk, length};
 ghost use Rattle.fit_certificate_laws.specs.declared.limits.TheConstants.{MOST_REASONS};
 
 use bintree_addr::Tri;
-use fit_certify::{FitCert, MOST_REASONS, Off, Reject, Target, Verdict, check};
+use fit_certify::{FitCert, MOST_REASONS, Off, Reject, Target, Verdict, check, make};
 use pgm_grid::Grid;
 use std::alloc::Global;
 use std::test::Fail;
@@ -146,6 +146,41 @@ fn reasons_make_leaves_for_those_behind_them(rt: HostRuntime) -> Result<(), Fail
             verdict,
             "{target:?}"
         );
+    }
+    Ok(())
+}
+
+/// The verdict on the certificate that is made for an error.
+fn made_for_error(alloc: Global, grid: &Grid, tolerance: u32) -> Result<Verdict, Fail> {
+    let target = error(tolerance);
+    let cert = make(alloc, grid, Target::Error { tolerance })?;
+    Ok(check(alloc, grid, &cert, target)?)
+}
+
+/// The verdict on the certificate that is made for a budget.
+fn made_for_budget(alloc: Global, grid: &Grid, triangles: u32) -> Result<Verdict, Fail> {
+    if triangles < 2 {
+        return Err("a budget".into());
+    }
+    let target = budget(triangles);
+    let cert = make(alloc, grid, Target::Budget { triangles })?;
+    Ok(check(alloc, grid, &cert, target)?)
+}
+
+#[test]
+fn what_is_made_is_certified(rt: HostRuntime) -> Result<(), Fail> {
+    let grid = corner(rt.alloc())?;
+    for (tolerance, verdict) in [(3, certified(2, 3)), (2, certified(6, 2))] {
+        let made = made_for_error(rt.alloc(), &grid, tolerance)?;
+        assert_eq!(rt; made, verdict, "{tolerance}");
+    }
+    for (triangles, verdict) in [
+        (2, certified(2, 3)),
+        (5, certified(2, 3)),
+        (6, certified(6, 2)),
+    ] {
+        let made = made_for_budget(rt.alloc(), &grid, triangles)?;
+        assert_eq!(rt; made, verdict, "{triangles}");
     }
     Ok(())
 }
