@@ -51,37 +51,55 @@ least-less a b less = omega (arith, less)
 module _ (before now : Moment) (words : List (List ℕ)) (status : Status) where
   -- how a run ends, from its outcome and the engine that the outcome tells of
   pub ends-by-status : (left : Option EngineEnd)
-      → ((files : List NamedFile) → AreFiles before.shelf.files words files → EndsRight before.sinks now.sinks before.shelf now.shelf words files status)
-      → ((files : List NamedFile) (end : Outcome) → AreFiles before.shelf.files words files → IsOutcome words files end → IsTrue (is_complete status) → left ≡ end.engine)
+      → ((files : List NamedFile) → AreFiles before.shelf.files words files
+      → EndsRight before.sinks now.sinks before.shelf now.shelf words files status)
+      → ((files : List NamedFile) (end : Outcome) → AreFiles before.shelf.files words files
+      → IsOutcome words files end → IsTrue (is_complete status) → left ≡ end.engine)
       → (status ≡ ReadFault → LeavesAtReadFault before.sinks now.sinks before.shelf now.shelf words)
-      → (status ≡ NoMemory → LeavesAtNoMemory before.sinks now.sinks before.shelf now.shelf words) → EndsByStatus before now words status left
+      → (status ≡ NoMemory → LeavesAtNoMemory before.sinks now.sinks before.shelf now.shelf words)
+      → EndsByStatus before now words status left
   ends-by-status left outcome engine read memory = record {
     complete = λ is files are.
-        let e = (outcome files are).ends (not-complete status NoMemory refl is) (not-complete status ReadFault refl is) in
+        let not_memory = not-complete status NoMemory refl is in
+        let e = (outcome files are).ends not_memory (not-complete status ReadFault refl is) in
         let all = e.2.complete is in
-        record { end = e.0; is_outcome = e.1; ends_so = all.1; stands = all.0; opened = e.2.opened; engine = engine files e.0 are e.1 is };
+        record {
+          end = e.0;
+          is_outcome = e.1;
+          ends_so = all.1;
+          stands = all.0;
+          opened = e.2.opened;
+          engine = engine files e.0 are e.1 is;
+        };
     write_fault = λ is files are.
-        let e = (outcome files are).ends (other-status status NoMemory is (λ e. cc)) (other-status status ReadFault is (λ e. cc)) in
+        let not_memory = other-status status NoMemory is (λ e. cc) in
+        let e = (outcome files are).ends not_memory (other-status status ReadFault is (λ e. cc)) in
         record { end = e.0; is_outcome = e.1; cut_short = e.2.cut_short is; opened = e.2.opened };
     read_fault = read;
     no_memory = memory;
   }
 
   -- that the status has its cause, from the counts of faults
-  pub is-caused : IsTrue (may_end (command_of words) status) → (status ≡ Usage) ↔ (command_of words ≡ None)
+  pub is-caused : IsTrue (may_end (command_of words) status)
+      → (status ≡ Usage) ↔ (command_of words ≡ None)
       → (status ≡ ReadFault) ↔ (before.shelf_faults < now.shelf_faults)
-      → (status ≡ WriteFault) ↔ ((before.mesh_faults < now.mesh_faults) ⊎ (before.report_faults < now.report_faults))
-      → StatusHasCause before.shelf_faults now.shelf_faults before.mesh_faults now.mesh_faults before.report_faults now.report_faults status
+      → (status ≡ WriteFault)
+      ↔ ((before.mesh_faults < now.mesh_faults) ⊎ (before.report_faults < now.report_faults))
+      → StatusHasCause before.shelf_faults now.shelf_faults before.mesh_faults now.mesh_faults
+      before.report_faults now.report_faults status
       → IsCaused before now words status
   is-caused allows none read_cause write_cause cause = record {
     allowed = allows;
     usage = none;
     read = read_cause;
     write = write_cause;
-    shelf_later = by-read (before.shelf_faults ≤ now.shelf_faults) status (λ is. least-less _ _ (read_cause.0 is)) (λ not. least-same _ _ (cause.not_read not));
-    mesh_later = by-write (before.mesh_faults ≤ now.mesh_faults) status (λ is. (cause.writes.write is).meshes_later)
+    shelf_later = by-read (before.shelf_faults ≤ now.shelf_faults) status (λ is. least-less _ _ (read_cause.0 is))
+        (λ not. least-same _ _ (cause.not_read not));
+    mesh_later = by-write (before.mesh_faults ≤ now.mesh_faults) status
+        (λ is. (cause.writes.write is).meshes_later)
         (λ not. least-same _ _ (cause.writes.not_write not).meshes_same);
-    report_later = by-write (before.report_faults ≤ now.report_faults) status (λ is. (cause.writes.write is).report_later)
+    report_later = by-write (before.report_faults ≤ now.report_faults) status
+        (λ is. (cause.writes.write is).report_later)
         (λ not. least-same _ _ (cause.writes.not_write not).report_same);
   }
 
@@ -90,11 +108,13 @@ module _ (before now : Moment) (words : List (List ℕ)) (status : Status) where
 not-true : false ≡ true → ⊥
 not-true e = cc
 
-module _ (before now : Moment) (words : List (List ℕ)) (left : Option EngineEnd) (files : List NamedFile) (are : AreFiles before.shelf.files words files) where
+module _ (before now : Moment) (words : List (List ℕ)) (left : Option EngineEnd) (files : List NamedFile)
+    (are : AreFiles before.shelf.files words files) where
   abbrev Right : Status → Type 0
   Right status = EndsRight before.sinks now.sinks before.shelf now.shelf words files status
 
-  all-right : (status : Status) → IsTrue (is_complete status) → status ≢ WriteFault → EndsByStatus before now words status left → Right status
+  all-right : (status : Status) → IsTrue (is_complete status) → status ≢ WriteFault
+      → EndsByStatus before now words status left → Right status
   all-right status is not ends =
       let d = ends.complete is files are in
       record {
@@ -150,8 +170,10 @@ run-fault-follows stand before now words status left files s grid ends told fail
 pub text-fault-follows : CutTextsStand → OutcomesAreUnique → TextFaultFollows
 text-fault-follows stand unique before now words status left files ends are failed one end text is acts =
     let d = ends.write_fault failed files are in
-    let same : d.end.acts ≡ ReportText text ∷ [] = ap (λ (o : Outcome). o.acts) (unique words files d.end end one d.is_outcome is) ∙ acts in
-    stand before.sinks now.sinks text (subst (λ (a : List Act). IsCutShort before.sinks now.sinks a) same d.cut_short)
+    let same : d.end.acts ≡ ReportText text ∷ [] =
+    ap (λ (o : Outcome). o.acts) (unique words files d.end end one d.is_outcome is) ∙ acts in
+    stand before.sinks now.sinks text
+    (subst (λ (a : List Act). IsCutShort before.sinks now.sinks a) same d.cut_short)
 
 not-less : (a b : ℕ) → b ≡ a → a < b → ⊥
 not-less a b same less = omega (arith, same, less)
@@ -160,11 +182,13 @@ module _ (done : AcceptedIsDone) where
   pub complete-follows : CompleteFollows
   complete-follows before now words Done left files ends cause are accepted shelf meshes report = inl refl
   complete-follows before now words NoMemory left files ends cause are accepted shelf meshes report = inr refl
-  complete-follows before now words ReadFault left files ends cause are accepted shelf meshes report = absurd (not-less _ _ shelf (cause.read.0 refl))
-  complete-follows before now words WriteFault left files ends cause are accepted shelf meshes report = elim (cause.write.0 refl) [
-    | inl less ↦ absurd (not-less _ _ meshes less)
-    | inr less ↦ absurd (not-less _ _ report less)
-  ]
+  complete-follows before now words ReadFault left files ends cause are accepted shelf meshes report =
+      absurd (not-less _ _ shelf (cause.read.0 refl))
+  complete-follows before now words WriteFault left files ends cause are accepted shelf meshes report =
+      elim (cause.write.0 refl) [
+        | inl less ↦ absurd (not-less _ _ meshes less)
+        | inr less ↦ absurd (not-less _ _ report less)
+      ]
   complete-follows before now words Usage left files ends cause are accepted shelf meshes report =
       let d = ends.complete refl files are in inl (d.ends_so ∙ done words files d.end accepted d.is_outcome)
   complete-follows before now words GridRefused left files ends cause are accepted shelf meshes report =

@@ -1,5 +1,5 @@
--- What a run promises, in the order of the contract of `roam`: the meshes, what stands, what is determined, the causes. Each speaks of
--- the moments before the run and behind it, of the words of its command line, of its status, and of the engine that it leaves.
+-- What a run promises, in the order of the contract of `roam`: the meshes, what stands, the causes. Each speaks of the moments
+-- before the run and behind it, of the words of its command line, of its status, and of the engine that it leaves.
 -- This project's own.
 -- Words: KeepsBestMeshes, CertifiesMesh, TellsCertificates, DoesAll, IsCutOff, EndsByStatus, LeavesOutside, IsCaused.
 use Rattle.std.specs.Prelude.{◌≡◌, ◌≢◌, ◌⊎◌, ◌↔◌, ℕ, ◌+◌, ◌<◌, ◌≤◌, false, IsTrue, IsSome, is_some, List, All, Option, Some, None}
@@ -19,23 +19,27 @@ use Rattle.run_laws.specs.Moment.{Moment}
 
 -- The meshes.
 
--- Each mesh that is finished is a best one, whatever the status: of a script that of the state at its frame line, of a fit that of its
--- error or its budget.
+-- Each mesh that is finished is a best one, whatever the status: of a script that of the state at its frame line, of a fit that of
+-- its error or its budget.
 pub record KeepsBestMeshes (before now : Moment) (words : List (List ℕ)) (status : Status) : Type 0 where
-  pub of_script : (files : List NamedFile) (all : List Mesh) (s : Scripted) (grid : HeightField) → before.shelf.files ≡ Some files
-      → before.sinks.meshes ≡ Some all → IsRunOf words files s grid → KeepsGoodMeshes s grid (bytes_of files s.script) all now.sinks.meshes status
-  pub of_fit : (files : List NamedFile) (all : List Mesh) (f : Fitting) (grid : HeightField) → before.shelf.files ≡ Some files
-      → before.sinks.meshes ≡ Some all → IsFitRunOf words files f grid → KeepsFitMesh f grid before.sinks now.sinks all status
+  pub of_script : (files : List NamedFile) (all : List Mesh) (s : Scripted) (grid : HeightField)
+      → before.shelf.files ≡ Some files → before.sinks.meshes ≡ Some all → IsRunOf words files s grid
+      → KeepsGoodMeshes s grid (bytes_of files s.script) all now.sinks.meshes status
+  pub of_fit : (files : List NamedFile) (all : List Mesh) (f : Fitting) (grid : HeightField)
+      → before.shelf.files ≡ Some files → before.sinks.meshes ≡ Some all → IsFitRunOf words files f grid
+      → KeepsFitMesh f grid before.sinks now.sinks all status
 
 -- where a check is done, the report got a line by which its mesh is certified, and such a mesh is optimal
 abbrev pub CertifiesMesh : Moment → Moment → List (List ℕ) → Status → Type 0
-CertifiesMesh before now words status = (files : List NamedFile) (c : Checking) (grid : HeightField) → before.shelf.files ≡ Some files
-    → IsCheckOf words files c grid → status ≡ Done
-    → (line : List ℕ) × Grows before.sinks.report now.sinks.report line × IsCertifiedMesh c grid (bytes_of files c.mesh) line
+CertifiesMesh before now words status =
+    (files : List NamedFile) (c : Checking) (grid : HeightField) → before.shelf.files ≡ Some files
+    → IsCheckOf words files c grid → status ≡ Done → (line : List ℕ)
+    × Grows before.sinks.report now.sinks.report line × IsCertifiedMesh c grid (bytes_of files c.mesh) line
 
 -- what the frames of an engine tell of blocking is a certificate
 abbrev pub TellsCertificates : List (List ℕ) → Type 0
-TellsCertificates words = (files : List NamedFile) (end : Outcome) → IsTrue (is_some end.engine) → IsOutcome words files end → All IsCertified end.pictures
+TellsCertificates words = (files : List NamedFile) (end : Outcome) → IsTrue (is_some end.engine)
+    → IsOutcome words files end → All IsCertified end.pictures
 
 -- What stands.
 
@@ -55,34 +59,39 @@ pub record IsCutOff (before now : Moment) (words : List (List ℕ)) (files : Lis
   pub cut_short : IsCutShort before.sinks now.sinks end.acts
   pub opened : now.shelf.opens ≡ before.shelf.opens + end.opened
 
--- With Done, Usage and the refusals all of an outcome was done, and with WriteFault it was cut off. With ReadFault what the run had done by
--- then stands, and with NoMemory nothing was done.
+-- With Done, Usage and the refusals all of an outcome was done, and with WriteFault it was cut off. With ReadFault what the run had
+-- done by then stands, and with NoMemory nothing was done.
 pub record EndsByStatus (before now : Moment) (words : List (List ℕ)) (status : Status) (left : Option EngineEnd) : Type 0 where
-  pub complete : IsTrue (is_complete status) → (files : List NamedFile) → AreFiles before.shelf.files words files
-      → DoesAll before now words files status left
-  pub write_fault : status ≡ WriteFault → (files : List NamedFile) → AreFiles before.shelf.files words files → IsCutOff before now words files
-  pub read_fault : status ≡ ReadFault → LeavesAtReadFault before.sinks now.sinks before.shelf now.shelf words
-  pub no_memory : status ≡ NoMemory → LeavesAtNoMemory before.sinks now.sinks before.shelf now.shelf words
+  pub complete : IsTrue (is_complete status) → (files : List NamedFile)
+      → AreFiles before.shelf.files words files → DoesAll before now words files status left
+  pub write_fault : status ≡ WriteFault → (files : List NamedFile)
+      → AreFiles before.shelf.files words files → IsCutOff before now words files
+  pub read_fault : status ≡ ReadFault
+      → LeavesAtReadFault before.sinks now.sinks before.shelf now.shelf words
+  pub no_memory : status ≡ NoMemory
+      → LeavesAtNoMemory before.sinks now.sinks before.shelf now.shelf words
 
--- How the outside and the engine are left, also where the shelf tells no files: it tells what it told, no mesh is under way but after
--- WriteFault, files were opened as often as the status says, with Done the last one was read to its end, and an engine is left where one made
--- the frames and all lines were carried out.
+-- How the outside and the engine are left, also where the shelf tells no files: it tells what it told, no mesh is under way but
+-- after WriteFault, files were opened as often as the status says, with Done the last one was read to its end, and an engine is left
+-- where one made the frames and all lines were carried out.
 pub record LeavesOutside (before now : Moment) (words : List (List ℕ)) (status : Status) (left : Option EngineEnd) : Type 0 where
   pub files : now.shelf.files ≡ before.shelf.files
   pub idle : status ≢ WriteFault → now.under_way ≡ false
-  pub opens : OpensForStatus before.shelf.opens now.shelf.opens (file_count (command_of words)) status
+  pub opens :
+      OpensForStatus before.shelf.opens now.shelf.opens (file_count (command_of words)) status
   pub read_out : status ≡ Done → 0 < file_count (command_of words) → HasEnded now.shelf
   pub engine : IsSome left ↔ IsTrue (leaves_engine (command_of words) status)
 
 -- The causes.
 
--- The words allow the status, and it is Usage exactly where they are no command. It is ReadFault exactly where the shelf's count of faults
--- rose, and WriteFault exactly where that of the meshes or of the report rose. No count falls, so every other one is as before.
+-- The words allow the status, and it is Usage exactly where they are no command. It is ReadFault exactly where the shelf's count of
+-- faults rose, and WriteFault exactly where that of the meshes or of the report rose. No count falls, so any other is as before.
 pub record IsCaused (before now : Moment) (words : List (List ℕ)) (status : Status) : Type 0 where
   pub allowed : IsTrue (may_end (command_of words) status)
   pub usage : (status ≡ Usage) ↔ (command_of words ≡ None)
   pub read : (status ≡ ReadFault) ↔ (before.shelf_faults < now.shelf_faults)
-  pub write : (status ≡ WriteFault) ↔ ((before.mesh_faults < now.mesh_faults) ⊎ (before.report_faults < now.report_faults))
+  pub write : (status ≡ WriteFault)
+      ↔ ((before.mesh_faults < now.mesh_faults) ⊎ (before.report_faults < now.report_faults))
   pub shelf_later : before.shelf_faults ≤ now.shelf_faults
   pub mesh_later : before.mesh_faults ≤ now.mesh_faults
   pub report_later : before.report_faults ≤ now.report_faults

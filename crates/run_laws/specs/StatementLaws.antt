@@ -17,38 +17,53 @@ use Rattle.run_laws.specs.Statement.{EndsByStatus, IsCaused}
 
 -- unless memory ran out or a read failed, the run ends as an outcome of its words and files
 abbrev pub OutcomeFollows : Type 0
-OutcomeFollows = (before now : Moment) (words : List (List ℕ)) (status : Status) (left : Option EngineEnd) (files : List NamedFile)
+OutcomeFollows =
+    (before now : Moment) (words : List (List ℕ)) (status : Status) (left : Option EngineEnd)
+    (files : List NamedFile)
     → EndsByStatus before now words status left → AreFiles before.shelf.files words files
     → EndsRight before.sinks now.sinks before.shelf now.shelf words files status
 
 -- each outcome of the words and files tells what the engine is that is left
 abbrev pub EngineFollows : Type 0
-EngineFollows = (before now : Moment) (words : List (List ℕ)) (status : Status) (left : Option EngineEnd) (files : List NamedFile)
-    → EndsByStatus before now words status left → AreFiles before.shelf.files words files → (end : Outcome) → IsOutcome words files end
-    → IsTrue (is_complete status) → left ≡ end.engine
+EngineFollows =
+    (before now : Moment) (words : List (List ℕ)) (status : Status) (left : Option EngineEnd)
+    (files : List NamedFile)
+    → EndsByStatus before now words status left → AreFiles before.shelf.files words files
+    → (end : Outcome) → IsOutcome words files end → IsTrue (is_complete status) → left ≡ end.engine
 
 -- where a write failed in a run that shows its frames one by one, one of four cases stands
 abbrev pub RunFaultFollows : Type 0
-RunFaultFollows = (before now : Moment) (words : List (List ℕ)) (status : Status) (left : Option EngineEnd) (files : List NamedFile)
-    (s : Scripted) (grid : HeightField) → EndsByStatus before now words status left → before.shelf.files ≡ Some files → status ≡ WriteFault
+RunFaultFollows =
+    (before now : Moment) (words : List (List ℕ)) (status : Status) (left : Option EngineEnd)
+    (files : List NamedFile)
+    (s : Scripted) (grid : HeightField) → EndsByStatus before now words status left
+    → before.shelf.files ≡ Some files → status ≡ WriteFault
     → IsScriptRunOf words files s grid → IsTrue (is_by_frame s.show)
     → LeavesAtWriteFault before.sinks now.sinks s grid (bytes_of files s.script)
 
 -- where a write failed and all that was owed is one text, a prefix of it stands
 abbrev pub TextFaultFollows : Type 0
-TextFaultFollows = (before now : Moment) (words : List (List ℕ)) (status : Status) (left : Option EngineEnd) (files : List NamedFile)
-    → EndsByStatus before now words status left → AreFiles before.shelf.files words files → status ≡ WriteFault
-    → HasOneOutcome (command_of words) → (end : Outcome) (text : List ℕ) → IsOutcome words files end → end.acts ≡ ReportText text ∷ []
+TextFaultFollows =
+    (before now : Moment) (words : List (List ℕ)) (status : Status) (left : Option EngineEnd)
+    (files : List NamedFile)
+    → EndsByStatus before now words status left → AreFiles before.shelf.files words files
+    → status ≡ WriteFault → HasOneOutcome (command_of words) → (end : Outcome) (text : List ℕ)
+    → IsOutcome words files end → end.acts ≡ ReportText text ∷ []
     → StandsInText before.sinks now.sinks [] text
 
 -- words and files that are accepted, and no count that rose: Done, or memory ran out
 abbrev pub CompleteFollows : Type 0
-CompleteFollows = (before now : Moment) (words : List (List ℕ)) (status : Status) (left : Option EngineEnd) (files : List NamedFile)
-    → EndsByStatus before now words status left → IsCaused before now words status → AreFiles before.shelf.files words files
-    → IsAccepted words files → now.shelf_faults ≡ before.shelf_faults → now.mesh_faults ≡ before.mesh_faults
+CompleteFollows =
+    (before now : Moment) (words : List (List ℕ)) (status : Status) (left : Option EngineEnd)
+    (files : List NamedFile)
+    → EndsByStatus before now words status left → IsCaused before now words status
+    → AreFiles before.shelf.files words files → IsAccepted words files
+    → now.shelf_faults ≡ before.shelf_faults → now.mesh_faults ≡ before.mesh_faults
     → now.report_faults ≡ before.report_faults → (status ≡ Done) ⊎ (status ≡ NoMemory)
 
 -- a count of faults rose only where the status names it, and then by one at least, unless it stands at its greatest value
 abbrev pub FaultsFollow : Type 0
-FaultsFollow = (before now : Moment) (words : List (List ℕ)) (status : Status) → IsCaused before now words status
-    → StatusHasCause before.shelf_faults now.shelf_faults before.mesh_faults now.mesh_faults before.report_faults now.report_faults status
+FaultsFollow = (before now : Moment) (words : List (List ℕ)) (status : Status)
+    → IsCaused before now words status
+    → StatusHasCause before.shelf_faults now.shelf_faults before.mesh_faults now.mesh_faults
+    before.report_faults now.report_faults status
