@@ -18,9 +18,9 @@ use crate::laws::outlook_laws;
 use crate::listing::list_and_number;
 use crate::note::FrameNote;
 use crate::outlook::Outlook;
-use bintree_addr::Tri;
+use bintree_addr::{Point, Tri};
 use cull_marks::Planes;
-use obj_write::{MeshView, VertexTable};
+use obj_write::{MeshView, VertexChange, VertexTable};
 use pgm_grid::Grid;
 use roam_edge::NoMemory;
 use roam_mesh::Mesh;
@@ -29,6 +29,12 @@ use std::marker::Model;
 use triangle_pool::Pool;
 use view_priority::{Camera, Meter};
 use wedgie_tree::Wedges;
+
+/// What stands where no change was listed yet.
+const NO_CHANGE: VertexChange = VertexChange {
+    point: Point { x: 0, y: 0 },
+    shown: false,
+};
 
 /// Terrain, a view of it, and the mesh that follows the view.
 #[derive(Drop)]
@@ -51,6 +57,8 @@ pub struct Engine {
     /// The vertex number of each grid point, or 0.
     pub(crate) numbers: VertexTable,
     pub(crate) vertices: u32,
+    /// Room for the points at which a frame may change vertices.
+    pub(crate) changes: Vec<VertexChange>,
     /// What a frame would tell, where nothing has changed since the last one.
     pub(crate) still: Option<FrameNote>,
 }
@@ -100,6 +108,7 @@ impl Engine {
         let room = room(n, budget);
         let mesh = Mesh::make(alloc, n, room)?;
         let mut leaves = vec![in alloc; Tri::default(); room as usize]?;
+        let changes = vec![in alloc; NO_CHANGE; room as usize]?;
         let mut numbers = VertexTable::new(alloc, n)?;
         let (leaf_count, vertices) = list_and_number(mesh.pool(), &mut leaves, &mut numbers);
         Ok(Engine {
@@ -115,6 +124,7 @@ impl Engine {
             leaf_count,
             numbers,
             vertices,
+            changes,
             still: None,
         })
     }

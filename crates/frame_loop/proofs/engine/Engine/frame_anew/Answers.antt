@@ -1,7 +1,7 @@
 use Rattle.std.proofs.lemmas.Grind.{common_steps}
-use Rattle.std.proofs.Common.{◌≡◌, ℕ, length, refl, ◌∙◌, ap, arith}
+use Rattle.std.proofs.Common.{◌≡◌, ℕ, length, take, refl, ◌∙◌, ap, subst, arith}
 use Rattle.mesh_defs.specs.declared.mark.Mark.TheVariants.{Inside, Cut, Outside}
-use Rattle.mesh_defs.specs.ClosedSet.{leaves_of, among}
+use Rattle.mesh_defs.specs.ClosedSet.{IsClosed, leaves_of, among}
 use Rattle.mesh_defs.specs.MeshText.{vertices_of}
 use Rattle.edge_laws.specs.Slots.{split_set}
 use Rattle.triangle_pool.specs.Slots.{PoolState}
@@ -9,6 +9,7 @@ use Rattle.roam_mesh.specs.Mesh.{pool_members}
 use Rattle.frame_loop.specs.Marks.{marks_seen}
 use Rattle.frame_loop.proofs.PoolLemmas.{members_leaves_at}
 use Rattle.frame_loop.proofs.ListingLemmas.{kept_listing}
+use Rattle.frame_loop.proofs.PatchLemmas.{known_before}
 use Rattle.frame_loop.proofs.engine.Engine.frame_anew.Goals as goal
 
 pub list_changed-leaf_count-requires-clause-same : goal.list_changed-leaf_count-requires-clause-same
@@ -17,10 +18,22 @@ list_changed-leaf_count-requires-clause-same c none =
     let n = c.self.inside.outlook.grid.n in
     let same_n : c.advance_mesh-steps.new.mesh.pool.n ≡ n = c.advance_mesh-steps.ensures.n ∙ is.0.n in
     let same = c.advance_mesh-steps.ensures.still none ∙ ap (λ k. leaves_of k (split_set c.self.inside.mesh.pool.pairs)) is.0.n in
-    rw (c.pool-pool.ensures.pool, c.deref_mut.ensures.value)
+    rw (c.pool-pool.ensures.pool, c.deref_mut-2.ensures.value)
     (kept_listing n c.advance_mesh-steps.new.mesh.pool.n c.self.inside.mesh.pool.pairs c.advance_mesh-steps.new.mesh.pool.pairs
     c.self.inside.leaves.items c.self.inside.numbers c.self.inside.leaf_count c.self.inside.vertices
     same_n same is.1.leaf_list is.4 is.1.vertex_numbers is.6)
+
+pub list_changed-leaf_count-requires-clause-known : goal.list_changed-leaf_count-requires-clause-known
+list_changed-leaf_count-requires-clause-known c =
+    let is = c.self.invariant in
+    let n = c.self.inside.outlook.grid.n in
+    let after = c.advance_mesh-steps.new.mesh in
+    let before = split_set c.self.inside.mesh.pool.pairs in
+    rw (c.pool-pool.ensures.pool)
+    (known_before n after.pool.n before (split_set after.pool.pairs) c.self.inside.numbers (take c.self.inside.leaf_count c.self.inside.leaves.items)
+    after.log.changed c.changed.result (c.advance_mesh-steps.ensures.n ∙ is.0.n)
+    (subst (λ (k : ℕ). IsClosed k before) is.0.n c.advance_mesh-steps.ensures.closed)
+    is.1.vertex_numbers is.1.leaf_list c.advance_mesh-steps.ensures.changed c.changed.ensures)
 
 pub count_marks-marks-requires-clause-n : goal.count_marks-marks-requires-clause-n
 count_marks-marks-requires-clause-n c = ap (λ (p : PoolState). p.n) c.pool-pool.ensures.pool ∙ c.advance_mesh-steps.ensures.n ∙ c.self.invariant.0.n
