@@ -1,0 +1,2 @@
+pub mod FitLine
+pub mod FitCertReader

@@ -1,0 +1,155 @@
+//! A reader of a certificate of a fitted mesh, line after line.
+
+ghost use Rattle.std.specs.Prelude.{◌≡◌, ◌≤◌, ◌++◌, ◌∷◌, [], ◌↔◌, ℕ, None, Some, Ok, Err, OnOk, OnErr, IfErr};
+ghost use Rattle.mesh_defs.specs.declared.level.TheConstants.{GREATEST_LEVEL};
+ghost use Rattle.fit_cert_text.specs.FitCertReader.{nothing_read, read_so_far, AreFew, taken, fit_line_in, finished};
+ghost use Rattle.fit_cert_text.specs.declared.fault.CertFault.{CertFault};
+
+use crate::fault::CertFault;
+use crate::line::FitLine;
+use crate::reading::read_line;
+use fit_certificate_laws::{FitCert, MOST_REASONS, Off};
+use std::alloc::Global;
+use std::marker::Model;
+
+/// A reader of the certificate of a grid, one line after the other; after a refusal it gives no other answer.
+#[derive(Drop)]
+pub struct FitCertReader {
+    n: u32,
+    tolerance: Option<u32>,
+    mesh: bool,
+    needed: Vec<Off>,
+    beyond: Vec<Off>,
+    refusal: Option<CertFault>,
+}
+
+impl Model for FitCertReader {
+    ghost use Rattle.fit_cert_text.specs.FitCertReader.{Reading, AreFew};
+
+    ghost Value = { Reading };
+
+    ghost view = { λ r. record {
+      n = r.n;
+      read = record { tolerance = r.tolerance; mesh = r.mesh; needed = r.needed.items; beyond = r.beyond.items };
+      refusal = r.refusal;
+    } };
+
+    ghost invariant = { λ r. AreFew r.n r.needed.items r.beyond.items };
+}
+
+impl FitCertReader {
+    /// A reader that has read nothing, for the grid of side 2^n. Takes no memory.
+    pub fn new(alloc: Global, n: u32) -> FitCertReader
+        requires in_grid { (1 ≤ n) × (n ≤ GREATEST_LEVEL) }
+        ensures { result ≡ record { n = n; read = nothing_read; refusal = None } }
+    {
+        FitCertReader {
+            n,
+            tolerance: None,
+            mesh: false,
+            needed: Vec::new(alloc),
+            beyond: Vec::new(alloc),
+            refusal: None,
+        }
+    }
+
+    /// Reads one line more. The LF is none of its bytes, a CR at its end counts and is no part of a field.
+    ///
+    /// After a refusal each further line is refused in the same way.
+    /// Cost (not proved): a few steps a byte.
+    pub fn line(&mut self, bytes: &[u8]) -> Result<(), CertFault>
+        ensures n { self.new.n ≡ self.old.n }
+
+        // A refusal is the answer from then on.
+        ensures sticky { (fault : CertFault) → self.old.refusal ≡ Some fault → result ≡ Err fault }
+        ensures kept { OnErr result (self.new.read ≡ self.old.read) }
+        ensures refusal { IfErr result (λ fault. self.new.refusal ≡ Some fault) }
+
+        // An accepted line may stand there, and a bad one may not.
+        ensures ok { OnOk result (fit_line_in self.old.n self.old.read bytes.now ≡ Some self.new.read) }
+        ensures no_refusal { OnOk result ((self.old.refusal ≡ None) × (self.new.refusal ≡ None)) }
+        ensures bad_line { self.old.refusal ≡ None →
+            (result ≡ Err CertFault.BadLine) ↔ (fit_line_in self.old.n self.old.read bytes.now ≡ None) }
+    {
+        if let Some(fault) = self.refusal {
+            return Err(fault);
+        }
+        let outcome = match read_line(bytes, self.n) {
+            None => Err(CertFault::BadLine),
+            Some(line) => take(
+                &mut self.tolerance,
+                &mut self.mesh,
+                &mut self.needed,
+                &mut self.beyond,
+                line,
+            ),
+        };
+        if let Err(fault) = outcome {
+            self.refusal = Some(fault);
+        }
+        outcome
+    }
+
+    /// The certificate that was read, or the refusal. Takes no memory.
+    pub fn finish(self) -> Result<FitCert, CertFault>
+        ensures { result ≡ finished self.refusal self.read }
+    {
+        let FitCertReader {
+            n: _,
+            tolerance,
+            mesh,
+            needed,
+            beyond,
+            refusal,
+        } = self;
+        if let Some(fault) = refusal {
+            return Err(fault);
+        }
+        match tolerance {
+            Some(own) if mesh => Ok(FitCert::new(own, needed, beyond)),
+            _ => Err(CertFault::BadLine),
+        }
+    }
+}
+
+/// Takes a line that may stand behind those before it.
+fn take(
+    tolerance: &mut Option<u32>,
+    mesh: &mut bool,
+    needed: &mut Vec<Off>,
+    beyond: &mut Vec<Off>,
+    line: FitLine,
+) -> Result<(), CertFault>
+    ensures ok { OnOk result (taken (read_so_far tolerance.old mesh.old needed.old.items beyond.old.items) line
+        ≡ Some (read_so_far tolerance.new mesh.new needed.new.items beyond.new.items)) }
+    ensures err { OnErr result (read_so_far tolerance.new mesh.new needed.new.items beyond.new.items
+        ≡ read_so_far tolerance.old mesh.old needed.old.items beyond.old.items) }
+    ensures few { (n : ℕ) → AreFew n needed.old.items beyond.old.items → AreFew n needed.new.items beyond.new.items }
+    ensures bad_line { (result ≡ Err CertFault.BadLine)
+        ↔ (taken (read_so_far tolerance.old mesh.old needed.old.items beyond.old.items) line ≡ None) }
+{
+    match line {
+        FitLine::ToleranceLine(own) if tolerance.is_none() => *tolerance = Some(own),
+        FitLine::OffLine(off) if tolerance.is_some() && !*mesh && needed.len() < MOST_REASONS => {
+            push(needed, off)?;
+        }
+        FitLine::OffLine(off) if tolerance.is_some() && *mesh && beyond.len() < MOST_REASONS => {
+            push(beyond, off)?;
+        }
+        FitLine::MeshLine if tolerance.is_some() && !*mesh => *mesh = true,
+        _ => return Err(CertFault::BadLine),
+    }
+    Ok(())
+}
+
+/// Appends a reason.
+fn push(reasons: &mut Vec<Off>, reason: Off) -> Result<(), CertFault>
+    ensures ok { OnOk result (reasons.new.items ≡ reasons.old.items ++ reason ∷ []) }
+    ensures err { OnErr result (reasons.new.items ≡ reasons.old.items) }
+    ensures no_memory { IfErr result (λ fault. fault ≡ CertFault.NoMemory) }
+{
+    match reasons.push(reason) {
+        Ok(()) => Ok(()),
+        Err(_) => Err(CertFault::NoMemory),
+    }
+}
