@@ -6,6 +6,7 @@ ghost use Rattle.std.specs.Prelude.{◌≤◌, IfOk, length};
 ghost use Rattle.fit_certificate_laws.specs.declared.limits.TheConstants.{MOST_REASONS};
 
 use bintree_addr::Tri;
+use fit_cert_text::FitCertReader;
 use fit_certify::{FitCert, MOST_REASONS, Off, Reject, Target, Verdict, check, make};
 use pgm_grid::Grid;
 use std::alloc::Global;
@@ -96,7 +97,7 @@ fn a_peak_is_certified_for_errors_and_budgets(rt: HostRuntime) -> Result<(), Fai
     Ok(())
 }
 
-// 2 holds no point above the falling diagonal, 4 is a finest triangle, and 3 is split with 2.
+// 2 holds no point above the falling diagonal, 4 is no leaf before 2 is split, and 3 is split with 2.
 #[test]
 fn each_test_that_fails_is_told(rt: HostRuntime) -> Result<(), Fail> {
     let grid = peak(rt.alloc())?;
@@ -183,4 +184,61 @@ fn what_is_made_is_certified(rt: HostRuntime) -> Result<(), Fail> {
         assert_eq!(rt; made, verdict, "{triangles}");
     }
     Ok(())
+}
+
+/// The verdict on the certificate of these lines, for the grid with a peak.
+fn verdict_of_lines(alloc: Global, lines: &[&str], target: Target) -> Result<Verdict, Fail> {
+    let grid = peak(alloc)?;
+    let mut reader = FitCertReader::new(alloc, 1);
+    for line in lines {
+        reader.line(line.as_bytes())?;
+    }
+    let cert = reader.finish()?;
+    Ok(check(alloc, &grid, &cert, target)?)
+}
+
+/// How many of these lines a reader takes before it refuses one.
+fn lines_taken(alloc: Global, lines: &[&str]) -> usize {
+    let mut reader = FitCertReader::new(alloc, 1);
+    let mut taken: usize = 0;
+    for line in lines {
+        if reader.line(line.as_bytes()).is_err() {
+            return taken;
+        }
+        taken = taken.saturating_add(1);
+    }
+    taken
+}
+
+#[test]
+fn a_certificate_that_is_read_is_certified(rt: HostRuntime) -> Result<(), Fail> {
+    let lines = ["tolerance 20", "mesh", "off 2 1 1"];
+    assert_eq!(rt;
+        verdict_of_lines(rt.alloc(), &lines, budget(3))?,
+        certified(2, 20)
+    );
+    let split = ["tolerance 19", "off  2\t1 1\r", "mesh"];
+    assert_eq!(rt;
+        verdict_of_lines(rt.alloc(), &split, error(19))?,
+        certified(4, 0)
+    );
+    Ok(())
+}
+
+// On nine points 7 is the last triangle that may be split, and 2 the last column.
+#[test]
+fn a_line_that_may_not_stand_there_is_refused(rt: HostRuntime) {
+    let cases: [(&[&str], usize); 8] = [
+        (&["mesh"], 0),
+        (&["off 2 1 1"], 0),
+        (&["tolerance 4294967296"], 0),
+        (&["tolerance 1", "tolerance 1"], 1),
+        (&["tolerance 1", "off 8 0 0"], 1),
+        (&["tolerance 1", "off 2 3 0"], 1),
+        (&["tolerance 1", "off 2 2 2", "mesh", "mesh"], 3),
+        (&["tolerance 1", "mesh", "off 3 2 2", "want 2"], 3),
+    ];
+    for (lines, taken) in cases {
+        assert_eq!(rt; lines_taken(rt.alloc(), lines), taken, "{taken}");
+    }
 }
