@@ -35,12 +35,14 @@ address-low n a fine = ⊎_elim
 pub addresses-push : (waiting : List Waiting) (w : Waiting) → addresses_of (waiting ++ w ∷ []) ≡ addresses_of waiting ++ w.tri ∷ []
 addresses-push waiting w = map_push (λ w. w.tri) waiting w
 
-pub waiting-push : (waiting : List Waiting) (w : Waiting) (a : ℕ) → times (addresses_of (waiting ++ w ∷ [])) a ≡ times (addresses_of waiting) a + same w.tri a
+pub waiting-push : (waiting : List Waiting) (w : Waiting) (a : ℕ)
+    → times (addresses_of (waiting ++ w ∷ [])) a ≡ times (addresses_of waiting) a + same w.tri a
 waiting-push waiting w a = ap (λ ts. times ts a) (addresses-push waiting w) ∙ times-push (addresses_of waiting) w.tri a
 
 -- ---- lists that are made of another
 
-map-swap_remove : {X Y : Type 0} (f : X → Y) (xs : List X) (k : ℕ) (d : X) (e : Y) → k < length xs → swap_remove (map f xs) k e ≡ map f (swap_remove xs k d)
+map-swap_remove : {X Y : Type 0} (f : X → Y) (xs : List X) (k : ℕ) (d : X) (e : Y) → k < length xs
+    → swap_remove (map f xs) k e ≡ map f (swap_remove xs k d)
 map-swap_remove f xs k d e inside =
     let long = length-map xs f in
     let last : get_or (map f xs) (length (map f xs) - 1) e ≡ f (get_or xs (length xs - 1) d) =
@@ -51,12 +53,14 @@ map-swap_remove f xs k d e inside =
 
 -- ---- the changes
 
-module _ (n : ℕ) (places : PlaceState) (vertices : VertexState) (corners : List Indices) (waiting : List Waiting) (r s w : ℕ) (whole : IsWhole n places vertices corners waiting r s w) where
+module _ (n : ℕ) (places : PlaceState) (vertices : VertexState) (corners : List Indices) (waiting : List Waiting)
+    (r s w : ℕ) (whole : IsWhole n places vertices corners waiting r s w) where
   pub whole-long : length corners ≡ length places.triangles
   whole-long = sym (length-map corners (shown vertices.points)) ∙ ap length whole.drawn ∙ length-map places.triangles (grid_indices n)
 
   -- the numbers at a place are in use
-  pub whole-used : (k : ℕ) (x : Indices) → k < length places.triangles → x ≡ get_or corners k x → (v : ℕ) → corner_uses x v ≤ get_or vertices.uses v 0
+  pub whole-used : (k : ℕ) (x : Indices) → k < length places.triangles → x ≡ get_or corners k x → (v : ℕ)
+      → corner_uses x v ≤ get_or vertices.uses v 0
   whole-used k x inside is_x v =
       let long = whole-long in
       let at = uses_in-at corners k x v (omega arith) in
@@ -69,7 +73,8 @@ module _ (n : ℕ) (places : PlaceState) (vertices : VertexState) (corners : Lis
       let long = whole-long in let total = whole.total in let few = whole.few in let most = whole.point_most in omega arith
 
   -- a triangle comes, and waits
-  pub whole-admit : (after : VertexState) (x : Waiting) (s' : ℕ) → s ≤ s' → x.tri < places.end → AreTaken vertices after (grid_indices n x.tri) x.corners
+  pub whole-admit : (after : VertexState) (x : Waiting) (s' : ℕ) → s ≤ s' → x.tri < places.end
+      → AreTaken vertices after (grid_indices n x.tri) x.corners
       → times places.triangles x.tri + times (addresses_of waiting) x.tri ≡ 0 → IsWhole n places after corners (waiting ++ x ∷ []) r s' w
   whole-admit after x s' ls low taken away =
       let all : (v : ℕ) → uses_in corners v ≤ get_or vertices.uses v 0 = λ v. omega (arith, whole.used v) in
@@ -85,7 +90,8 @@ module _ (n : ℕ) (places : PlaceState) (vertices : VertexState) (corners : Lis
             let before = whole.ready k d h in
             let same_here = shown-stay vertices.points after.points vertices.uses (get_or waiting k d).corners
             (λ v. omega (arith, whole.used v, waiting_uses-at waiting k d v h)) taken.stay in
-            let still : IsReady n places.end after.points (get_or waiting k d) = record { drawn = same_here ∙ before.drawn; low = before.low } in
+            let still : IsReady n places.end after.points (get_or waiting k d) =
+            record { drawn = same_here ∙ before.drawn; low = before.low } in
             subst (λ y. IsReady n places.end after.points y) (sym (get_or_append_left waiting (x ∷ []) d k h)) still)
             (λ (h : length waiting ≤ k).
             let last : length waiting ≡ k = omega (arith, length_push waiting x) in
@@ -99,7 +105,8 @@ module _ (n : ℕ) (places : PlaceState) (vertices : VertexState) (corners : Lis
             ⊎_elim
             (λ (e : x.tri ≡ a).
             let one = same-one x.tri a e in
-            let none : times places.triangles a + times (addresses_of waiting) a ≡ 0 = subst (λ b. times places.triangles b + times (addresses_of waiting) b ≡ 0) e away in
+            let none : times places.triangles a + times (addresses_of waiting) a ≡ 0 =
+            subst (λ b. times places.triangles b + times (addresses_of waiting) b ≡ 0) e away in
             omega arith)
             (λ (u : x.tri ≢ a). let none = same-other x.tri a u in omega (arith, whole.once a))
             (cases_eq x.tri a);
@@ -127,17 +134,20 @@ module _ (n : ℕ) (places : PlaceState) (vertices : VertexState) (corners : Lis
 
     pub next-ready : IsReady n places.end vertices.points next
     next-ready =
-        subst (λ y. IsReady n places.end vertices.points y) (ap (λ ws. get_or ws (length rest) next) split ∙ get_or_push rest next next (length rest) refl)
+        subst (λ y. IsReady n places.end vertices.points y) (ap (λ ws. get_or ws (length rest) next) split
+        ∙ get_or_push rest next next (length rest) refl)
         (whole.ready (length rest) next (let long = next-long in omega arith))
 
     rest-ready : (k : ℕ) (d : Waiting) → k < length rest → IsReady n places.end vertices.points (get_or rest k d)
     rest-ready k d inside =
-        subst (λ y. IsReady n places.end vertices.points y) (ap (λ ws. get_or ws k d) split ∙ get_or_append_left rest (next ∷ []) d k inside)
+        subst (λ y. IsReady n places.end vertices.points y) (ap (λ ws. get_or ws k d) split
+        ∙ get_or_append_left rest (next ∷ []) d k inside)
         (whole.ready k d (let long = next-long in omega arith))
 
     -- it takes the place of another, whose numbers have a use less
     pub whole-put : (after : PlaceState) (less : VertexState) (at s' w' : ℕ) (x : Indices) → s ≤ s' → w ≤ w' → at < length places.triangles
-        → after ≡ record places { triangles = set places.triangles at next.tri } → x ≡ get_or corners at x → less ≡ record vertices { uses = less.uses }
+        → after ≡ record places { triangles = set places.triangles at next.tri } → x ≡ get_or corners at x
+        → less ≡ record vertices { uses = less.uses }
         → ((v : ℕ) → get_or less.uses v 0 + corner_uses x v ≡ get_or vertices.uses v 0) → sum less.uses + 3 ≡ sum vertices.uses
         → IsWhole n after less (set corners at next.corners) rest r s' w'
     whole-put after less at s' w' x ls lw inside is_after is_x is_less uses total =
@@ -167,8 +177,10 @@ module _ (n : ℕ) (places : PlaceState) (vertices : VertexState) (corners : Lis
         })
 
     -- it comes behind the last
-    pub whole-push : (after : PlaceState) (xs : List Indices) (r' s' w' : ℕ) → r ≤ r' → s ≤ s' → w ≤ w' → length places.triangles < places.most
-        → after ≡ record places { triangles = places.triangles ++ next.tri ∷ [] } → xs ≡ corners ++ next.corners ∷ [] → IsWhole n after vertices xs rest r' s' w'
+    pub whole-push : (after : PlaceState) (xs : List Indices) (r' s' w' : ℕ) → r ≤ r' → s ≤ s' → w ≤ w'
+        → length places.triangles < places.most
+        → after ≡ record places { triangles = places.triangles ++ next.tri ∷ [] } → xs ≡ corners ++ next.corners ∷ []
+        → IsWhole n after vertices xs rest r' s' w'
     whole-push after xs r' s' w' lr ls lw room is_after is_xs = rw (is_after, is_xs) (record {
       n_low = whole.n_low;
       n_high = whole.n_high;
@@ -189,7 +201,8 @@ module _ (n : ℕ) (places : PlaceState) (vertices : VertexState) (corners : Lis
     })
 
   -- a triangle goes, and the last closes the gap
-  pub whole-close : (after : PlaceState) (less : VertexState) (xs : List Indices) (x : Indices) (at r' s' w' : ℕ) (none : List Waiting) → none ≡ [] → waiting ≡ []
+  pub whole-close : (after : PlaceState) (less : VertexState) (xs : List Indices) (x : Indices) (at r' s' w' : ℕ)
+      (none : List Waiting) → none ≡ [] → waiting ≡ []
       → r ≤ r' → s ≤ s' → w ≤ w' → at < length places.triangles → after ≡ record places { triangles = swap_remove places.triangles at 0 }
       → xs ≡ swap_remove corners at x → x ≡ get_or corners at x → less ≡ record vertices { uses = less.uses }
       → ((v : ℕ) → get_or less.uses v 0 + corner_uses x v ≡ get_or vertices.uses v 0) → sum less.uses + 3 ≡ sum vertices.uses

@@ -36,7 +36,8 @@ module _ (ts ps : List ℕ) (linked : IsLinked ts ps) where
       (link.0, omega (arith, link.1, there.1), ap (λ j. get_or ts j 0) link.1 ∙ there.2)
 
   -- what stands at the place that is noted for a triangle tells whether the triangle stands somewhere
-  pub has-read : (a at t : ℕ) (b : Bool) → at ≡ get_or ps a 0 → at < length ts → t ≡ get_or ts at 0 → b ≡ eqb t a → (b ≡ true) ↔ (0 < times ts a)
+  pub has-read : (a at t : ℕ) (b : Bool) → at ≡ get_or ps a 0 → at < length ts → t ≡ get_or ts at 0 → b ≡ eqb t a
+      → (b ≡ true) ↔ (0 < times ts a)
   has-read a at t b is_at inside is_t e = (
     λ yes. times-at ts at a inside (sym is_t ∙ eqb-true t a (sym e ∙ yes)),
     λ some. e ∙ eq-eqb t a (is_t ∙ ap (λ j. get_or ts j 0) is_at ∙ (linked-place a some).2),
@@ -67,18 +68,23 @@ module _ (ts ps : List ℕ) (linked : IsLinked ts ps) where
       (omega (arith, length-set ps t (length ts)), get_or-set_same ps t (length ts) 0 within ∙ sym e))
       (λ (u : k ≢ length ts).
       let h : k < length ts = omega (arith, length_push ts t) in
-      moved (set ps t (length ts)) (get_or (ts ++ t ∷ []) k 0) (get_or ts k 0) k (get_or_append_left ts (t ∷ []) 0 k h)
-      (omega (arith, length-set ps t (length ts), (linked k h).0), get_or-set_other ps t (get_or ts k 0) (length ts) 0 (apart t k away h) ∙ (linked k h).1))
+      moved (set ps t (length ts)) (get_or (ts ++ t ∷ []) k 0) (get_or ts k 0) k (get_or_append_left ts (t ∷ []) 0 k h) (
+        omega (arith, length-set ps t (length ts), (linked k h).0),
+        get_or-set_other ps t (get_or ts k 0) (length ts) 0
+            (apart t k away h) ∙ (linked k h).1,
+      ))
       (cases_eq k (length ts))
 
   -- the last goes
   pub IsLinked-last : (at : ℕ) → at < length ts → length ts ≤ at + 1 → IsLinked (swap_remove ts at 0) ps
   IsLinked-last at inside last k hk =
       let short = length-swap_remove ts at 0 inside in
-      moved ps (get_or (swap_remove ts at 0) k 0) (get_or ts k 0) k (swap_remove-other ts at k (omega arith) (omega arith)) (linked k (omega arith))
+      moved ps (get_or (swap_remove ts at 0) k 0) (get_or ts k 0) k
+      (swap_remove-other ts at k (omega arith) (omega arith)) (linked k (omega arith))
 
   -- another goes, and the last takes its place
-  pub IsLinked-close : (at last : ℕ) → at + 1 < length ts → last ≡ get_or (swap_remove ts at 0) at 0 → IsLinked (swap_remove ts at 0) (set ps last at)
+  pub IsLinked-close : (at last : ℕ) → at + 1 < length ts → last ≡ get_or (swap_remove ts at 0) at 0
+      → IsLinked (swap_remove ts at 0) (set ps last at)
   IsLinked-close at last inside is_last k hk =
       let short = length-swap_remove ts at 0 (omega arith) in
       let end : ℕ = length ts - 1 in

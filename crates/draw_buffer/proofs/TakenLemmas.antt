@@ -32,7 +32,8 @@ module _ (ps us ns free : List ℕ) (most r1 r2 r3 r4 : ℕ) (sound : AreSound p
   }
 
   -- the last use ends
-  pub sound-leave : (v : ℕ) (more : List ℕ) (s3 : ℕ) → 0 < get_or us v 0 → more ≡ free ++ v ∷ [] → r3 ≤ s3 → AreSound ps (set us v 0) ns more most r1 r2 s3 r4
+  pub sound-leave : (v : ℕ) (more : List ℕ) (s3 : ℕ) → 0 < get_or us v 0 → more ≡ free ++ v ∷ [] → r3 ≤ s3
+      → AreSound ps (set us v 0) ns more most r1 r2 s3 r4
   sound-leave v more s3 used is_more l3 = rw is_more (record {
     numbered = IsNumbered-fewer ps us (set us v 0) ns sound.numbered (still-used v 0 used);
     vacant = AreFree-leave us free v sound.vacant used;
@@ -46,7 +47,8 @@ module _ (ps us ns free : List ℕ) (most r1 r2 r3 r4 : ℕ) (sound : AreSound p
   })
 
   -- a free number is given to a point that has none
-  pub sound-give : (rest : List ℕ) (v p s3 s4 : ℕ) → free ≡ rest ++ v ∷ [] → p < length ns → ((w : ℕ) → 0 < get_or us w 0 → get_or ps w 0 ≢ p)
+  pub sound-give : (rest : List ℕ) (v p s3 s4 : ℕ) → free ≡ rest ++ v ∷ [] → p < length ns
+      → ((w : ℕ) → 0 < get_or us w 0 → get_or ps w 0 ≢ p)
       → r3 ≤ s3 → r4 ≤ s4 → AreSound (set ps v p) (set us v 1) (set ns p v) rest most r1 r2 s3 s4
   sound-give rest v p s3 s4 split within away l3 l4 =
       let low = last-low us free rest v sound.vacant split in
@@ -92,7 +94,8 @@ module _ (ps us ns free : List ℕ) (most r1 r2 r3 r4 : ℕ) (sound : AreSound p
 -- ---- what is seen
 
 -- one more or one less at a number
-pub uses-more : (us : List ℕ) (v u : ℕ) → 0 < get_or us v 0 → u ≡ get_or us v 0 + 1 → (w : ℕ) → get_or (set us v u) w 0 ≡ get_or us w 0 + same v w
+pub uses-more : (us : List ℕ) (v u : ℕ) → 0 < get_or us v 0 → u ≡ get_or us v 0 + 1 → (w : ℕ)
+    → get_or (set us v u) w 0 ≡ get_or us w 0 + same v w
 uses-more us v u used is_u w = ⊎_elim
     (λ (e : w ≡ v).
     let here = set-here us v u w (used-within us v used) e in
@@ -105,7 +108,8 @@ uses-more us v u used is_u w = ⊎_elim
     omega arith)
     (cases_eq w v)
 
-pub uses-less : (us : List ℕ) (v u : ℕ) → 0 < get_or us v 0 → u + 1 ≡ get_or us v 0 → (w : ℕ) → get_or (set us v u) w 0 + same v w ≡ get_or us w 0
+pub uses-less : (us : List ℕ) (v u : ℕ) → 0 < get_or us v 0 → u + 1 ≡ get_or us v 0 → (w : ℕ)
+    → get_or (set us v u) w 0 + same v w ≡ get_or us w 0
 uses-less us v u used is_u w = ⊎_elim
     (λ (e : w ≡ v).
     let here = set-here us v u w (used-within us v used) e in
@@ -162,7 +166,8 @@ taken-first before after p v unused first others total is_p points given end mos
 
 -- ---- at first
 
-pub sound-none : (ps us ns free : List ℕ) (most r1 r2 r3 r4 : ℕ) → ps ≡ [] → us ≡ [] → free ≡ [] → most < 2 ^ 32 → most ≤ r1 → most ≤ r2 → most ≤ r3 → most ≤ r4
+pub sound-none : (ps us ns free : List ℕ) (most r1 r2 r3 r4 : ℕ) → ps ≡ [] → us ≡ [] → free ≡ [] → most < 2 ^ 32
+    → most ≤ r1 → most ≤ r2 → most ≤ r3 → most ≤ r4
     → AreSound ps us ns free most r1 r2 r3 r4
 sound-none ps us ns free most r1 r2 r3 r4 is_ps is_us is_free small l1 l2 l3 l4 = rw (is_ps, is_us, is_free) (record {
   numbered = λ v some. absurd (omega arith);

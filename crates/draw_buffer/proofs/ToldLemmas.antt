@@ -15,7 +15,8 @@ fewer : (told : List ℕ) (at k : ℕ) → times (told ++ at ∷ []) k ≡ 0 →
 fewer told at k none = let more = times-push told at k in omega arith
 
 -- the other entries, after the last took the place of one
-swap_remove-rest : {X : Type 0} (xs : List X) (at : ℕ) (e : X) (k : ℕ) (d : X) → k < length xs - 1 → k ≢ at → get_or (swap_remove xs at e) k d ≡ get_or xs k d
+swap_remove-rest : {X : Type 0} (xs : List X) (at : ℕ) (e : X) (k : ℕ) (d : X) → k < length xs - 1 → k ≢ at
+    → get_or (swap_remove xs at e) k d ≡ get_or xs k d
 swap_remove-rest xs at e k d within u =
     get_or-take (length xs - 1) (set xs at (get_or xs (length xs - 1) e)) k d within
     ∙ get_or-set_other xs at k (get_or xs (length xs - 1) e) d u
@@ -32,8 +33,10 @@ pub told-trans : (e f g : ExchangeState) → IsTold e f → IsTold f g → IsTol
 told-trans e f g first second = record {
   grows = λ k none. first.grows k (second.grows k none);
   within = λ k inside none. first.within k (second.within k inside none) (second.grows k none);
-  triangles_stay = λ k inside none. second.triangles_stay k inside none ∙ first.triangles_stay k (second.within k inside none) (second.grows k none);
-  corners_stay = λ k d inside none. second.corners_stay k d inside none ∙ first.corners_stay k d (second.within k inside none) (second.grows k none);
+  triangles_stay = λ k inside none. second.triangles_stay k inside none
+      ∙ first.triangles_stay k (second.within k inside none) (second.grows k none);
+  corners_stay = λ k d inside none. second.corners_stay k d inside none
+      ∙ first.corners_stay k d (second.within k inside none) (second.grows k none);
 }
 
 -- a triangle is put behind the last
@@ -47,7 +50,8 @@ told-push e f t x long told triangles corners =
     record {
       grows = λ k none. fewer e.written (length e.triangles) k (rw (← told) none);
       within = before;
-      triangles_stay = λ k inside none. ap (λ ts. get_or ts k 0) triangles ∙ get_or_append_left e.triangles (t ∷ []) 0 k (before k inside none);
+      triangles_stay = λ k inside none. ap (λ ts. get_or ts k 0) triangles
+          ∙ get_or_append_left e.triangles (t ∷ []) 0 k (before k inside none);
       corners_stay = λ k d inside none.
           let low = before k inside none in
           ap (λ xs. get_or xs k d) corners ∙ get_or_append_left e.corners (x ∷ []) d k (omega arith);
@@ -75,16 +79,20 @@ told-close e f at x inside long grows other triangles corners =
     record {
       grows = grows;
       within = λ k low none. omega arith;
-      triangles_stay = λ k low none. ap (λ ts. get_or ts k 0) triangles ∙ swap_remove-rest e.triangles at 0 k 0 (omega arith) (other k (omega arith) none);
-      corners_stay = λ k d low none. ap (λ xs. get_or xs k d) corners ∙ swap_remove-rest e.corners at x k d (omega arith) (other k (omega arith) none);
+      triangles_stay = λ k low none. ap (λ ts. get_or ts k 0) triangles
+          ∙ swap_remove-rest e.triangles at 0 k 0 (omega arith) (other k (omega arith) none);
+      corners_stay = λ k d low none. ap (λ xs. get_or xs k d) corners
+          ∙ swap_remove-rest e.corners at x k d (omega arith) (other k (omega arith) none);
     }
 
 pub told-gap : (e f : ExchangeState) (at : ℕ) (x : Indices) → at < length e.triangles → length e.corners ≡ length e.triangles
     → f.written ≡ e.written ++ at ∷ [] → f.triangles ≡ swap_remove e.triangles at 0 → f.corners ≡ swap_remove e.corners at x → IsTold e f
 told-gap e f at x inside long told triangles corners =
-    told-close e f at x inside long (λ k none. fewer e.written at k (rw (← told) none)) (λ k low none. apart e.written at k (rw (← told) none)) triangles corners
+    told-close e f at x inside long (λ k none. fewer e.written at k (rw (← told) none))
+    (λ k low none. apart e.written at k (rw (← told) none)) triangles corners
 
-pub told-last : (e f : ExchangeState) (at : ℕ) (x : Indices) → at < length e.triangles → length e.triangles ≤ at + 1 → length e.corners ≡ length e.triangles
+pub told-last : (e f : ExchangeState) (at : ℕ) (x : Indices) → at < length e.triangles → length e.triangles ≤ at + 1
+    → length e.corners ≡ length e.triangles
     → f.written ≡ e.written → f.triangles ≡ swap_remove e.triangles at 0 → f.corners ≡ swap_remove e.corners at x → IsTold e f
 told-last e f at x inside last long told triangles corners =
     told-close e f at x inside long (λ k none. rw (← told) none) (λ k low none. omega arith) triangles corners

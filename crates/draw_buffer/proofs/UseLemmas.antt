@@ -26,7 +26,8 @@ pub uses-v1 : (x : Indices) → 1 ≤ corner_uses x x.v1
 uses-v1 x = let is = corner_uses-is x x.v1 in let one = same-one x.v1 x.v1 refl in omega arith
 
 -- the points of three numbers in use stay
-pub shown-stay : (ps qs us : List ℕ) (x : Indices) → ((v : ℕ) → corner_uses x v ≤ get_or us v 0) → ((v : ℕ) → 0 < get_or us v 0 → get_or qs v 0 ≡ get_or ps v 0) → shown qs x ≡ shown ps x
+pub shown-stay : (ps qs us : List ℕ) (x : Indices) → ((v : ℕ) → corner_uses x v ≤ get_or us v 0)
+    → ((v : ℕ) → 0 < get_or us v 0 → get_or qs v 0 ≡ get_or ps v 0) → shown qs x ≡ shown ps x
 unfolding shown
 shown-stay ps qs us x used stay =
     let apex = stay x.apex (omega (arith, uses-apex x, used x.apex)) in
@@ -48,11 +49,13 @@ pub uses_in-push : (xs : List Indices) (x : Indices) (v : ℕ) → uses_in (xs +
 unfolding uses_in
 uses_in-push xs x v = sum_by_push (λ y. corner_uses y v) xs x
 
-pub uses_in-set : (xs : List Indices) (k : ℕ) (x d : Indices) (v : ℕ) → k < length xs → uses_in (set xs k x) v + corner_uses (get_or xs k d) v ≡ uses_in xs v + corner_uses x v
+pub uses_in-set : (xs : List Indices) (k : ℕ) (x d : Indices) (v : ℕ) → k < length xs
+    → uses_in (set xs k x) v + corner_uses (get_or xs k d) v ≡ uses_in xs v + corner_uses x v
 unfolding uses_in
 uses_in-set xs k x d v inside = sum_by-set (λ y. corner_uses y v) xs k x d inside
 
-pub uses_in-swap_remove : (xs : List Indices) (k : ℕ) (d : Indices) (v : ℕ) → k < length xs → uses_in (swap_remove xs k d) v + corner_uses (get_or xs k d) v ≡ uses_in xs v
+pub uses_in-swap_remove : (xs : List Indices) (k : ℕ) (d : Indices) (v : ℕ) → k < length xs
+    → uses_in (swap_remove xs k d) v + corner_uses (get_or xs k d) v ≡ uses_in xs v
 unfolding uses_in
 uses_in-swap_remove xs k d v inside = sum_by-swap_remove (λ y. corner_uses y v) xs k d inside
 
@@ -64,16 +67,19 @@ pub waiting_uses-none : (v : ℕ) → waiting_uses [] v ≡ 0
 unfolding waiting_uses
 waiting_uses-none v = refl
 
-pub waiting_uses-push : (ws : List Waiting) (w : Waiting) (v : ℕ) → waiting_uses (ws ++ w ∷ []) v ≡ waiting_uses ws v + corner_uses w.corners v
+pub waiting_uses-push : (ws : List Waiting) (w : Waiting) (v : ℕ)
+    → waiting_uses (ws ++ w ∷ []) v ≡ waiting_uses ws v + corner_uses w.corners v
 unfolding waiting_uses
 waiting_uses-push ws w v = sum_by_push (λ (y : Waiting). corner_uses y.corners v) ws w
 
-pub waiting_uses-at : (ws : List Waiting) (k : ℕ) (d : Waiting) (v : ℕ) → k < length ws → corner_uses (get_or ws k d).corners v ≤ waiting_uses ws v
+pub waiting_uses-at : (ws : List Waiting) (k : ℕ) (d : Waiting) (v : ℕ) → k < length ws
+    → corner_uses (get_or ws k d).corners v ≤ waiting_uses ws v
 unfolding waiting_uses
 waiting_uses-at ws k d v inside = get_or-le-sum_by (λ (y : Waiting). corner_uses y.corners v) ws k d inside
 
 -- the points of all corners in use stay
-pub map-shown : (ps qs us : List ℕ) (xs : List Indices) → ((v : ℕ) → uses_in xs v ≤ get_or us v 0) → ((v : ℕ) → 0 < get_or us v 0 → get_or qs v 0 ≡ get_or ps v 0) → map (shown qs) xs ≡ map (shown ps) xs
+pub map-shown : (ps qs us : List ℕ) (xs : List Indices) → ((v : ℕ) → uses_in xs v ≤ get_or us v 0)
+    → ((v : ℕ) → 0 < get_or us v 0 → get_or qs v 0 ≡ get_or ps v 0) → map (shown qs) xs ≡ map (shown ps) xs
 map-shown ps qs us [] used stay = refl
 map-shown ps qs us (x ∷ xs) used stay =
     ap₂ (λ y ys. y ∷ ys) (shown-stay ps qs us x (λ v. omega (arith, used v, uses_in-cons x xs v)) stay)
@@ -81,7 +87,8 @@ map-shown ps qs us (x ∷ xs) used stay =
 
 -- ---- three numbers
 
-pub taken-three : (a b c d : VertexState) (places : Indices) (apex v0 v1 : ℕ) → IsTaken a b places.apex apex → IsTaken b c places.v0 v0 → IsTaken c d places.v1 v1
+pub taken-three : (a b c d : VertexState) (places : Indices) (apex v0 v1 : ℕ) → IsTaken a b places.apex apex
+    → IsTaken b c places.v0 v0 → IsTaken c d places.v1 v1
     → AreTaken a d places (record { apex = apex; v0 = v0; v1 = v1 })
 unfolding shown
 taken-three a b c d places apex v0 v1 first second third = record {
@@ -94,7 +101,8 @@ taken-three a b c d places apex v0 v1 first second third = record {
       let built : ℕ → ℕ → ℕ → Indices = λ i j k. record { apex = i; v0 = j; v1 = k } in
       ap (λ i. built i (get_or d.points v0 0) (get_or d.points v1 0)) at_d ∙ ap (λ j. built places.apex j (get_or d.points v1 0)) mid
       ∙ ap (λ k. built places.apex places.v0 k) third.here;
-  uses = λ w. let is = corner_uses-is (record { apex = apex; v0 = v0; v1 = v1 }) w in omega (arith, first.uses w, second.uses w, third.uses w);
+  uses = λ w. let is = corner_uses-is (record { apex = apex; v0 = v0; v1 = v1 }) w in
+      omega (arith, first.uses w, second.uses w, third.uses w);
   total = (let h = first.total in let i = second.total in let j = third.total in omega arith);
   stay = λ w some.
       third.stay w (omega (arith, first.uses w, second.uses w)) ∙ second.stay w (omega (arith, first.uses w)) ∙ first.stay w some;

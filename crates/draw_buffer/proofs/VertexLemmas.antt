@@ -213,7 +213,8 @@ AreFree-new us free none vacant is_free is_none =
 -- ---- the numbers of the points
 
 -- fewer are in use, or the same
-pub IsNumbered-fewer : (ps us vs ns : List ℕ) → IsNumbered ps us ns → ((w : ℕ) → 0 < get_or vs w 0 → 0 < get_or us w 0) → IsNumbered ps vs ns
+pub IsNumbered-fewer : (ps us vs ns : List ℕ) → IsNumbered ps us ns
+    → ((w : ℕ) → 0 < get_or vs w 0 → 0 < get_or us w 0) → IsNumbered ps vs ns
 IsNumbered-fewer ps us vs ns numbered less w some = numbered w (less w some)
 
 -- a number v is given to a point that has none

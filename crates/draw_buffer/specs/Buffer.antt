@@ -18,7 +18,16 @@ pub record BufferState : Type 0 where
 
 -- what is seen of it between two patches
 abbrev pub buffer_of : ExchangeState → BufferState
-buffer_of e = record { n = e.n; most = e.most; triangles = e.triangles; corners = e.corners; written = e.written; points = e.points; given = e.given }
+buffer_of e = record {
+  n = e.n;
+  most = e.most;
+  triangles = e.triangles;
+  corners = e.corners;
+  written =
+      e.written;
+  points = e.points;
+  given = e.given;
+}
 
 -- a place that was not written has the triangle and the corners that it had, and a number that was not given out its grid point
 pub record IsKept (before after : BufferState) : Type 0 where

@@ -37,7 +37,8 @@ pub record IsReady (n end : ℕ) (points : List ℕ) (w : Waiting) : Type 0 wher
   pub low : w.tri < end
 
 -- what is true of the fields
-pub record IsWhole (n : ℕ) (places : PlaceState) (vertices : VertexState) (corners : List Indices) (waiting : List Waiting) (corner_room waiting_room written_room : ℕ) : Type 0 where
+pub record IsWhole (n : ℕ) (places : PlaceState) (vertices : VertexState) (corners : List Indices)
+    (waiting : List Waiting) (corner_room waiting_room written_room : ℕ) : Type 0 where
   pub n_low : 1 ≤ n
   pub n_high : n ≤ GREATEST_LEVEL
   pub end : places.end ≡ 4 * 2 ^ (2 * n)

@@ -15,7 +15,8 @@ use Rattle.fit_certificate_laws.specs.declared.reason.Off.{Off}
 use Rattle.fit_certificate_laws.specs.Certificate.{IsOff, IsReason, LeadsTo, IsFirstBad}
 
 -- a held point that is off by more than the tolerance shows that the triangle's error is above it
-pub off-error : (n : ℕ) (heights : List ℕ) (tolerance : ℕ) (r : Off) → IsOff n heights tolerance r → tolerance < error_of n heights r.triangle
+pub off-error : (n : ℕ) (heights : List ℕ) (tolerance : ℕ) (r : Off) → IsOff n heights tolerance r
+    → tolerance < error_of n heights r.triangle
 unfolding error_of
 off-error n heights tolerance r off =
     let most : off_plane n heights r.triangle (point r.x r.y) ≤ greatest (offs_in n heights r.triangle) =
@@ -68,7 +69,8 @@ leads-closed n heights tolerance has (r ∷ reasons) after closed leads =
 
 -- and one that every mesh within the tolerance needs, to another
 pub leads-needed : (n : ℕ) (heights : List ℕ) (tolerance : ℕ) (has : ℕ → Bool) (reasons : List Off) (after : ℕ → Bool) → IsClosed n has →
-    IsNeeded n tolerance (error_of n heights) has → LeadsTo n heights tolerance has reasons after → IsNeeded n tolerance (error_of n heights) after
+    IsNeeded n tolerance (error_of n heights) has → LeadsTo n heights tolerance has reasons after
+    → IsNeeded n tolerance (error_of n heights) after
 leads-needed n heights tolerance has [] after closed needed leads = λ other settled a h. needed other settled a (leads a ∙ h)
 leads-needed n heights tolerance has (r ∷ reasons) after closed needed leads =
     leads-needed n heights tolerance leads.0 reasons after leads.2.closed
@@ -116,21 +118,25 @@ bad-same n heights tolerance has other reasons index same bad = record {
 
 -- and to no other one
 pub leads-unique : (n : ℕ) (heights : List ℕ) (tolerance : ℕ) (has other : ℕ → Bool) (reasons : List Off) (one two : ℕ → Bool) →
-    ((a : ℕ) → has a ≡ other a) → LeadsTo n heights tolerance has reasons one → LeadsTo n heights tolerance other reasons two → (a : ℕ) → one a ≡ two a
+    ((a : ℕ) → has a ≡ other a) → LeadsTo n heights tolerance has reasons one
+    → LeadsTo n heights tolerance other reasons two → (a : ℕ) → one a ≡ two a
 leads-unique n heights tolerance has other [] one two same p q = λ a. sym (p a) ∙ same a ∙ q a
 leads-unique n heights tolerance has other (r ∷ reasons) one two same p q =
     leads-unique n heights tolerance p.0 q.0 reasons one two
-    (IsLeastClosed-unique n (with_triangle has r.triangle) p.0 q.0 p.2 (closure-same n other has q.0 r.triangle (λ a. sym (same a)) q.2)) p.3 q.3
+    (IsLeastClosed-unique n (with_triangle has r.triangle) p.0 q.0 p.2
+    (closure-same n other has q.0 r.triangle (λ a. sym (same a)) q.2)) p.3 q.3
 
 -- where all are reasons, none is the first that is none
-leads-good : (n : ℕ) (heights : List ℕ) (tolerance : ℕ) (has other : ℕ → Bool) (good : List Off) (bad : Off) (rest : List Off) (mid after : ℕ → Bool) →
+leads-good : (n : ℕ) (heights : List ℕ) (tolerance : ℕ) (has other : ℕ → Bool) (good : List Off) (bad : Off)
+    (rest : List Off) (mid after : ℕ → Bool) →
     ((a : ℕ) → has a ≡ other a) → LeadsTo n heights tolerance has good mid → LeadsTo n heights tolerance other (good ++ bad ∷ rest) after →
     IsReason n heights tolerance mid bad
 leads-good n heights tolerance has other [] bad rest mid after same p q =
     reason-same n heights tolerance other mid bad (λ a. sym (same a) ∙ p a) q.1
 leads-good n heights tolerance has other (r ∷ good) bad rest mid after same p q =
     leads-good n heights tolerance p.0 q.0 good bad rest mid after
-    (IsLeastClosed-unique n (with_triangle has r.triangle) p.0 q.0 p.2 (closure-same n other has q.0 r.triangle (λ a. sym (same a)) q.2)) p.3 q.3
+    (IsLeastClosed-unique n (with_triangle has r.triangle) p.0 q.0 p.2
+    (closure-same n other has q.0 r.triangle (λ a. sym (same a)) q.2)) p.3 q.3
 
 pub leads-no_bad : (n : ℕ) (heights : List ℕ) (tolerance : ℕ) (has other : ℕ → Bool) (reasons : List Off) (index : ℕ) (after : ℕ → Bool) →
     ((a : ℕ) → has a ≡ other a) → IsFirstBad n heights tolerance has reasons index → LeadsTo n heights tolerance other reasons after → ⊥

@@ -20,7 +20,8 @@ use Rattle.fit_certificate_laws.proofs.LeadLemmas.{leads-closed, leads-needed}
 
 -- the set of the mesh is closed
 pub fitted-closed : (n : ℕ) (heights : List ℕ) (cert : FitCertificate) (has : ℕ → Bool) → IsFitted n heights cert has → IsClosed n has
-fitted-closed n heights cert has fitted = leads-closed n heights cert.tolerance (λ a. false) cert.needed has (nothing_closed n) fitted.needed
+fitted-closed n heights cert has fitted = leads-closed n heights cert.tolerance (λ a. false) cert.needed has
+    (nothing_closed n) fitted.needed
 
 -- and the least settled one
 pub fitted-least : (n : ℕ) (heights : List ℕ) (cert : FitCertificate) (has : ℕ → Bool) → IsFitted n heights cert has →
@@ -32,14 +33,16 @@ fitted-least n heights cert has fitted = record {
 }
 
 -- so the mesh is the fewest triangles for the tolerance
-pub sound-least : (n : ℕ) (heights : List ℕ) (target : Target) (cert : FitCertificate) (mesh : List ℕ) → IsSound n heights target cert mesh →
+pub sound-least : (n : ℕ) (heights : List ℕ) (target : Target) (cert : FitCertificate) (mesh : List ℕ)
+    → IsSound n heights target cert mesh →
     IsLeastMesh n cert.tolerance (error_of n heights) mesh
 sound-least n heights target cert mesh sound =
     subst (λ (l : List ℕ). IsLeastMesh n cert.tolerance (error_of n heights) l) (sym sound.leaves)
     (fit_mesh n cert.tolerance (error_of n heights) sound.has (fitted-least n heights cert sound.has sound.fitted))
 
 -- which is that of the target
-pub sound-error : (n : ℕ) (heights : List ℕ) (tolerance : ℕ) (cert : FitCertificate) (mesh : List ℕ) → IsSound n heights (Error tolerance) cert mesh →
+pub sound-error : (n : ℕ) (heights : List ℕ) (tolerance : ℕ) (cert : FitCertificate) (mesh : List ℕ)
+    → IsSound n heights (Error tolerance) cert mesh →
     IsLeastMesh n tolerance (error_of n heights) mesh
 sound-error n heights tolerance cert mesh sound =
     subst (λ k. IsLeastMesh n k (error_of n heights) mesh) sound.own (sound-least n heights (Error tolerance) cert mesh sound)
@@ -66,7 +69,8 @@ sound-budget n heights triangles cert mesh sound =
     sound.enough)
 
 -- the mesh stands depth first
-pub sound-order : (n : ℕ) (heights : List ℕ) (target : Target) (cert : FitCertificate) (mesh : List ℕ) → IsSound n heights target cert mesh →
+pub sound-order : (n : ℕ) (heights : List ℕ) (target : Target) (cert : FitCertificate) (mesh : List ℕ)
+    → IsSound n heights target cert mesh →
     leaves_of n (ancestors_of mesh) ≡ mesh
 sound-order n heights target cert mesh sound =
     ap (λ (l : List ℕ). leaves_of n (ancestors_of l)) sound.leaves

@@ -16,7 +16,8 @@ use Rattle.fit_certificate_laws.proofs.LeadLemmas.{leads-unique, leads-no_bad}
 module _ (n : ℕ) (heights : List ℕ) (goal : Target) (cert : FitCertificate) (mesh : List ℕ) (sound : IsSound n heights goal cert mesh) where
   -- the set of the mesh is the one that the reasons before it lead to
   one-set : (has : ℕ → Bool) → LeadsTo n heights cert.tolerance (λ a. false) cert.needed has → (a : ℕ) → has a ≡ sound.has a
-  one-set has leads = leads-unique n heights cert.tolerance (λ a. false) (λ a. false) cert.needed has sound.has (λ a. refl) leads sound.fitted.needed
+  one-set has leads = leads-unique n heights cert.tolerance (λ a. false) (λ a. false) cert.needed has sound.has
+      (λ a. refl) leads sound.fitted.needed
 
   one-leaves : (has : ℕ → Bool) → LeadsTo n heights cert.tolerance (λ a. false) cert.needed has → leaves_of n has ≡ leaves_of n sound.has
   one-leaves has leads = leaves_of-same n has sound.has (one-set has leads)
@@ -43,7 +44,8 @@ module _ (n : ℕ) (heights : List ℕ) (goal : Target) (cert : FitCertificate) 
       r.6 (subst (λ (l : List ℕ). IsEnough goal cert.tolerance (length l)) (sym same) sound.enough)
 
   -- and the numbers are those of the mesh
-  pub sound-certified : (verdict : Verdict) → IsVerdict n heights goal cert verdict → verdict ≡ Certified (length mesh) (deviation_of n heights mesh)
+  pub sound-certified : (verdict : Verdict) → IsVerdict n heights goal cert verdict
+      → verdict ≡ Certified (length mesh) (deviation_of n heights mesh)
   sound-certified (Certified triangles deviation) v =
       let same : v.0 ≡ mesh = v.1.leaves ∙ one-leaves v.1.has v.1.fitted.needed ∙ sym sound.leaves in
       ap₂ (λ i j. Certified i j) (v.2 ∙ ap (λ (l : List ℕ). length l) same) (v.3 ∙ ap (deviation_of n heights) same)

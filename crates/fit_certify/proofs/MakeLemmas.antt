@@ -21,7 +21,8 @@ module _ (n : ℕ) (heights : List ℕ) (cert : FitCertificate) (has over : ℕ 
   made-for (Budget triangles) best = tt
 
   -- the mesh has no more triangles than the one that was found
-  made-within : (target : Target) → IsBestTolerance n (error_of n heights) target cert.tolerance → IsWithin target (length (leaves_of n has))
+  made-within : (target : Target) → IsBestTolerance n (error_of n heights) target cert.tolerance
+      → IsWithin target (length (leaves_of n has))
   made-within (Error tolerance) best = tt
   made-within (Budget triangles) best =
       let fit = fit_mesh n cert.tolerance (error_of n heights) has (fitted-least n heights cert has fitted) in
@@ -30,13 +31,15 @@ module _ (n : ℕ) (heights : List ℕ) (cert : FitCertificate) (has over : ℕ 
 
   -- and what has a lower error exceeds the budget
   made-enough : (target : Target) → IsBestTolerance n (error_of n heights) target cert.tolerance →
-      IsBelow target (error_of n heights) (cert.tolerance - 1) (leaves_of n over) → IsEnough target cert.tolerance (length (leaves_of n over))
+      IsBelow target (error_of n heights) (cert.tolerance - 1) (leaves_of n over)
+      → IsEnough target cert.tolerance (length (leaves_of n over))
   made-enough (Error tolerance) best below = tt
   made-enough (Budget triangles) best below = ⊎_elim
       (λ (some : 0 < cert.tolerance). ⊎_elim
       (λ (many : triangles < length (leaves_of n over)). inr many)
       (λ (few : length (leaves_of n over) ≤ triangles).
-      let closed : IsClosed n over = leads-closed n heights (cert.tolerance - 1) has cert.beyond over (fitted-closed n heights cert has fitted) beyond in
+      let closed : IsClosed n over = leads-closed n heights (cert.tolerance - 1) has cert.beyond over
+      (fitted-closed n heights cert has fitted) beyond in
       let least : worst_of (error_of n heights) best.0 ≤ worst_of (error_of n heights) (leaves_of n over) =
       (best.4 some).optimal (leaves_of n over) (IsConforming-leaves_of n over closed) few in
       let own = best.3 in

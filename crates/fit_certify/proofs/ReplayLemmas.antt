@@ -8,10 +8,12 @@ use Rattle.fit_certificate_laws.specs.Certificate.{IsReason, LeadsTo, IsFirstBad
 use Rattle.fit_certificate_laws.proofs.LeadLemmas.{leads-next}
 
 -- the first ones with one more
-take-next : (reasons : List Off) (k : ℕ) (r : Off) → k < length reasons → r ≡ get_or reasons k r → take (k + 1) reasons ≡ take k reasons ++ r ∷ []
+take-next : (reasons : List Off) (k : ℕ) (r : Off) → k < length reasons → r ≡ get_or reasons k r
+    → take (k + 1) reasons ≡ take k reasons ++ r ∷ []
 take-next reasons k r within is = take_more reasons k r within ∙ ap (λ x. take k reasons ++ x ∷ []) (sym is)
 
-module _ (n : ℕ) (heights : List ℕ) (tolerance : ℕ) (has mid : ℕ → Bool) (reasons : List Off) (k : ℕ) (r : Off) (within : k < length reasons)
+module _ (n : ℕ) (heights : List ℕ) (tolerance : ℕ) (has mid : ℕ → Bool) (reasons : List Off) (k : ℕ) (r : Off)
+    (within : k < length reasons)
     (is : r ≡ get_or reasons k r) (leads : LeadsTo n heights tolerance has (take k reasons) mid) where
   -- that is a reason, too
   pub replay-next : (next : ℕ → Bool) → IsReason n heights tolerance mid r → IsLeastClosed n (with_triangle mid r.triangle) next →

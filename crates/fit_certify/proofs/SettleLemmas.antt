@@ -26,7 +26,8 @@ use Rattle.fit_certificate_laws.proofs.LeadLemmas.{leads-next, leads-grown}
 use Rattle.fit_certify.specs.Settling.{IsGoingOn}
 
 -- the error is the greatest way off the plane
-pub error-most : (n : ℕ) (heights : List ℕ) (a tolerance : ℕ) → greatest (offs_in n heights a) ≤ tolerance → error_of n heights a ≤ tolerance
+pub error-most : (n : ℕ) (heights : List ℕ) (a tolerance : ℕ) → greatest (offs_in n heights a) ≤ tolerance
+    → error_of n heights a ≤ tolerance
 unfolding error_of
 error-most n heights a tolerance le = le
 
@@ -39,8 +40,10 @@ going-same n heights tolerance flags reasons closed = record { closed = closed; 
 
 -- one thing after the other
 pub going-through : (n : ℕ) (heights : List ℕ) (tolerance : ℕ) (one two three : List Bool) (first second third : List Off) →
-    IsGoingOn n heights tolerance one first two second → IsGoingOn n heights tolerance two second three third → IsGoingOn n heights tolerance one first three third
-going-through n heights tolerance one two three first second third p q = record { closed = q.closed; leads = λ has leads. q.leads has (p.leads has leads) }
+    IsGoingOn n heights tolerance one first two second → IsGoingOn n heights tolerance two second three third
+    → IsGoingOn n heights tolerance one first three third
+going-through n heights tolerance one two three first second third p q =
+    record { closed = q.closed; leads = λ has leads. q.leads has (p.leads has leads) }
 
 module _ (n : ℕ) (heights : List ℕ) (tolerance : ℕ) (old new : List Bool) (t : ℕ) (closed : IsClosed n (is_flagged old))
     (leaf : Contains (leaves_of n (is_flagged old)) t) (least : IsLeastClosed n (with_triangle (is_flagged old) t) (is_flagged new)) where
@@ -72,7 +75,8 @@ abbrev pub AreAsked : ℕ → List ℕ → ℕ → List Bool → ℕ → Type 0
 AreAsked n heights tolerance flags number =
     (a : ℕ) → a < number → Contains (leaves_of n (is_flagged flags)) a → error_of n heights a ≤ tolerance
 
-module _ (n : ℕ) (heights : List ℕ) (tolerance number : ℕ) (old mid new : List Bool) (again is next : Bool) (either : next ≡ (again || is)) where
+module _ (n : ℕ) (heights : List ℕ) (tolerance number : ℕ) (old mid new : List Bool) (again is next : Bool)
+    (either : next ≡ (again || is)) where
   -- one address more, where there was a split before or here
   pub sweep-more : (again ≡ true → length (leaves_of n (is_flagged old)) < length (leaves_of n (is_flagged mid))) →
       (again ≡ false → mid ≡ old) →
@@ -115,7 +119,8 @@ module _ (n : ℕ) (heights : List ℕ) (tolerance number : ℕ) (old mid new : 
 
 -- where all were asked, no leaf is above the tolerance: a finest one has no error
 pub asked-worst : (n : ℕ) (heights : List ℕ) (tolerance number : ℕ) (flags : List Bool) → IsClosed n (is_flagged flags) →
-    2 ^ (2 * n + 1) ≤ number → AreAsked n heights tolerance flags number → worst_of (error_of n heights) (leaves_of n (is_flagged flags)) ≤ tolerance
+    2 ^ (2 * n + 1) ≤ number → AreAsked n heights tolerance flags number
+    → worst_of (error_of n heights) (leaves_of n (is_flagged flags)) ≤ tolerance
 asked-worst n heights tolerance number flags closed all asked =
     worst-le (error_of n heights) tolerance (leaves_of n (is_flagged flags)) (λ a leaf.
     let address : IsAddress n a = (outer-leaf n (is_flagged flags) a closed leaf).address in
@@ -131,7 +136,8 @@ asked-worst n heights tolerance number flags closed all asked =
 -- how many reasons
 
 -- there are fewer than triangles that may be split
-pub reasons-few : (n : ℕ) (heights : List ℕ) (tolerance : ℕ) (has : ℕ → Bool) (reasons : List Off) (after : ℕ → Bool) → n ≤ 11 → IsClosed n has →
+pub reasons-few : (n : ℕ) (heights : List ℕ) (tolerance : ℕ) (has : ℕ → Bool) (reasons : List Off) (after : ℕ → Bool)
+    → n ≤ 11 → IsClosed n has →
     LeadsTo n heights tolerance has reasons after → length reasons ≤ 8388608
 reasons-few n heights tolerance has reasons after small closed leads =
     let grown = leads-grown n heights tolerance has reasons after closed leads in
@@ -148,12 +154,14 @@ settle-smaller : (n : ℕ) (old new : List Bool) (again : Bool) →
 settle-smaller n old new true more same =
     let less = more refl in let most = leaves-most n (is_flagged new) in omega arith
 settle-smaller n old new false more same =
-    subst (λ (l : List Bool). 0 + 2 * (2 * 4 ^ n - length (leaves_of n (is_flagged l))) < 1 + 2 * (2 * 4 ^ n - length (leaves_of n (is_flagged old))))
+    subst (λ (l : List Bool). 0 + 2 * (2 * 4 ^ n - length (leaves_of n (is_flagged l))) < 1 + 2 *
+    (2 * 4 ^ n - length (leaves_of n (is_flagged old))))
     (sym (same refl)) (omega arith)
 
 pub settle-falls : (n : ℕ) (old new : List Bool) (was again : Bool) → was ≡ true →
     (again ≡ true → length (leaves_of n (is_flagged old)) < length (leaves_of n (is_flagged new))) → (again ≡ false → new ≡ old) →
-    cond again 1 0 + 2 * (2 * 4 ^ n - length (leaves_of n (is_flagged new))) < cond was 1 0 + 2 * (2 * 4 ^ n - length (leaves_of n (is_flagged old)))
+    cond again 1 0 + 2 * (2 * 4 ^ n - length (leaves_of n (is_flagged new))) < cond was 1 0 + 2 *
+    (2 * 4 ^ n - length (leaves_of n (is_flagged old)))
 settle-falls n old new was again is more same =
     subst (λ (b : Bool). cond again 1 0 + 2 * (2 * 4 ^ n - length (leaves_of n (is_flagged new)))
     < cond b 1 0 + 2 * (2 * 4 ^ n - length (leaves_of n (is_flagged old)))) (sym is) (settle-smaller n old new again more same)

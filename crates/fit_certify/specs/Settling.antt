@@ -7,6 +7,8 @@ use Rattle.fit_certificate_laws.specs.declared.reason.Off.{Off}
 use Rattle.fit_certificate_laws.specs.Certificate.{LeadsTo}
 
 -- the flags go on from old ones to new ones as the list of reasons does
-pub record IsGoingOn (n : ℕ) (heights : List ℕ) (tolerance : ℕ) (old : List Bool) (before : List Off) (new : List Bool) (after : List Off) : Type 0 where
+pub record IsGoingOn (n : ℕ) (heights : List ℕ) (tolerance : ℕ) (old : List Bool) (before : List Off)
+    (new : List Bool) (after : List Off) : Type 0 where
   pub closed : IsClosed n (is_flagged new)
-  pub leads : (has : ℕ → Bool) → LeadsTo n heights tolerance has before (is_flagged old) → LeadsTo n heights tolerance has after (is_flagged new)
+  pub leads : (has : ℕ → Bool) → LeadsTo n heights tolerance has before (is_flagged old)
+      → LeadsTo n heights tolerance has after (is_flagged new)

@@ -66,6 +66,7 @@ known_before n m before after numbers leaves log (Some list) same closed numbere
   numbers_are = numbered ∙ ap (numbers_of n) listed ∙ ap (λ k. numbers_of k (leaves_of k before)) (sym same);
   covered = λ a. ⊎_elim
       (λ alike. inl alike)
-      (λ (there : IsListed log a). inr (Contains-in a list.now (IsIn-among a list.now (subst (λ (o : Option (List ℕ)). IsListed o a) is there))))
+      (λ (there : IsListed log a). inr
+      (Contains-in a list.now (IsIn-among a list.now (subst (λ (o : Option (List ℕ)). IsListed o a) is there))))
       (differ a);
 }

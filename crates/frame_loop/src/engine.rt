@@ -30,6 +30,10 @@ use triangle_pool::Pool;
 use view_priority::{Camera, Meter};
 use wedgie_tree::Wedges;
 
+/// Numbers are mended where at most one in so many of the leaves that there is room for was split or merged: past that to make them
+/// anew costs no more than to look up what each of these triangles is now.
+const MENDED_SHARE: usize = 16;
+
 /// What stands where no change was listed yet.
 const NO_CHANGE: VertexChange = VertexChange {
     point: Point { x: 0, y: 0 },
@@ -108,7 +112,7 @@ impl Engine {
         let room = room(n, budget);
         let mesh = Mesh::make(alloc, n, room)?;
         let mut leaves = vec![in alloc; Tri::default(); room as usize]?;
-        let changes = vec![in alloc; NO_CHANGE; room as usize]?;
+        let changes = vec![in alloc; NO_CHANGE; room as usize / MENDED_SHARE]?;
         let mut numbers = VertexTable::new(alloc, n)?;
         let (leaf_count, vertices) = list_and_number(mesh.pool(), &mut leaves, &mut numbers);
         Ok(Engine {

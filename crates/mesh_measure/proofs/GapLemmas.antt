@@ -66,7 +66,8 @@ IsMost-off_plane n heights a P m area most address side size h = ⊎_elim
         omega arith
 
 -- at one point of a triangle
-pub off_plane-quotient : (n : ℕ) (heights : List ℕ) (a : ℕ) (r : Point) (m area : ℕ) → IsAddress n a → m ≡ 2 ^ n → area ≡ area_of (corners_of n a) →
+pub off_plane-quotient : (n : ℕ) (heights : List ℕ) (a : ℕ) (r : Point) (m area : ℕ) → IsAddress n a → m ≡ 2 ^ n
+    → area ≡ area_of (corners_of n a) →
     m * gap_of (corners_of n a) (height_of n heights) r / area ≡ off_plane n heights a r
 off_plane-quotient n heights a r m area address side size =
     let positive = area_of-some n a address in

@@ -147,7 +147,8 @@ parents_in old new (c ∷ rest) answers r (before, born, same, are, answer) h =
     (λ (old_one : IsBornOf before r). in_left p (parents_of new before) own (parents_in old new rest before r are old_one))
     (λ (new_one : IsBorn born r). in_right p (parents_of new before) own (⊎_elim
     (λ (first : IsOfPair born.first r).
-    in_first p (address_at new born.first.0.0 / 2) (second_parent new born.second ++ []) (sibling new (address_at old c) born.first r answer.first first))
+    in_first p (address_at new born.first.0.0 / 2) (second_parent new born.second ++ [])
+    (sibling new (address_at old c) born.first r answer.first first))
     (λ (second : IsSomeAnd born.second (λ pair. IsOfPair pair r)).
     in_later p (address_at new born.first.0.0 / 2) (second_parent new born.second ++ [])
     (second_in new (mate_of (address_at old c)) born.second r answer.second second))

@@ -23,7 +23,8 @@ use Rattle.deferred_loop.specs.Choice.{Priorities}
 use Rattle.deferred_loop.specs.Promise.{IsAtMost, IsAtLeast, AreStampsGood}
 
 -- the stamp of an address is that of its slot's entry
-stamp_of-parts : (parts : PartsState) (log : Log) (a : ℕ) → stamp_of (mesh_of parts log) a ≡ stamp_in (entry_at parts (slot_of parts.pool.pairs a))
+stamp_of-parts : (parts : PartsState) (log : Log) (a : ℕ)
+    → stamp_of (mesh_of parts log) a ≡ stamp_in (entry_at parts (slot_of parts.pool.pairs a))
 stamp_of-parts parts log a = get_or-map stamp_in parts.entries (slot_of parts.pool.pairs a) blank
 
 -- parts of which nothing is kept are quiet
@@ -148,14 +149,17 @@ unstamped : (e : Entry) → e.stamped ≡ false → stamp_in e ≡ None
 unstamped e none = ap (λ b. cond b (Some (record { odometer = e.odometer; slack = e.slack; upper = e.upper; lower = e.lower; expired = e.expired })) None) none
 
 -- and expires the stamp of its triangle alone
-pub expired_stamps : (parts : PartsState) (log : Log) (s t : ℕ) → IsWhole parts → IsParts parts → IsLive parts.pool.pairs s → address_at parts.pool.pairs s ≡ t → (a : ℕ) →
-    stamp_of (mesh_of (expired_at parts s) log) a ≡ cond (nat_eq t a) (option_map with_expired (stamp_of (mesh_of parts log) a)) (stamp_of (mesh_of parts log) a)
+pub expired_stamps : (parts : PartsState) (log : Log) (s t : ℕ) → IsWhole parts → IsParts parts
+    → IsLive parts.pool.pairs s → address_at parts.pool.pairs s ≡ t → (a : ℕ) →
+    stamp_of (mesh_of (expired_at parts s) log) a ≡ cond (nat_eq t a)
+    (option_map with_expired (stamp_of (mesh_of parts log) a)) (stamp_of (mesh_of parts log) a)
 expired_stamps parts log s t whole is live at a =
     let places = live_below parts.pool.pairs s live in
     let entries = whole.entries in
     let below : s < length parts.entries = omega arith in
     let pairs = parts.pool.pairs in
-    chosen t a (stamp_of (mesh_of (expired_at parts s) log) a) (option_map with_expired (stamp_of (mesh_of parts log) a)) (stamp_of (mesh_of parts log) a)
+    chosen t a (stamp_of (mesh_of (expired_at parts s) log) a)
+    (option_map with_expired (stamp_of (mesh_of parts log) a)) (stamp_of (mesh_of parts log) a)
     (λ own.
     let low : 2 ≤ a = subst (λ z. 2 ≤ z) (at ∙ own) live in
     let slot : slot_of pairs a ≡ s = one_slot parts.pool.n pairs s a is.pool low (at ∙ own) in
@@ -171,8 +175,10 @@ expired_stamps parts log s t whole is live at a =
     ∙ sym (stamp_of-parts parts log a))
 
 -- a triangle that is not live has none
-pub dead_stamps : (parts : PartsState) (log : Log) (t : ℕ) → IsParts parts → ((s : ℕ) → IsLive parts.pool.pairs s → address_at parts.pool.pairs s ≡ t → ⊥) → (a : ℕ) →
-    stamp_of (mesh_of parts log) a ≡ cond (nat_eq t a) (option_map with_expired (stamp_of (mesh_of parts log) a)) (stamp_of (mesh_of parts log) a)
+pub dead_stamps : (parts : PartsState) (log : Log) (t : ℕ) → IsParts parts
+    → ((s : ℕ) → IsLive parts.pool.pairs s → address_at parts.pool.pairs s ≡ t → ⊥) → (a : ℕ) →
+    stamp_of (mesh_of parts log) a ≡ cond (nat_eq t a) (option_map with_expired (stamp_of (mesh_of parts log) a))
+    (stamp_of (mesh_of parts log) a)
 dead_stamps parts log t is dead a =
     let s = slot_of parts.pool.pairs a in
     chosen t a (stamp_of (mesh_of parts log) a) (option_map with_expired (stamp_of (mesh_of parts log) a)) (stamp_of (mesh_of parts log) a)
@@ -206,24 +212,37 @@ seen_stamps : (parts : PartsState) (log : Log) → (seen_parts parts).stamps ≡
 seen_stamps parts log = fun_ext (λ a. sym (stamp_of-parts parts log a))
 
 -- stamps that hold between frames hold as the loop sees them
-pub stamps_hold : (priority : ℕ → ℕ) (odometer : ℕ) (parts : PartsState) (log : Log) → StampsHold priority odometer (stamp_of (mesh_of parts log)) → StampsHold priority odometer (seen_parts parts).stamps
+pub stamps_hold : (priority : ℕ → ℕ) (odometer : ℕ) (parts : PartsState) (log : Log)
+    → StampsHold priority odometer (stamp_of (mesh_of parts log))
+    → StampsHold priority odometer (seen_parts parts).stamps
 stamps_hold priority odometer parts log hold = subst (StampsHold priority odometer) (sym (seen_stamps parts log)) hold
 
 -- what the loop takes at most is said of the mesh between frames
 pub at_most : (told : Priorities) (readings : Readings) (odometer : ℕ) (parts : PartsState) (log : Log) (budget steps count more : ℕ) →
-    IsAtMost told readings odometer (seen_parts parts) budget steps count more → IsAtMost told readings odometer (seen_of (mesh_of parts log)) budget steps count more
+    IsAtMost told readings odometer (seen_parts parts) budget steps count more
+    → IsAtMost told readings odometer (seen_of (mesh_of parts log)) budget steps count more
 at_most told readings odometer parts log budget steps count more most =
-    subst (λ (stamps : ℕ → Option Stamp). IsAtMost told readings odometer (record (seen_of (mesh_of parts log)) { stamps = stamps }) budget steps count more) (seen_stamps parts log) most
+    subst (λ (stamps : ℕ → Option Stamp). IsAtMost told readings odometer
+    (record (seen_of (mesh_of parts log)) { stamps = stamps }) budget steps count more)
+    (seen_stamps parts log) most
 
 -- and what it takes at least
-pub at_least : (before after : PartsState) (old new : Log) (count more : ℕ) → IsAtLeast (seen_parts before) (seen_parts after) count more → IsAtLeast (seen_of (mesh_of before old)) (seen_of (mesh_of after new)) count more
+pub at_least : (before after : PartsState) (old new : Log) (count more : ℕ)
+    → IsAtLeast (seen_parts before) (seen_parts after) count more
+    → IsAtLeast (seen_of (mesh_of before old)) (seen_of (mesh_of after new)) count more
 at_least before after old new count more least =
-    subst (λ (stamps : ℕ → Option Stamp). IsAtLeast (record (seen_of (mesh_of before old)) { stamps = stamps }) (seen_of (mesh_of after new)) count more) (seen_stamps before old)
-    (subst (λ (stamps : ℕ → Option Stamp). IsAtLeast (seen_parts before) (record (seen_of (mesh_of after new)) { stamps = stamps }) count more) (seen_stamps after new) least)
+    subst (λ (stamps : ℕ → Option Stamp). IsAtLeast (record (seen_of (mesh_of before old)) { stamps = stamps })
+    (seen_of (mesh_of after new)) count more) (seen_stamps before old)
+    (subst (λ (stamps : ℕ → Option Stamp). IsAtLeast (seen_parts before)
+    (record (seen_of (mesh_of after new)) { stamps = stamps }) count more) (seen_stamps after new) least)
 
 -- and that its stamps are good
-pub stamps_good : (readings : Readings) (odometer : ℕ) (before after : PartsState) (old new : Log) → AreStampsGood readings odometer (seen_parts before) (seen_parts after) →
+pub stamps_good : (readings : Readings) (odometer : ℕ) (before after : PartsState) (old new : Log)
+    → AreStampsGood readings odometer (seen_parts before) (seen_parts after) →
     AreStampsGood readings odometer (seen_of (mesh_of before old)) (seen_of (mesh_of after new))
 stamps_good readings odometer before after old new good =
-    subst (λ (stamps : ℕ → Option Stamp). AreStampsGood readings odometer (record (seen_of (mesh_of before old)) { stamps = stamps }) (seen_of (mesh_of after new))) (seen_stamps before old)
-    (subst (λ (stamps : ℕ → Option Stamp). AreStampsGood readings odometer (seen_parts before) (record (seen_of (mesh_of after new)) { stamps = stamps })) (seen_stamps after new) good)
+    subst (λ (stamps : ℕ → Option Stamp). AreStampsGood readings odometer
+    (record (seen_of (mesh_of before old)) { stamps = stamps }) (seen_of (mesh_of after new)))
+    (seen_stamps before old)
+    (subst (λ (stamps : ℕ → Option Stamp). AreStampsGood readings odometer (seen_parts before)
+    (record (seen_of (mesh_of after new)) { stamps = stamps })) (seen_stamps after new) good)

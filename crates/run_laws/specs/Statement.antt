@@ -44,7 +44,8 @@ TellsCertificates words = (files : List NamedFile) (end : Outcome) → IsTrue (i
 -- What stands.
 
 -- All of an outcome was done: its acts stand and nothing else, this is its status, its files were opened, and its engine is left.
-pub record DoesAll (before now : Moment) (words : List (List ℕ)) (files : List NamedFile) (status : Status) (left : Option EngineEnd) : Type 0 where
+pub record DoesAll (before now : Moment) (words : List (List ℕ)) (files : List NamedFile) (status : Status)
+    (left : Option EngineEnd) : Type 0 where
   pub end : Outcome
   pub is_outcome : IsOutcome words files end
   pub ends_so : status ≡ end.status

@@ -30,11 +30,18 @@ tell-requires-clause-unknown g c = subst (λ z. (g.M.QueuedMesh.seen c.asking.me
     (unsure (g.M.QueuedMesh.seen c.asking.mesh) c.first-head.result.rank.tri (sym c.first-head.ensures.marked ∙ c.if-head.false))
 
 pub asking-init : goal.asking-init
-asking-init g c = record { told = refl; readings = refl; log = refl; asked = asked_none g.w (g.M.QueuedMesh.seen c.args.mesh.now) (g.G.Gauge.count c.args.gauge.now) c.requires.1.1.1.1.0 }
+asking-init g c = record {
+  told = refl;
+  readings = refl;
+  log = refl;
+  asked =
+      asked_none g.w (g.M.QueuedMesh.seen c.args.mesh.now) (g.G.Gauge.count c.args.gauge.now) c.requires.1.1.1.1.0;
+}
 
 pub asking-smaller : goal.asking-smaller
 asking-smaller g c =
-    told_less (g.M.QueuedMesh.seen c.asking.mesh) (g.M.QueuedMesh.seen c.tell.new.self) c.rank-rank.result c.first-head.result.rank.tri c.tell.ensures.told c.rank-rank.ensures.tri
+    told_less (g.M.QueuedMesh.seen c.asking.mesh) (g.M.QueuedMesh.seen c.tell.new.self) c.rank-rank.result
+    c.first-head.result.rank.tri c.tell.ensures.told c.rank-rank.ensures.tri
     (head_entry g.w c.requires.1.1.0 (g.M.QueuedMesh.seen c.asking.mesh) c.asking.invariant.asked.settled c.first-head.result c.first-head.ensures)
     (unsure (g.M.QueuedMesh.seen c.asking.mesh) c.first-head.result.rank.tri (sym c.first-head.ensures.marked ∙ c.if-head.false))
 
@@ -46,8 +53,11 @@ asking-preserved g c =
       readings = c.rank-rank.ensures.readings ∙ c.asking.invariant.readings;
       log = c.tell.ensures.log ∙ c.asking.invariant.log;
       asked = told_only g.w (g.M.QueuedMesh.seen c.args.mesh.now) (g.M.QueuedMesh.seen c.asking.mesh) (g.M.QueuedMesh.seen c.tell.new.self) c.rank-rank.result
-          (g.G.Gauge.count c.args.gauge.now) (g.G.Gauge.count c.asking.gauge) (g.G.Gauge.count c.rank-rank.new.self) c.asking.invariant.asked c.tell.ensures.told value c.rank-rank.ensures.rises
-          (λ evaluations added removed charged. charged_asked g.w (g.M.QueuedMesh.seen c.asking.mesh) (g.M.QueuedMesh.seen c.tell.new.self) c.rank-rank.result c.first-head.result.rank.tri c.tell.ensures.told c.rank-rank.ensures.tri
+          (g.G.Gauge.count c.args.gauge.now) (g.G.Gauge.count c.asking.gauge) (g.G.Gauge.count c.rank-rank.new.self)
+          c.asking.invariant.asked c.tell.ensures.told value c.rank-rank.ensures.rises
+          (λ evaluations added removed charged. charged_asked g.w (g.M.QueuedMesh.seen c.asking.mesh)
+          (g.M.QueuedMesh.seen c.tell.new.self) c.rank-rank.result c.first-head.result.rank.tri
+          c.tell.ensures.told c.rank-rank.ensures.tri
           evaluations added removed (g.G.Gauge.count c.asking.gauge) (g.G.Gauge.count c.rank-rank.new.self) c.rank-rank.ensures.most charged
           (head_may g.w c.requires.1.1.0 (g.M.QueuedMesh.seen c.asking.mesh) c.asking.invariant.asked.settled c.first-head.result c.first-head.ensures
           (subst (λ (z : PoolSet). leaf_count g.w.n z.members ≤ g.w.budget) (sym c.asking.invariant.asked.set) c.requires.1.1.1.1.1) c.if-head.false c.if-head-eq0.false

@@ -47,12 +47,19 @@ tell-requires-clause-unknown g c = subst (λ z. (g.M.QueuedMesh.seen c.asking.me
     (last_part (g.M.QueuedMesh.seen c.asking.mesh) c.in-Some.head c.in-Some-unasked.t c.in-Some.ensures c.in-Some-unasked.is).1
 
 pub asking-init : goal.asking-init
-asking-init g c = record { told = refl; readings = refl; log = refl; asked = asked_none g.w (g.M.QueuedMesh.seen c.args.mesh.now) (g.G.Gauge.count c.args.gauge.now) c.requires.1.1.1.1.0 }
+asking-init g c = record {
+  told = refl;
+  readings = refl;
+  log = refl;
+  asked =
+      asked_none g.w (g.M.QueuedMesh.seen c.args.mesh.now) (g.G.Gauge.count c.args.gauge.now) c.requires.1.1.1.1.0;
+}
 
 pub asking-smaller : goal.asking-smaller
 asking-smaller g c =
     let part = last_part (g.M.QueuedMesh.seen c.asking.mesh) c.in-Some.head c.in-Some-unasked.t c.in-Some.ensures c.in-Some-unasked.is in
-    told_less (g.M.QueuedMesh.seen c.asking.mesh) (g.M.QueuedMesh.seen c.tell.new.self) c.rank-rank.result c.in-Some-unasked.t c.tell.ensures.told c.rank-rank.ensures.tri
+    told_less (g.M.QueuedMesh.seen c.asking.mesh) (g.M.QueuedMesh.seen c.tell.new.self) c.rank-rank.result
+    c.in-Some-unasked.t c.tell.ensures.told c.rank-rank.ensures.tri
     (last_entry g.w c.requires.1.1.0 (g.M.QueuedMesh.seen c.asking.mesh) c.asking.invariant.asked.settled c.in-Some.head c.in-Some.ensures
     c.in-Some-unasked.t part.0)
     part.1
@@ -66,8 +73,11 @@ asking-preserved g c =
       readings = c.rank-rank.ensures.readings ∙ c.asking.invariant.readings;
       log = c.tell.ensures.log ∙ c.asking.invariant.log;
       asked = told_only g.w (g.M.QueuedMesh.seen c.args.mesh.now) (g.M.QueuedMesh.seen c.asking.mesh) (g.M.QueuedMesh.seen c.tell.new.self) c.rank-rank.result
-          (g.G.Gauge.count c.args.gauge.now) (g.G.Gauge.count c.asking.gauge) (g.G.Gauge.count c.rank-rank.new.self) c.asking.invariant.asked c.tell.ensures.told value c.rank-rank.ensures.rises
-          (λ evaluations added removed charged. charged_asked g.w (g.M.QueuedMesh.seen c.asking.mesh) (g.M.QueuedMesh.seen c.tell.new.self) c.rank-rank.result c.in-Some-unasked.t c.tell.ensures.told c.rank-rank.ensures.tri
+          (g.G.Gauge.count c.args.gauge.now) (g.G.Gauge.count c.asking.gauge) (g.G.Gauge.count c.rank-rank.new.self)
+          c.asking.invariant.asked c.tell.ensures.told value c.rank-rank.ensures.rises
+          (λ evaluations added removed charged. charged_asked g.w (g.M.QueuedMesh.seen c.asking.mesh)
+          (g.M.QueuedMesh.seen c.tell.new.self) c.rank-rank.result c.in-Some-unasked.t c.tell.ensures.told
+          c.rank-rank.ensures.tri
           evaluations added removed (g.G.Gauge.count c.asking.gauge) (g.G.Gauge.count c.rank-rank.new.self) c.rank-rank.ensures.most charged
           (last_may g.w c.requires.1.1.0 (g.M.QueuedMesh.seen c.asking.mesh) c.asking.invariant.asked.settled c.in-Some.head c.in-Some.ensures
           c.args.limit.now c.in-Some-unasked.t (subst (λ (z : PoolSet). IsAllowed g.w z.members c.args.limit.now) (sym c.asking.invariant.asked.set) c.requires.1.1.1.1.1)

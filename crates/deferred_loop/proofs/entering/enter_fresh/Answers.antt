@@ -18,7 +18,9 @@ entering-preserved g c =
       told = c.reading-reading.ensures.told ∙ c.entering.invariant.told;
       readings = c.reading-reading.ensures.readings ∙ readings;
       log = c.enter.ensures.log ∙ c.entering.invariant.log;
-      entering = entering_next g.w (g.G.Gauge.readings c.args.gauge.now) c.args.odometer (g.M.QueuedMesh.seen c.entering.mesh) (g.M.QueuedMesh.seen c.enter.new.self) c.in-Some.t c.reading-reading.result c.enter.ensures.entered
+      entering = entering_next g.w (g.G.Gauge.readings c.args.gauge.now) c.args.odometer
+          (g.M.QueuedMesh.seen c.entering.mesh) (g.M.QueuedMesh.seen c.enter.new.self) c.in-Some.t
+          c.reading-reading.result c.enter.ensures.entered
           (c.reading-reading.ensures.slack ∙ ap (λ (z : Readings). z.slack c.in-Some.t) readings)
           (c.reading-reading.ensures.hi ∙ ap (λ (z : Readings). z.upper c.in-Some.t) readings)
           (c.reading-reading.ensures.lo ∙ ap (λ (z : Readings). z.lower c.in-Some.t) readings)

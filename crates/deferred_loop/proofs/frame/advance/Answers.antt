@@ -35,5 +35,6 @@ returns-clause-stamps g c =
 
 pub returns-clause-changed : goal.returns-clause-changed
 returns-clause-changed g c =
-    frame_log (g.M.QueuedMesh.seen c.args.mesh.now).set (g.M.QueuedMesh.seen c.advance_over.new.mesh).set (g.M.QueuedMesh.log c.args.mesh.now) (g.M.QueuedMesh.log c.advance_over.new.mesh)
+    frame_log (g.M.QueuedMesh.seen c.args.mesh.now).set (g.M.QueuedMesh.seen c.advance_over.new.mesh).set
+    (g.M.QueuedMesh.log c.args.mesh.now) (g.M.QueuedMesh.log c.advance_over.new.mesh)
     c.advance_over.result.splits c.advance_over.result.merges c.advance_over.ensures.log c.advance_over.ensures.counters

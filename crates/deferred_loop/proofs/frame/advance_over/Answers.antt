@@ -37,10 +37,13 @@ steps-preserved-in-Split g c =
       settled = c.split_at.ensures.settled;
       counters = c.split_at.ensures.counters (g.M.QueuedMesh.seen c.args.mesh.now).set c.steps.merges
           (subst (λ (z : PoolSet). IsCountedBy (g.M.QueuedMesh.seen c.args.mesh.now).set z c.steps.splits c.steps.merges) (sym asked.set) c.steps.invariant.counters);
-      log = logged_then (g.M.QueuedMesh.seen c.args.mesh.now).set (g.M.QueuedMesh.seen c.choose.new.mesh).set (g.M.QueuedMesh.seen c.split_at.new.mesh).set
+      log = logged_then (g.M.QueuedMesh.seen c.args.mesh.now).set (g.M.QueuedMesh.seen c.choose.new.mesh).set
+          (g.M.QueuedMesh.seen c.split_at.new.mesh).set
           (emptied (g.M.QueuedMesh.log c.args.mesh.now)) (g.M.QueuedMesh.log c.choose.new.mesh) (g.M.QueuedMesh.log c.split_at.new.mesh)
-          (logged_on (g.M.QueuedMesh.seen c.args.mesh.now).set (g.M.QueuedMesh.seen c.steps.mesh).set (g.M.QueuedMesh.seen c.choose.new.mesh).set
-          (emptied (g.M.QueuedMesh.log c.args.mesh.now)) (g.M.QueuedMesh.log c.steps.mesh) (g.M.QueuedMesh.log c.choose.new.mesh) c.steps.invariant.log asked.set c.in-Split.ensures.log)
+          (logged_on (g.M.QueuedMesh.seen c.args.mesh.now).set (g.M.QueuedMesh.seen c.steps.mesh).set
+          (g.M.QueuedMesh.seen c.choose.new.mesh).set
+          (emptied (g.M.QueuedMesh.log c.args.mesh.now)) (g.M.QueuedMesh.log c.steps.mesh)
+          (g.M.QueuedMesh.log c.choose.new.mesh) c.steps.invariant.log asked.set c.in-Split.ensures.log)
           c.split_at.ensures.log;
       charged = c.split_at.ensures.charged (g.G.Gauge.count c.args.gauge.now) c.steps.merges (asked.charged (g.G.Gauge.count c.args.gauge.now) c.steps.splits c.steps.merges c.steps.invariant.charged);
       stamped = subst (λ (z : Readings). IsStamped z c.args.odometer (g.M.QueuedMesh.seen c.args.mesh.now) (g.G.Gauge.count c.args.gauge.now) (g.M.QueuedMesh.seen c.split_at.new.mesh) (g.G.Gauge.count c.split_at.new.gauge)) readings
@@ -75,10 +78,13 @@ steps-preserved g c =
       settled = c.merge_at.ensures.settled;
       counters = c.merge_at.ensures.counters (g.M.QueuedMesh.seen c.args.mesh.now).set c.steps.splits
           (subst (λ (z : PoolSet). IsCountedBy (g.M.QueuedMesh.seen c.args.mesh.now).set z c.steps.splits c.steps.merges) (sym asked.set) c.steps.invariant.counters);
-      log = logged_then (g.M.QueuedMesh.seen c.args.mesh.now).set (g.M.QueuedMesh.seen c.choose.new.mesh).set (g.M.QueuedMesh.seen c.merge_at.new.mesh).set
+      log = logged_then (g.M.QueuedMesh.seen c.args.mesh.now).set (g.M.QueuedMesh.seen c.choose.new.mesh).set
+          (g.M.QueuedMesh.seen c.merge_at.new.mesh).set
           (emptied (g.M.QueuedMesh.log c.args.mesh.now)) (g.M.QueuedMesh.log c.choose.new.mesh) (g.M.QueuedMesh.log c.merge_at.new.mesh)
-          (logged_on (g.M.QueuedMesh.seen c.args.mesh.now).set (g.M.QueuedMesh.seen c.steps.mesh).set (g.M.QueuedMesh.seen c.choose.new.mesh).set
-          (emptied (g.M.QueuedMesh.log c.args.mesh.now)) (g.M.QueuedMesh.log c.steps.mesh) (g.M.QueuedMesh.log c.choose.new.mesh) c.steps.invariant.log asked.set c.in-Merge.ensures.log)
+          (logged_on (g.M.QueuedMesh.seen c.args.mesh.now).set (g.M.QueuedMesh.seen c.steps.mesh).set
+          (g.M.QueuedMesh.seen c.choose.new.mesh).set
+          (emptied (g.M.QueuedMesh.log c.args.mesh.now)) (g.M.QueuedMesh.log c.steps.mesh)
+          (g.M.QueuedMesh.log c.choose.new.mesh) c.steps.invariant.log asked.set c.in-Merge.ensures.log)
           c.merge_at.ensures.log;
       charged = c.merge_at.ensures.charged (g.G.Gauge.count c.args.gauge.now) c.steps.splits (asked.charged (g.G.Gauge.count c.args.gauge.now) c.steps.splits c.steps.merges c.steps.invariant.charged);
       stamped = subst (λ (z : Readings). IsStamped z c.args.odometer (g.M.QueuedMesh.seen c.args.mesh.now) (g.G.Gauge.count c.args.gauge.now) (g.M.QueuedMesh.seen c.merge_at.new.mesh) (g.G.Gauge.count c.merge_at.new.gauge)) readings

@@ -27,35 +27,68 @@ split-requires-clause-room g c after forced =
 pub overflow_sub-splits : goal.overflow_sub-splits
 overflow_sub-splits g c =
     let before = (g.M.QueuedMesh.seen c.args.mesh.now).set in let now = (g.M.QueuedMesh.seen c.split.new.self).set in
-    let k = split_counted before.n now.n before.members c.args.t now.members c.split.ensures.split.n (grid_set_here g.w (g.M.QueuedMesh.seen c.args.mesh.now) c.requires.1.1.1.1.0) c.split.ensures.split.forced in
+    let k = split_counted before.n now.n before.members c.args.t now.members c.split.ensures.split.n
+    (grid_set_here g.w (g.M.QueuedMesh.seen c.args.mesh.now) c.requires.1.1.1.1.0) c.split.ensures.split.forced in
     omega (arith, k.few, k.count, k.small, c.leaf_count-before.ensures, c.leaf_count.ensures)
 
 pub overflow_add-splits : goal.overflow_add-splits
 overflow_add-splits g c =
     let before = (g.M.QueuedMesh.seen c.args.mesh.now).set in let now = (g.M.QueuedMesh.seen c.split.new.self).set in
-    let k = split_counted before.n now.n before.members c.args.t now.members c.split.ensures.split.n (grid_set_here g.w (g.M.QueuedMesh.seen c.args.mesh.now) c.requires.1.1.1.1.0) c.split.ensures.split.forced in
+    let k = split_counted before.n now.n before.members c.args.t now.members c.split.ensures.split.n
+    (grid_set_here g.w (g.M.QueuedMesh.seen c.args.mesh.now) c.requires.1.1.1.1.0) c.split.ensures.split.forced in
     let room = c.requires.1.1.1.1.1.1.1.1.0 in
     omega (arith, k.few, k.count, k.small, c.leaf_count-before.ensures, c.leaf_count.ensures)
 
 pub enter_fresh-requires : goal.enter_fresh-requires
 enter_fresh-requires g c κs within =
-    let sound = split_sound g.w (g.M.QueuedMesh.seen c.args.mesh.now) (g.M.QueuedMesh.seen c.split.new.self) c.args.t c.requires.1.1.1.1.0 c.split.ensures.split in
-    (within.0, (within.1, (c.requires.1.1.1.0, (c.requires.1.1.1.1.1.1.0, (sound, (c.split.ensures.split.renewed.unknown, (λ a i. fresh_address g.w (g.M.QueuedMesh.seen c.args.mesh.now) (g.M.QueuedMesh.seen c.split.new.self) a sound c.split.ensures.split.renewed i, c.requires.1.1.1.1.1.1.1.0)))))))
+    let sound = split_sound g.w (g.M.QueuedMesh.seen c.args.mesh.now) (g.M.QueuedMesh.seen c.split.new.self) c.args.t
+    c.requires.1.1.1.1.0 c.split.ensures.split in (
+      within.0,
+      (
+        within.1,
+        (
+          c.requires.1.1.1.0,
+          (
+            c.requires.1.1.1.1.1.1.0,
+            (
+              sound,
+              (
+                c.split.ensures.split.renewed.unknown,
+                (
+                  λ a i. fresh_address g.w (g.M.QueuedMesh.seen c.args.mesh.now) (g.M.QueuedMesh.seen c.split.new.self) a sound
+                      c.split.ensures.split.renewed i,
+                  c.requires.1.1.1.1.1.1.1.0,
+                ),
+              ),
+            ),
+          ),
+        ),
+      ),
+    )
 
 pub returns-clause-step : goal.returns-clause-step
 returns-clause-step g c =
     subst (λ (z : PoolSet). IsSplitStep g.w.n g.w.budget g.w.priority (g.M.QueuedMesh.seen c.args.mesh.now).set.members z.members) (sym c.enter_fresh.ensures.entered.set)
     (split_step g.w (g.M.QueuedMesh.seen c.args.mesh.now).set.members c.args.t (g.M.QueuedMesh.seen c.split.new.self).set.members c.requires.1.1.1.1.1.0
-    (subst (λ z. IsForced z (g.M.QueuedMesh.seen c.args.mesh.now).set.members c.args.t (g.M.QueuedMesh.seen c.split.new.self).set.members) c.requires.1.1.1.1.0.grid c.split.ensures.split.forced))
+    (subst (λ z. IsForced z (g.M.QueuedMesh.seen c.args.mesh.now).set.members c.args.t
+    (g.M.QueuedMesh.seen c.split.new.self).set.members) c.requires.1.1.1.1.0.grid c.split.ensures.split.forced))
 
 pub returns-clause-counters : goal.returns-clause-counters
 returns-clause-counters g c =
     let before = (g.M.QueuedMesh.seen c.args.mesh.now).set in let now = (g.M.QueuedMesh.seen c.split.new.self).set in
-    let k = split_counted before.n now.n before.members c.args.t now.members c.split.ensures.split.n (grid_set_here g.w (g.M.QueuedMesh.seen c.args.mesh.now) c.requires.1.1.1.1.0) c.split.ensures.split.forced in
+    let k = split_counted before.n now.n before.members c.args.t now.members c.split.ensures.split.n
+    (grid_set_here g.w (g.M.QueuedMesh.seen c.args.mesh.now) c.requires.1.1.1.1.0) c.split.ensures.split.forced in
     λ start removed counted.
     subst (λ (z : PoolSet). IsCountedBy start z (c.args.splits.now + (c.leaf_count.result - c.leaf_count-before.result)) removed) (sym c.enter_fresh.ensures.entered.set) record {
       most = c.split.ensures.split.most ∙ counted.most;
-      splits_rose = omega (arith, k.count, counted.splits_rose, c.split.ensures.split.splits, c.leaf_count-before.ensures, c.leaf_count.ensures);
+      splits_rose = omega (
+        arith,
+        k.count,
+        counted.splits_rose,
+        c.split.ensures.split.splits,
+        c.leaf_count-before.ensures,
+        c.leaf_count.ensures,
+      );
       merges_rose = c.split.ensures.split.merges ∙ counted.merges_rose;
     }
 
@@ -63,10 +96,12 @@ pub returns-clause-charged : goal.returns-clause-charged
 returns-clause-charged g c =
     let settled = c.requires.1.1.1.1.0 in
     let before = (g.M.QueuedMesh.seen c.args.mesh.now).set in let now = (g.M.QueuedMesh.seen c.split.new.self).set in
-    let k = split_counted before.n now.n before.members c.args.t now.members c.split.ensures.split.n (grid_set_here g.w (g.M.QueuedMesh.seen c.args.mesh.now) c.requires.1.1.1.1.0) c.split.ensures.split.forced in
+    let k = split_counted before.n now.n before.members c.args.t now.members c.split.ensures.split.n
+    (grid_set_here g.w (g.M.QueuedMesh.seen c.args.mesh.now) c.requires.1.1.1.1.0) c.split.ensures.split.forced in
     let forced = subst (λ z. IsForced z before.members c.args.t now.members) settled.grid c.split.ensures.split.forced in
     λ evaluations removed charged.
-    split_charged g.w (g.M.QueuedMesh.seen c.args.mesh.now) (g.M.QueuedMesh.seen c.split.new.self) (g.M.QueuedMesh.seen c.enter_fresh.new.mesh) settled c.split.ensures.split.n c.split.ensures.split.renewed
+    split_charged g.w (g.M.QueuedMesh.seen c.args.mesh.now) (g.M.QueuedMesh.seen c.split.new.self)
+    (g.M.QueuedMesh.seen c.enter_fresh.new.mesh) settled c.split.ensures.split.n c.split.ensures.split.renewed
     (g.G.Gauge.readings c.args.gauge.now) c.args.odometer c.enter_fresh.ensures.entered c.args.t evaluations c.args.splits.now removed
     (c.args.splits.now + (c.leaf_count.result - c.leaf_count-before.result)) (g.G.Gauge.count c.args.gauge.now) (g.G.Gauge.count c.enter_fresh.new.gauge)
     settled.valid forced
@@ -76,11 +111,14 @@ returns-clause-charged g c =
 pub returns-clause-stamped : goal.returns-clause-stamped
 returns-clause-stamped g c =
     λ start first stamped.
-    step_stamped g.w (g.M.QueuedMesh.seen c.args.mesh.now) (g.M.QueuedMesh.seen c.split.new.self) (g.M.QueuedMesh.seen c.enter_fresh.new.mesh) c.requires.1.1.1.1.0 c.split.ensures.split.n c.split.ensures.split.renewed
+    step_stamped g.w (g.M.QueuedMesh.seen c.args.mesh.now) (g.M.QueuedMesh.seen c.split.new.self)
+    (g.M.QueuedMesh.seen c.enter_fresh.new.mesh) c.requires.1.1.1.1.0 c.split.ensures.split.n
+    c.split.ensures.split.renewed
     (g.G.Gauge.readings c.args.gauge.now) c.args.odometer c.enter_fresh.ensures.entered start first (g.G.Gauge.count c.args.gauge.now) (g.G.Gauge.count c.enter_fresh.new.gauge) c.enter_fresh.ensures.least stamped
 
 pub returns-clause-log : goal.returns-clause-log
 returns-clause-log g c =
-    logged_on (g.M.QueuedMesh.seen c.args.mesh.now).set (g.M.QueuedMesh.seen c.split.new.self).set (g.M.QueuedMesh.seen c.enter_fresh.new.mesh).set
+    logged_on (g.M.QueuedMesh.seen c.args.mesh.now).set (g.M.QueuedMesh.seen c.split.new.self).set
+    (g.M.QueuedMesh.seen c.enter_fresh.new.mesh).set
     (g.M.QueuedMesh.log c.args.mesh.now) (g.M.QueuedMesh.log c.split.new.self) (g.M.QueuedMesh.log c.enter_fresh.new.mesh)
     c.split.ensures.log c.enter_fresh.ensures.entered.set c.enter_fresh.ensures.log

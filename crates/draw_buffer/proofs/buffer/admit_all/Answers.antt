@@ -37,7 +37,8 @@ loop-t-preserved c =
     } in
     record {
       rest = c.admit.ensures.rest ∙ ap wider i.rest;
-      waiting = c.admit.ensures.waiting ∙ ap (λ ts. ts ++ t ∷ []) i.waiting ∙ ap (λ u. take c.loop-t.t-index c.args.come.now ++ u ∷ []) read ∙ sym more;
+      waiting = c.admit.ensures.waiting ∙ ap (λ ts. ts ++ t ∷ []) i.waiting
+          ∙ ap (λ u. take c.loop-t.t-index c.args.come.now ++ u ∷ []) read ∙ sym more;
       given = given-trans c.args.exchange.now c.loop-t.exchange c.admit.new.self i.given c.admit.ensures.given;
       few = (let h = i.few in let k = c.admit.ensures.few in omega arith);
     }

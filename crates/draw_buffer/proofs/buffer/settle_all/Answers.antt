@@ -12,6 +12,8 @@ nothing b m h off = ⊎_elim (λ (e : 0 < m). absurd (false≢true (sym off ∙ 
 
 pub returns-clause-total : goal.returns-clause-total
 returns-clause-total c a =
-    let none = ap (λ ws. times (addresses_of ws) a) (nil_from_length c.loop-exchange.exchange.waiting (nothing _ _ c.is_waiting.ensures.value c.loop-exchange-test.false)) in
+    let none = ap (λ ws. times (addresses_of ws) a)
+    (nil_from_length c.loop-exchange.exchange.waiting
+    (nothing _ _ c.is_waiting.ensures.value c.loop-exchange-test.false)) in
     let empty = times-none a in
     omega (arith, c.loop-exchange.invariant.total a)

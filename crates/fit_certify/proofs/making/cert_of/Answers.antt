@@ -18,7 +18,8 @@ pub settle_below-requires-clause-closed : goal.settle_below-requires-clause-clos
 settle_below-requires-clause-closed c =
     leads-closed c.args.grid.now.n c.args.grid.now.heights c.args.tolerance (is_flagged c.args.flags.now) c.in_ok-needed.needed.items
     (is_flagged c.settle.new.flags)
-    (closed-same c.args.grid.now.n (λ a. false) (is_flagged c.args.flags.now) (λ a. sym (c.requires.empty a)) (nothing_closed c.args.grid.now.n))
+    (closed-same c.args.grid.now.n (λ a. false) (is_flagged c.args.flags.now) (λ a. sym (c.requires.empty a))
+    (nothing_closed c.args.grid.now.n))
     c.in_ok-needed.ensures.leads
 
 pub returns : goal.returns
@@ -26,16 +27,23 @@ returns c =
     let n : ℕ = c.args.grid.now.n in
     let heights : List ℕ = c.args.grid.now.heights in
     let has : ℕ → Bool = is_flagged c.settle.new.flags in
-    let cert : FitCertificate = record { tolerance = c.args.tolerance; needed = c.in_ok-needed.needed.items; beyond = c.in_ok-beyond.beyond.items } in
+    let cert : FitCertificate = record {
+      tolerance = c.args.tolerance;
+      needed = c.in_ok-needed.needed.items;
+      beyond =
+          c.in_ok-beyond.beyond.items;
+    } in
     let fitted : IsFitted n heights cert has = record {
-      needed = leads-same n heights c.args.tolerance (is_flagged c.args.flags.now) (λ a. false) cert.needed has c.requires.empty c.in_ok-needed.ensures.leads;
+      needed = leads-same n heights c.args.tolerance (is_flagged c.args.flags.now)
+          (λ a. false) cert.needed has c.requires.empty c.in_ok-needed.ensures.leads;
       within = c.in_ok-needed.ensures.within;
     } in
     record {
       sound = (
         leaves_of n has,
         subst (λ (x : FitCertificate). IsSound n heights c.args.target x (leaves_of n has)) (sym c.new.ensures)
-            (made-sound n heights cert has (is_flagged c.settle_below.new.flags) fitted c.in_ok-beyond.ensures.leads c.args.target c.requires.best
+            (made-sound n heights cert has (is_flagged c.settle_below.new.flags) fitted c.in_ok-beyond.ensures.leads
+            c.args.target c.requires.best
             c.in_ok-beyond.ensures.below),
       );
     }

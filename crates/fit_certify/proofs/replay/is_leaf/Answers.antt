@@ -32,7 +32,8 @@ returns-in-None c n closed splittable =
 pub returns-in-Some : goal.returns-in-Some
 returns-in-Some c n closed splittable =
     let has = is_flagged c.args.flags.now in
-    let big : 4 ≤ c.args.t = ⊎_elim (λ small. absurd (false≢true (sym (c.in-Some.ensures.base.1 small)))) (λ large. large) (cases_lt c.args.t 4) in
+    let big : 4 ≤ c.args.t = ⊎_elim (λ small. absurd (false≢true (sym (c.in-Some.ensures.base.1 small))))
+    (λ large. large) (cases_lt c.args.t 4) in
     let half : has c.in-Some.parent ≡ has (c.args.t / 2) = ap has c.in-Some.ensures.half in (
       λ h. Contains-in c.args.t (leaves_of n has) (leaf-outer n has c.args.t closed record {
         address = IsAddress-splittable n c.args.t splittable;

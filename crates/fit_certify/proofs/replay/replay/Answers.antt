@@ -10,7 +10,8 @@ use Rattle.fit_certify.proofs.replay.replay.Goals as goal
 pub returns-then-not-is_reason-clause-bad : goal.returns-then-not-is_reason-clause-bad
 returns-then-not-is_reason-clause-bad c =
     replay-bad c.args.grid.now.n c.args.grid.now.heights c.args.tolerance (is_flagged c.args.flags.now) (is_flagged c.loop-index.flags)
-    c.args.reasons.now c.loop-index.index c.reason_at-reason.result c.loop-index-test.true c.reason_at-reason.ensures c.loop-index.invariant.leads
+    c.args.reasons.now c.loop-index.index c.reason_at-reason.result c.loop-index-test.true c.reason_at-reason.ensures
+    c.loop-index.invariant.leads
     (λ reason. both_ways c.is_reason.result c.if-not-is_reason.true (c.is_reason.ensures.1 reason))
 
 pub loop-index-preserved : goal.loop-index-preserved
@@ -21,7 +22,8 @@ loop-index-preserved c =
     record {
       flags = c.force.ensures.flags ∙ c.loop-index.invariant.flags;
       closed = least.closed;
-      leads = replay-next c.args.grid.now.n c.args.grid.now.heights c.args.tolerance (is_flagged c.args.flags.now) (is_flagged c.loop-index.flags)
+      leads = replay-next c.args.grid.now.n c.args.grid.now.heights c.args.tolerance (is_flagged c.args.flags.now)
+          (is_flagged c.loop-index.flags)
           c.args.reasons.now c.loop-index.index r c.loop-index-test.true c.reason_at-reason.ensures c.loop-index.invariant.leads
           (is_flagged c.force.new.flags) (c.is_reason.ensures.0 c.if-not-is_reason.false) least;
     }

@@ -6,11 +6,13 @@ use Rattle.fit_certify.proofs.settle.settle.Goals as goal
 
 pub loop-again-smaller : goal.loop-again-smaller
 loop-again-smaller c =
-    settle-falls c.args.grid.now.n c.loop-again.flags c.sweep.new.flags c.loop-again.again c.in_ok-again.again c.loop-again-test.true c.in_ok-again.ensures.more
+    settle-falls c.args.grid.now.n c.loop-again.flags c.sweep.new.flags c.loop-again.again c.in_ok-again.again
+    c.loop-again-test.true c.in_ok-again.ensures.more
     (λ did_not. (c.in_ok-again.ensures.none did_not).0)
 
 pub returns-clause-few : goal.returns-clause-few
 returns-clause-few c =
     let has = is_flagged c.args.flags.now in
     reasons-few c.args.grid.now.n c.args.grid.now.heights c.args.tolerance has c.loop-again.reasons.items (is_flagged c.loop-again.flags)
-    (subst (λ k. k ≤ 11) c.n-level.ensures.value c.n-level.ensures.high) c.requires.closed (c.loop-again.invariant.going.leads has (λ a. refl))
+    (subst (λ k. k ≤ 11) c.n-level.ensures.value c.n-level.ensures.high) c.requires.closed
+    (c.loop-again.invariant.going.leads has (λ a. refl))

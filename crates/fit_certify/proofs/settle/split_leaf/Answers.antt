@@ -19,7 +19,8 @@ returns-in_ok-push-in-Some-clause-going c =
     let least = subst (λ (k : ℕ). IsLeastClosed k (with_triangle (is_flagged c.args.flags.now) c.args.t) (is_flagged c.force.new.flags))
     c.n.ensures.value c.force.ensures.least in
     split-going n c.args.grid.now.heights c.args.tolerance c.args.flags.now c.force.new.flags c.args.t c.requires.closed leaf least
-    c.args.reasons.now.items c.push.new.self.items c.in-Some.point c.requires.splittable c.in-Some.ensures.found c.in_ok-push-in-Some.ensures.items
+    c.args.reasons.now.items c.push.new.self.items c.in-Some.point c.requires.splittable c.in-Some.ensures.found
+    c.in_ok-push-in-Some.ensures.items
 
 pub returns-in_ok-push-in-Some-clause-more : goal.returns-in_ok-push-in-Some-clause-more
 returns-in_ok-push-in-Some-clause-more c _ =

@@ -30,10 +30,12 @@ loop-number-init c =
 pub split_leaf-requires-clause-splittable : goal.split_leaf-requires-clause-splittable
 split_leaf-requires-clause-splittable c =
     let n : ℕ = c.args.grid.now.n in
-    let visited : c.unwrap-t.result ≡ c.loop-number.number = subst (λ o. IfSome o (λ t. t ≡ c.loop-number.number)) c.unwrap-t.ensures c.new.ensures.value in
+    let visited : c.unwrap-t.result ≡ c.loop-number.number =
+    subst (λ o. IfSome o (λ t. t ≡ c.loop-number.number)) c.unwrap-t.ensures c.new.ensures.value in
     let low : 2 ≤ c.loop-number.number = c.loop-number.auto.number in
     let more = c.loop-number-test.true in
-    let end : c.end-number-end.result ≡ 2 ^ (2 * n + 1) = subst (λ k. c.end-number-end.result ≡ 2 ^ (2 * k + 1)) c.n.ensures.value c.end-number-end.ensures.value in
+    let end : c.end-number-end.result ≡ 2 ^ (2 * n + 1) =
+    subst (λ k. c.end-number-end.result ≡ 2 ^ (2 * k + 1)) c.n.ensures.value c.end-number-end.ensures.value in
     subst (λ t. IsSplittable n t) (sym visited) (lt-splittable n c.loop-number.number low (omega arith))
 
 pub loop-number-preserved : goal.loop-number-preserved
@@ -42,13 +44,15 @@ loop-number-preserved c =
     let heights = c.args.grid.now.heights in
     let i = c.loop-number.invariant in
     let e = c.in_ok-is_split.ensures in
-    let visited : c.unwrap-t.result ≡ c.loop-number.number = subst (λ o. IfSome o (λ t. t ≡ c.loop-number.number)) c.unwrap-t.ensures c.new.ensures.value in
+    let visited : c.unwrap-t.result ≡ c.loop-number.number =
+    subst (λ o. IfSome o (λ t. t ≡ c.loop-number.number)) c.unwrap-t.ensures c.new.ensures.value in
     record {
       flags = e.flags ∙ i.flags;
       going = going-through n heights c.args.tolerance c.args.flags.now c.loop-number.flags c.split_leaf.new.flags
           c.args.reasons.now.items c.loop-number.reasons.items c.split_leaf.new.reasons.items i.going e.going;
       more = sweep-more n heights c.args.tolerance c.loop-number.number c.args.flags.now c.loop-number.flags c.split_leaf.new.flags
-          c.loop-number.again c.in_ok-is_split.is_split c.either-again.result c.either-again.ensures i.more (λ did_not. (i.none did_not).0) e.more
+          c.loop-number.again c.in_ok-is_split.is_split c.either-again.result c.either-again.ensures i.more
+          (λ did_not. (i.none did_not).0) e.more
           (λ did_not. (e.none did_not).0);
       none = sweep-none n heights c.args.tolerance c.loop-number.number c.args.flags.now c.loop-number.flags c.split_leaf.new.flags
           c.loop-number.again c.in_ok-is_split.is_split c.either-again.result c.either-again.ensures i.none
@@ -64,5 +68,9 @@ returns-clause-none c did_not =
     let n : ℕ = c.args.grid.now.n in
     let i = c.loop-number.invariant in
     let past = c.loop-number-test.false in
-    let end : c.end-number-end.result ≡ 2 ^ (2 * n + 1) = subst (λ k. c.end-number-end.result ≡ 2 ^ (2 * k + 1)) c.n.ensures.value c.end-number-end.ensures.value in
-    ((i.none did_not).0, asked-worst n c.args.grid.now.heights c.args.tolerance c.loop-number.number c.loop-number.flags i.going.closed (omega arith) (i.none did_not).1)
+    let end : c.end-number-end.result ≡ 2 ^ (2 * n + 1) =
+    subst (λ k. c.end-number-end.result ≡ 2 ^ (2 * k + 1)) c.n.ensures.value c.end-number-end.ensures.value in (
+      (i.none did_not).0,
+      asked-worst n c.args.grid.now.heights c.args.tolerance c.loop-number.number
+          c.loop-number.flags i.going.closed (omega arith) (i.none did_not).1,
+    )

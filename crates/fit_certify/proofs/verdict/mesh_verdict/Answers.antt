@@ -30,7 +30,8 @@ returns c =
         beyond = subst (λ (l : List Off). LeadsTo n heights (cert.tolerance - 1) has l over) c.beyond.ensures.value
             (subst (λ k. LeadsTo n heights k has c.beyond.result.now over) less c.in_default.ensures.all);
         enough = subst (λ k. IsEnough c.args.target cert.tolerance k) count
-            (subst (λ k. IsEnough c.args.target k c.list_leaves.result) c.tolerance-tolerance.ensures (c.is_enough.ensures.0 c.if-not-is_enough.false));
+            (subst (λ k. IsEnough c.args.target k c.list_leaves.result) c.tolerance-tolerance.ensures
+            (c.is_enough.ensures.0 c.if-not-is_enough.false));
         leaves = refl;
       },
       c.measure-mesh.ensures.triangles,

@@ -13,5 +13,6 @@ loop-t-preserved c =
 
 pub returns-clause-splittable : goal.returns-clause-splittable
 returns-clause-splittable c all =
-    let whole : take c.loop-t.t-index c.args.changed.now ≡ c.args.changed.now = take_all c.loop-t.t-index c.args.changed.now (omega arith) in
+    let whole : take c.loop-t.t-index c.args.changed.now ≡ c.args.changed.now =
+    take_all c.loop-t.t-index c.args.changed.now (omega arith) in
     subst (All (IsSplittable c.args.n)) whole c.loop-t.invariant

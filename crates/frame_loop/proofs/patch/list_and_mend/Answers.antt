@@ -24,13 +24,17 @@ returns-clause-listing c =
     let now = split_set c.args.pool.now.pairs in
     let before = c.requires.before in
     let same : c.n.result ≡ n = c.n.ensures.value in
-    let told : AreChanges c.n.result (leaves_of n before.before) (leaves_of n now) (take (length c.args.changed.now) c.list_changes.new.changes) =
-    subst (λ (k : ℕ). AreChanges k (leaves_of n before.before) (leaves_of n now) (take (length c.args.changed.now) c.list_changes.new.changes)) (sym same)
+    let told : AreChanges c.n.result (leaves_of n before.before) (leaves_of n now)
+    (take (length c.args.changed.now) c.list_changes.new.changes) =
+    subst (λ (k : ℕ). AreChanges k (leaves_of n before.before) (leaves_of n now)
+    (take (length c.args.changed.now) c.list_changes.new.changes)) (sym same)
     (subst (AreChanges n (leaves_of n before.before) (leaves_of n now)) (sym c.list_changes.ensures.there)
-    (changes_told n before.before now c.args.changed.now before.closed c.leaf_count-count.ensures.valid.closed c.requires.splittable before.covered)) in
+    (changes_told n before.before now c.args.changed.now before.closed c.leaf_count-count.ensures.valid.closed
+    c.requires.splittable before.covered)) in
     let is = before.numbers_are ∙ ap (λ k. numbers_of k (leaves_of n before.before)) (sym same) in
     record {
-      leaf_list = ap (λ k. take k c.list_leaves.new.leaves) (c.leaf_count-count.ensures.leaves ∙ sym c.list_leaves.ensures.count) ∙ c.list_leaves.ensures.there;
+      leaf_list = ap (λ k. take k c.list_leaves.new.leaves) (c.leaf_count-count.ensures.leaves
+          ∙ sym c.list_leaves.ensures.count) ∙ c.list_leaves.ensures.there;
       leaf_total = c.leaf_count-count.ensures.leaves;
       vertex_numbers = c.patch-vertices.ensures.numbers (leaves_of n before.before) (leaves_of n now) is told
           ∙ ap (λ k. numbers_of k (leaves_of n now)) same;

@@ -37,7 +37,9 @@ returns-clause-none c =
     let in_grid = bounds-in_grid n t corners bounds at b in
     greatest-le c.args.tolerance (off_plane n heights t) (holds_point n t) (λ r held. ⊎_elim
     (λ (above : c.args.tolerance < off_plane n heights t r).
-    let box : IsInBounds corners bounds r = IsInBounds-held n t corners bounds r address at b (subst (λ (d : Corners). is_in_closed d r ≡ true) (sym at) held) in
+    let box : IsInBounds corners bounds r =
+    IsInBounds-held n t corners bounds r address at b
+    (subst (λ (d : Corners). is_in_closed d r ≡ true) (sym at) held) in
     let right = box.right in
     let high = box.high in
     let wide = in_grid.0 in

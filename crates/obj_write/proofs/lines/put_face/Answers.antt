@@ -53,7 +53,9 @@ returns-clause-text g c =
     ∙ c.make_known.ensures.there c.index-faces-level.result ∙ c.in-Some.ensures.half in
     let big : 4 ≤ leaf = ⊎_elim (λ (low : leaf < 4). absurd (both_ways true (c.in-Some.ensures.base.1 low) refl)) (λ rest. rest) (cases_lt leaf 4) in
     c.push_line-2.ensures.text
-    ∙ ap (λ t. c.args.page.now ++ t) (fields-face v c.requires.view leaf c.requires.shown parent.middle c.base_of.result.0.now c.base_of.result.1.now
+    ∙ ap (λ t. c.args.page.now ++ t)
+    (fields-face v c.requires.view leaf c.requires.shown parent.middle c.base_of.result.0.now
+    c.base_of.result.1.now
     (child-apex n leaf v.numbers.now parent big there face)
     (c.base_of.ensures.v0 n v.numbers.now face)
     (c.base_of.ensures.v1 n v.numbers.now face))

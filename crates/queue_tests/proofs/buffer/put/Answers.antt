@@ -5,4 +5,5 @@ pub patch-requires-clause-gone : goal.patch-requires-clause-gone
 patch-requires-clause-gone c = none-goes c.args.buffer.now.triangles
 
 pub patch-requires-clause-come : goal.patch-requires-clause-come
-patch-requires-clause-come c = one-comes c.args.buffer.now.triangles c.args.come c.triangles-once.ensures.once (away _ _ c.has.ensures c.if-has.false)
+patch-requires-clause-come c = one-comes c.args.buffer.now.triangles c.args.come c.triangles-once.ensures.once
+    (away _ _ c.has.ensures c.if-has.false)

@@ -43,9 +43,12 @@ settle_all-requires-clause-written c =
 
 pub returns-clause-kept : goal.returns-clause-kept
 returns-clause-kept c =
-    let triangles = ap (λ (e : ExchangeState). e.triangles) c.admit_all.ensures.rest ∙ ap (λ (e : ExchangeState). e.triangles) c.begin.ensures.value in
-    let corners = ap (λ (e : ExchangeState). e.corners) c.admit_all.ensures.rest ∙ ap (λ (e : ExchangeState). e.corners) c.begin.ensures.value in
-    let told = told-trans c.admit_all.new.exchange c.leave_all.new.exchange c.settle_all.new.exchange c.leave_all.ensures.told c.settle_all.ensures.told in
+    let triangles = ap (λ (e : ExchangeState). e.triangles) c.admit_all.ensures.rest
+    ∙ ap (λ (e : ExchangeState). e.triangles) c.begin.ensures.value in
+    let corners = ap (λ (e : ExchangeState). e.corners) c.admit_all.ensures.rest
+    ∙ ap (λ (e : ExchangeState). e.corners) c.begin.ensures.value in
+    let told = told-trans c.admit_all.new.exchange c.leave_all.new.exchange c.settle_all.new.exchange
+    c.leave_all.ensures.told c.settle_all.ensures.told in
     rw (← c.self.view_is) (record {
       within = λ k inside none. let h = told.within k inside none in omega (arith, ap length triangles);
       triangle = λ k inside none. told.triangles_stay k inside none ∙ ap (λ ts. get_or ts k 0) triangles;
@@ -54,5 +57,6 @@ returns-clause-kept c =
           let given = c.settle_all.ensures.given ∙ c.leave_all.ensures.given in
           let points = c.settle_all.ensures.points ∙ c.leave_all.ensures.points in
           let before = ap (λ (e : ExchangeState). e.points) c.begin.ensures.value in
-          ap (λ ps. get_or ps v 0) points ∙ c.admit_all.ensures.given.points_stay v (ap (λ gs. times gs v) (sym given) ∙ none) ∙ ap (λ ps. get_or ps v 0) before;
+          ap (λ ps. get_or ps v 0) points ∙ c.admit_all.ensures.given.points_stay v (ap (λ gs. times gs v) (sym given)
+          ∙ none) ∙ ap (λ ps. get_or ps v 0) before;
     })

@@ -11,21 +11,26 @@ use Rattle.draw_buffer.proofs.exchange.Exchange.leave.Goals as goal
 pub put-requires-clause-new : goal.put-requires-clause-new
 put-requires-clause-new c =
     let i = c.self.inside in
-    next-new i.n i.places i.vertices i.corners.items i.waiting.items _ _ _ c.self.invariant c.pop.new.self.items c.in-Some.next c.in-Some.ensures.items
+    next-new i.n i.places i.vertices i.corners.items i.waiting.items _ _ _ c.self.invariant c.pop.new.self.items
+    c.in-Some.next c.in-Some.ensures.items
 
 pub invariant_of-self : goal.invariant_of-self
 invariant_of-self c =
     let i = c.self.inside in
     let long = whole-long i.n i.places i.vertices i.corners.items i.waiting.items _ _ _ c.self.invariant in
-    whole-put i.n i.places i.vertices i.corners.items i.waiting.items _ _ _ c.self.invariant c.pop.new.self.items c.in-Some.next c.in-Some.ensures.items
-    c.put.new.self c.leave_three.new.vertices c.place-at.result _ _ c.index-old.result.now (omega (arith, c.in-Some.ensures.capacity)) c.note.ensures.capacity
-    c.place-at.ensures.within c.put.ensures c.index-old.ensures c.leave_three.ensures.rest c.leave_three.ensures.uses c.leave_three.ensures.total
+    whole-put i.n i.places i.vertices i.corners.items i.waiting.items _ _ _ c.self.invariant c.pop.new.self.items
+    c.in-Some.next c.in-Some.ensures.items
+    c.put.new.self c.leave_three.new.vertices c.place-at.result _ _ c.index-old.result.now
+    (omega (arith, c.in-Some.ensures.capacity)) c.note.ensures.capacity
+    c.place-at.ensures.within c.put.ensures c.index-old.ensures c.leave_three.ensures.rest c.leave_three.ensures.uses
+    c.leave_three.ensures.total
 
 pub leave_three-requires : goal.leave_three-requires
 leave_three-requires c =
     let i = c.self.inside in
     record {
-      used = whole-used i.n i.places i.vertices i.corners.items i.waiting.items _ _ _ c.self.invariant c.place-at.result c.index-old.result.now
+      used = whole-used i.n i.places i.vertices i.corners.items i.waiting.items _ _ _ c.self.invariant
+          c.place-at.result c.index-old.result.now
           c.place-at.ensures.within c.index-old.ensures;
     }
 
@@ -33,7 +38,8 @@ pub leave_three-requires-in-None : goal.leave_three-requires-in-None
 leave_three-requires-in-None c =
     let i = c.self.inside in
     record {
-      used = whole-used i.n i.places i.vertices i.corners.items i.waiting.items _ _ _ c.self.invariant c.place-at.result c.swap_remove-old.result
+      used = whole-used i.n i.places i.vertices i.corners.items i.waiting.items _ _ _ c.self.invariant
+          c.place-at.result c.swap_remove-old.result
           c.place-at.ensures.within c.swap_remove-old.ensures.value;
     }
 
@@ -42,20 +48,26 @@ invariant_of-self-then-at-len c =
     let i = c.self.inside in
     let none = nil_from_length c.pop.new.self.items (omega (arith, c.pop.new.self.ok.0, c.in-None.ensures.cases.1)) in
     let before = nil_from_length i.waiting.items (omega (arith, i.waiting.ok.0, c.in-None.ensures.cases.0)) in
-    whole-close i.n i.places i.vertices i.corners.items i.waiting.items _ _ _ c.self.invariant c.close.new.self c.leave_three-in-None.new.vertices
+    whole-close i.n i.places i.vertices i.corners.items i.waiting.items _ _ _ c.self.invariant c.close.new.self
+    c.leave_three-in-None.new.vertices
     c.swap_remove-old.new.self.items c.swap_remove-old.result c.place-at.result _ _ _ c.pop.new.self.items none before
-    (omega (arith, c.swap_remove-old.ensures.capacity)) (omega (arith, c.in-None.ensures.capacity)) c.note-then-at-len.ensures.capacity c.place-at.ensures.within c.close.ensures
-    c.swap_remove-old.ensures.items c.swap_remove-old.ensures.value c.leave_three-in-None.ensures.rest c.leave_three-in-None.ensures.uses c.leave_three-in-None.ensures.total
+    (omega (arith, c.swap_remove-old.ensures.capacity)) (omega (arith, c.in-None.ensures.capacity))
+    c.note-then-at-len.ensures.capacity c.place-at.ensures.within c.close.ensures
+    c.swap_remove-old.ensures.items c.swap_remove-old.ensures.value c.leave_three-in-None.ensures.rest
+    c.leave_three-in-None.ensures.uses c.leave_three-in-None.ensures.total
 
 pub invariant_of-self-else-at-len : goal.invariant_of-self-else-at-len
 invariant_of-self-else-at-len c =
     let i = c.self.inside in
     let none = nil_from_length c.pop.new.self.items (omega (arith, c.pop.new.self.ok.0, c.in-None.ensures.cases.1)) in
     let before = nil_from_length i.waiting.items (omega (arith, i.waiting.ok.0, c.in-None.ensures.cases.0)) in
-    whole-close i.n i.places i.vertices i.corners.items i.waiting.items _ _ _ c.self.invariant c.close.new.self c.leave_three-in-None.new.vertices
+    whole-close i.n i.places i.vertices i.corners.items i.waiting.items _ _ _ c.self.invariant c.close.new.self
+    c.leave_three-in-None.new.vertices
     c.swap_remove-old.new.self.items c.swap_remove-old.result c.place-at.result _ _ _ c.pop.new.self.items none before
-    (omega (arith, c.swap_remove-old.ensures.capacity)) (omega (arith, c.in-None.ensures.capacity)) (omega arith) c.place-at.ensures.within c.close.ensures
-    c.swap_remove-old.ensures.items c.swap_remove-old.ensures.value c.leave_three-in-None.ensures.rest c.leave_three-in-None.ensures.uses c.leave_three-in-None.ensures.total
+    (omega (arith, c.swap_remove-old.ensures.capacity)) (omega (arith, c.in-None.ensures.capacity))
+    (omega arith) c.place-at.ensures.within c.close.ensures
+    c.swap_remove-old.ensures.items c.swap_remove-old.ensures.value c.leave_three-in-None.ensures.rest
+    c.leave_three-in-None.ensures.uses c.leave_three-in-None.ensures.total
 
 pub returns-in-Some-clause-total : goal.returns-in-Some-clause-total
 returns-in-Some-clause-total c a =
@@ -65,7 +77,8 @@ returns-in-Some-clause-total c a =
     let after = ap (λ (p : PlaceState). times p.triangles a) c.put.ensures in
     let change = times-set i.places.triangles c.place-at.result c.in-Some.next.tri a c.place-at.ensures.within in
     let here = ap (λ t. same t a) c.place-at.ensures.at in
-    let less = next-times i.n i.places i.vertices i.corners.items i.waiting.items _ _ _ c.self.invariant c.pop.new.self.items c.in-Some.next c.in-Some.ensures.items a in
+    let less = next-times i.n i.places i.vertices i.corners.items i.waiting.items _ _ _ c.self.invariant
+    c.pop.new.self.items c.in-Some.next c.in-Some.ensures.items a in
     omega arith
 
 pub returns-in-Some-clause-left : goal.returns-in-Some-clause-left

@@ -20,7 +20,8 @@ invariant_of-result c =
           let last : 1 * 2 ^ c.args.n % 4294967296 ≡ 2 ^ c.args.n = omega (arith, side.1) in
           c.in_ok-new-2.ensures.end ∙ ap (λ m. (m + 1) * (m + 1)) last;
       point_most = omega (arith, c.in_ok-new-2.ensures.most, c.in_ok-new.ensures.most);
-      drawn = ap (map (shown c.in_ok-new-2.field-0.points)) c.in_ok-with_capacity.ensures.items ∙ sym (ap (map (grid_indices c.args.n)) c.in_ok-new.ensures.triangles);
+      drawn = ap (map (shown c.in_ok-new-2.field-0.points)) c.in_ok-with_capacity.ensures.items
+          ∙ sym (ap (map (grid_indices c.args.n)) c.in_ok-new.ensures.triangles);
       ready = λ k d low. absurd (omega (arith, ap length c.in_ok-with_capacity-2.ensures.items));
       used = λ v.
           let none = uses_in-none v in
@@ -31,9 +32,20 @@ invariant_of-result c =
             ap (λ xs. uses_in xs v) c.in_ok-with_capacity.ensures.items,
             ap (λ ws. waiting_uses ws v) c.in_ok-with_capacity-2.ensures.items,
           );
-      total = omega (arith, ap sum c.in_ok-new-2.ensures.uses, ap length c.in_ok-with_capacity.ensures.items, ap length c.in_ok-with_capacity-2.ensures.items);
+      total = omega (
+        arith,
+        ap sum c.in_ok-new-2.ensures.uses,
+        ap length c.in_ok-with_capacity.ensures.items,
+        ap
+            length c.in_ok-with_capacity-2.ensures.items,
+      );
       once = λ a. let none = times-none a in
-          omega (arith, ap (λ ts. times ts a) c.in_ok-new.ensures.triangles, ap (λ ws. times (addresses_of ws) a) c.in_ok-with_capacity-2.ensures.items);
+          omega (
+            arith,
+            ap (λ ts. times ts a) c.in_ok-new.ensures.triangles,
+            ap (λ ws. times (addresses_of ws) a)
+                c.in_ok-with_capacity-2.ensures.items,
+          );
       few = omega (arith, ap length c.in_ok-new.ensures.triangles);
       corner_space = (let room = c.in_ok-with_capacity.ensures.capacity in omega (arith, c.in_ok-new.ensures.most));
       waiting_space = (let room = c.in_ok-with_capacity-2.ensures.capacity in omega (arith, c.in_ok-new.ensures.most));

@@ -13,7 +13,8 @@ invariant_of-self c =
     let points = ap (λ (t : VertexState). t.points) c.self.view_is in
     let within : c.args.point < length i.numbers.items = rw end c.requires.point in
     let away : (w : ℕ) → 0 < get_or i.uses.items w 0 → get_or i.points.items w 0 ≢ c.args.point = rw (uses, points) c.requires.new in
-    sound-give i.points.items i.uses.items i.numbers.items i.free.items i.most _ _ _ _ c.self.invariant c.pop.new.self.items c.in-Some.v c.args.point _ _
+    sound-give i.points.items i.uses.items i.numbers.items i.free.items i.most _ _ _ _ c.self.invariant
+    c.pop.new.self.items c.in-Some.v c.args.point _ _
     c.in-Some.ensures.items within away (omega (arith, c.in-Some.ensures.capacity)) c.note.ensures.capacity
 
 pub note-requires-in-None : goal.note-requires-in-None

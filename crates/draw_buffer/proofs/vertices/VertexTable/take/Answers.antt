@@ -11,7 +11,8 @@ invariant_of-self c =
     let long = c.self.invariant.long in
     let within : v < length i.uses.items = omega (arith, i.points.ok.0, i.uses.ok.0) in
     let used : c.index.result.now ≡ get_or i.uses.items v 0 = get_or_read i.uses.items v c.index.result.now within c.index.ensures 0 in
-    sound-stay i.points.items i.uses.items i.numbers.items i.free.items i.most _ _ _ _ c.self.invariant v (c.index_mut.result.now + 1) (omega arith) (omega arith)
+    sound-stay i.points.items i.uses.items i.numbers.items i.free.items i.most _ _ _ _ c.self.invariant v
+    (c.index_mut.result.now + 1) (omega arith) (omega arith)
 
 pub returns-then-index-point : goal.returns-then-index-point
 returns-then-index-point c =
@@ -21,7 +22,8 @@ returns-then-index-point c =
     let within : v < length i.uses.items = omega (arith, i.points.ok.0, i.uses.ok.0) in
     let near : v < length i.points.items = omega arith in
     let used : c.index.result.now ≡ get_or i.uses.items v 0 = get_or_read i.uses.items v c.index.result.now within c.index.ensures 0 in
-    let now : c.index_mut.result.now ≡ get_or i.uses.items v 0 = get_or_read i.uses.items v c.index_mut.result.now within c.index_mut.ensures.value 0 in
+    let now : c.index_mut.result.now ≡ get_or i.uses.items v 0 =
+    get_or_read i.uses.items v c.index_mut.result.now within c.index_mut.ensures.value 0 in
     let point : c.index-then-index-gt0.result.now ≡ get_or i.points.items v 0 =
     get_or_read i.points.items v c.index-then-index-gt0.result.now near c.index-then-index-gt0.ensures 0 in
     let built : ℕ → VertexState = λ u. record {

@@ -30,7 +30,8 @@ list_changed-leaf_count-requires-clause-known c =
     let after = c.advance_mesh-steps.new.mesh in
     let before = split_set c.self.inside.mesh.pool.pairs in
     rw (c.pool-pool.ensures.pool)
-    (known_before n after.pool.n before (split_set after.pool.pairs) c.self.inside.numbers (take c.self.inside.leaf_count c.self.inside.leaves.items)
+    (known_before n after.pool.n before (split_set after.pool.pairs) c.self.inside.numbers
+    (take c.self.inside.leaf_count c.self.inside.leaves.items)
     after.log.changed c.changed.result (c.advance_mesh-steps.ensures.n ∙ is.0.n)
     (subst (λ (k : ℕ). IsClosed k before) is.0.n c.advance_mesh-steps.ensures.closed)
     is.1.vertex_numbers is.1.leaf_list c.advance_mesh-steps.ensures.changed c.changed.ensures)

@@ -20,42 +20,59 @@ spared n budget priority start last set falls ranking chosen ranked closure befo
     merge_spares n budget priority ranking chosen (among last) before after ranked falls closure (run_set n budget priority start before added removed set reached)
 
 pub advance-steps-requires-clause-stamps : goal.advance-steps-requires-clause-stamps
-advance-steps-requires-clause-stamps g c = stamps_hold (g.G.Gauge.told c.args.gauge.now).of c.args.odometer c.self.inside.queued.parts c.self.inside.queued.log
+advance-steps-requires-clause-stamps g c =
+    stamps_hold (g.G.Gauge.told c.args.gauge.now).of c.args.odometer c.self.inside.queued.parts
+    c.self.inside.queued.log
     (subst (λ (z : MeshState). StampsHold (g.G.Gauge.told c.args.gauge.now).of c.args.odometer (stamp_of z)) (sym c.self.view_is) c.requires.stamps)
 
 pub advance-steps-requires-clause-valid : goal.advance-steps-requires-clause-valid
-advance-steps-requires-clause-valid g c = split_list-closed c.self.inside.queued.parts.pool.n c.self.inside.queued.parts.pool.pairs c.pool-before.ensures.valid
+advance-steps-requires-clause-valid g c =
+    split_list-closed c.self.inside.queued.parts.pool.n c.self.inside.queued.parts.pool.pairs
+    c.pool-before.ensures.valid
 
 pub returns-clause-most : goal.returns-clause-most
 returns-clause-most g c =
     subst (λ (z : MeshState). IsAtMost (g.G.Gauge.told c.args.gauge.now) (g.G.Gauge.readings c.args.gauge.now) c.args.odometer (seen_of z) c.args.budget
     (c.advance-steps.result.splits + c.advance-steps.result.merges) (g.G.Gauge.count c.args.gauge.now) (g.G.Gauge.count c.advance-steps.new.gauge)) c.self.view_is
-    (at_most (g.G.Gauge.told c.args.gauge.now) (g.G.Gauge.readings c.args.gauge.now) c.args.odometer c.self.inside.queued.parts c.self.inside.queued.log c.args.budget
+    (at_most (g.G.Gauge.told c.args.gauge.now) (g.G.Gauge.readings c.args.gauge.now) c.args.odometer
+    c.self.inside.queued.parts c.self.inside.queued.log c.args.budget
     (c.advance-steps.result.splits + c.advance-steps.result.merges) (g.G.Gauge.count c.args.gauge.now) (g.G.Gauge.count c.advance-steps.new.gauge) c.advance-steps.ensures.most)
 
 pub returns-clause-least : goal.returns-clause-least
 returns-clause-least g c =
-    subst (λ (z : MeshState). IsAtLeast (seen_of z) (seen_of (mesh_of c.advance-steps.new.mesh.parts c.advance-steps.new.mesh.log)) (g.G.Gauge.count c.args.gauge.now) (g.G.Gauge.count c.advance-steps.new.gauge)) c.self.view_is
-    (at_least c.self.inside.queued.parts c.advance-steps.new.mesh.parts c.self.inside.queued.log c.advance-steps.new.mesh.log (g.G.Gauge.count c.args.gauge.now) (g.G.Gauge.count c.advance-steps.new.gauge) c.advance-steps.ensures.least)
+    subst (λ (z : MeshState). IsAtLeast (seen_of z)
+    (seen_of (mesh_of c.advance-steps.new.mesh.parts c.advance-steps.new.mesh.log))
+    (g.G.Gauge.count c.args.gauge.now) (g.G.Gauge.count c.advance-steps.new.gauge)) c.self.view_is
+    (at_least c.self.inside.queued.parts c.advance-steps.new.mesh.parts c.self.inside.queued.log
+    c.advance-steps.new.mesh.log (g.G.Gauge.count c.args.gauge.now) (g.G.Gauge.count c.advance-steps.new.gauge)
+    c.advance-steps.ensures.least)
 
 pub returns-clause-stamps : goal.returns-clause-stamps
 returns-clause-stamps g c =
-    subst (λ (z : MeshState). AreStampsGood (g.G.Gauge.readings c.args.gauge.now) c.args.odometer (seen_of z) (seen_of (mesh_of c.advance-steps.new.mesh.parts c.advance-steps.new.mesh.log))) c.self.view_is
-    (stamps_good (g.G.Gauge.readings c.args.gauge.now) c.args.odometer c.self.inside.queued.parts c.advance-steps.new.mesh.parts c.self.inside.queued.log c.advance-steps.new.mesh.log c.advance-steps.ensures.stamps)
+    subst (λ (z : MeshState). AreStampsGood (g.G.Gauge.readings c.args.gauge.now) c.args.odometer (seen_of z)
+    (seen_of (mesh_of c.advance-steps.new.mesh.parts c.advance-steps.new.mesh.log))) c.self.view_is
+    (stamps_good (g.G.Gauge.readings c.args.gauge.now) c.args.odometer c.self.inside.queued.parts
+    c.advance-steps.new.mesh.parts c.self.inside.queued.log c.advance-steps.new.mesh.log
+    c.advance-steps.ensures.stamps)
 
 pub returns-clause-unblocked : goal.returns-clause-unblocked
 returns-clause-unblocked g c =
     let told = g.G.Gauge.told c.args.gauge.now in
     let steps = c.advance-steps.result in
-    c.frame_laws.ensures.unblocked c.args.self.now.pool.n c.args.budget told.of (among (pool_members (mesh_of c.advance-steps.new.mesh.parts c.advance-steps.new.mesh.log).pool)) steps.worst steps.blocked
-    (subst (λ (z : MeshState). IsFrame z.pool.n c.args.budget told.of (among (pool_members (mesh_of c.advance-steps.new.mesh.parts c.advance-steps.new.mesh.log).pool)) steps.worst steps.blocked)
+    c.frame_laws.ensures.unblocked c.args.self.now.pool.n c.args.budget told.of
+    (among (pool_members (mesh_of c.advance-steps.new.mesh.parts c.advance-steps.new.mesh.log).pool)) steps.worst
+    steps.blocked
+    (subst (λ (z : MeshState). IsFrame z.pool.n c.args.budget told.of
+    (among (pool_members (mesh_of c.advance-steps.new.mesh.parts c.advance-steps.new.mesh.log).pool)) steps.worst
+    steps.blocked)
     c.self.view_is c.advance-steps.ensures.frame)
     (subst (λ n. IsFalling n told.of) c.requires.grid c.requires.falls) c.requires.budget
 
 pub returns-clause-spares : goal.returns-clause-spares
 returns-clause-spares g c =
     let told = g.G.Gauge.told c.args.gauge.now in
-    spared c.args.self.now.pool.n c.args.budget told.of (pool_members c.args.self.now.pool) (pool_members (mesh_of c.advance-steps.new.mesh.parts c.advance-steps.new.mesh.log).pool)
+    spared c.args.self.now.pool.n c.args.budget told.of (pool_members c.args.self.now.pool)
+    (pool_members (mesh_of c.advance-steps.new.mesh.parts c.advance-steps.new.mesh.log).pool)
     (subst (λ (z : MeshState). IsGridSet z.pool.n (pool_members z.pool)) c.self.view_is
     (split_list-closed c.self.inside.queued.parts.pool.n c.self.inside.queued.parts.pool.pairs c.pool-before.ensures.valid))
     (subst (λ n. IsFalling n told.of) c.requires.grid c.requires.falls)

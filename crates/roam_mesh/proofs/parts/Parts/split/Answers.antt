@@ -29,25 +29,32 @@ module _ (c : After-n-n) where
 
   -- what is fresh besides the slot, and besides its mate
   abbrev rest : List ℕ
-  rest = first_rest c.args.self.now c.split_at-born.new.self c.args.s.0 c.requires.parts whole now c.requires.settled c.requires.leaf c.split_at-born.ensures.split
+  rest = first_rest c.args.self.now c.split_at-born.new.self c.args.s.0 c.requires.parts whole now c.requires.settled
+      c.requires.leaf c.split_at-born.ensures.split
 
   abbrev front : List ℕ
-  front = second_rest c.args.self.now c.split_at-born.new.self c.args.s.0 c.requires.parts whole now c.requires.settled c.requires.leaf c.split_at-born.ensures.split
+  front = second_rest c.args.self.now c.split_at-born.new.self c.args.s.0 c.requires.parts whole now
+      c.requires.settled c.requires.leaf c.split_at-born.ensures.split
 
   abbrev other : ℕ
-  other = mate c.args.self.now c.split_at-born.new.self c.args.s.0 c.requires.parts whole now c.requires.settled c.requires.leaf c.split_at-born.ensures.split
+  other = mate c.args.self.now c.split_at-born.new.self c.args.s.0 c.requires.parts whole now c.requires.settled
+      c.requires.leaf c.split_at-born.ensures.split
 
   -- the slot has back what it had
-  first : (middle : PartsState) → ((front : List ℕ) (s : ℕ) → c.split_at-born.new.self.fresh ≡ front ++ (s ∷ []) → middle ≡ seated c.split_at-born.new.self front s c.index.result.now) →
+  first : (middle : PartsState) → ((front : List ℕ) (s : ℕ) → c.split_at-born.new.self.fresh ≡ front ++ (s ∷ [])
+      → middle ≡ seated c.split_at-born.new.self front s c.index.result.now) →
       middle ≡ seated c.split_at-born.new.self rest c.args.s.0 (entry_at c.args.self.now c.args.s.0)
   first middle back =
-      back rest c.args.s.0 (first_last c.args.self.now c.split_at-born.new.self c.args.s.0 c.requires.parts whole now c.requires.settled c.requires.leaf c.split_at-born.ensures.split)
+      back rest c.args.s.0 (first_last c.args.self.now c.split_at-born.new.self c.args.s.0 c.requires.parts whole now
+      c.requires.settled c.requires.leaf c.split_at-born.ensures.split)
       ∙ ap (seated c.split_at-born.new.self rest c.args.s.0) own
 
   -- then its mate can have back what it had
-  second : (middle : PartsState) (e : Entry) → IsKeptMate c.args.self.now c.args.s.0 e → middle ≡ seated c.split_at-born.new.self rest c.args.s.0 (entry_at c.args.self.now c.args.s.0) →
+  second : (middle : PartsState) (e : Entry) → IsKeptMate c.args.self.now c.args.s.0 e
+      → middle ≡ seated c.split_at-born.new.self rest c.args.s.0 (entry_at c.args.self.now c.args.s.0) →
       CanTakeBack middle front other (entry_at c.args.self.now other)
-  second middle e kept same = split_second c.args.self.now c.split_at-born.new.self c.args.s.0 c.requires.parts whole now c.requires.settled c.requires.leaf c.split_at-born.ensures.split middle e kept same
+  second middle e kept same = split_second c.args.self.now c.split_at-born.new.self c.args.s.0 c.requires.parts whole
+      now c.requires.settled c.requires.leaf c.split_at-born.ensures.split middle e kept same
 
 pub take_back-requires : goal.take_back-requires
 take_back-requires c =
@@ -57,7 +64,8 @@ take_back-requires c =
         rest begun,
         c.args.s.0,
         subst (λ (e : Entry). CanTakeBack c.split_at-born.new.self (rest begun) c.args.s.0 e) (sym (own begun))
-            (split_first c.args.self.now c.split_at-born.new.self c.args.s.0 c.requires.parts (whole begun) (now begun) c.requires.settled c.requires.leaf c.split_at-born.ensures.split),
+            (split_first c.args.self.now c.split_at-born.new.self c.args.s.0 c.requires.parts (whole begun)
+            (now begun) c.requires.settled c.requires.leaf c.split_at-born.ensures.split),
       );
     }
 
@@ -80,11 +88,15 @@ returns-in-Some-clause-split c =
     let kept = c.in-Some.ensures.some in
     let back = first begun c.take_back.new.self c.take_back.ensures.seated in
     let last = (second begun c.take_back.new.self c.in-Some.other kept back).last in
-    split_both c.args.self.now c.split_at-born.new.self c.args.s.0 c.requires.parts (whole begun) (now begun) c.requires.settled c.requires.leaf c.split_at-born.ensures.split c.take_back.new.self c.take_back-in-Some.new.self c.in-Some.other kept back
+    split_both c.args.self.now c.split_at-born.new.self c.args.s.0 c.requires.parts (whole begun)
+    (now begun) c.requires.settled c.requires.leaf c.split_at-born.ensures.split c.take_back.new.self
+    c.take_back-in-Some.new.self c.in-Some.other kept back
     (c.take_back-in-Some.ensures.seated (front begun) (other begun) last ∙ ap (seated c.take_back.new.self (front begun) (other begun)) kept.own)
 
 pub returns-in_default-clause-split : goal.returns-in_default-clause-split
 returns-in_default-clause-split c =
     let begun = (goal.at.returns-in_default-clause-split c).After-n-n in
-    split_alone c.args.self.now c.split_at-born.new.self c.args.s.0 c.requires.parts (whole begun) (now begun) c.requires.settled c.requires.leaf c.split_at-born.ensures.split c.take_back.new.self (c.in_default.ensures.none refl)
+    split_alone c.args.self.now c.split_at-born.new.self c.args.s.0 c.requires.parts (whole begun)
+    (now begun) c.requires.settled c.requires.leaf c.split_at-born.ensures.split c.take_back.new.self
+    (c.in_default.ensures.none refl)
     (first begun c.take_back.new.self c.take_back.ensures.seated)

@@ -88,12 +88,27 @@ returns-clause-split c =
 
 pub returns-clause-born : goal.returns-clause-born
 returns-clause-born c =
-    let planned = subst (λ (z : PoolState). IsPlanned z c.args.s.0 (numbers c.plan-chain.result.slots.items) c.plan-chain.result.gain) (ap (λ z. z.pool) c.self.view_is)
-    (record { first = c.plan-chain.ensures.first; linked = c.plan-chain.ensures.chain; size = c.plan-chain.ensures.size; gains = c.plan-chain.ensures.gain }) in
-    let left = c.leave_chain.ensures ∙ ap (λ (x : List Slot). left_all c.args.self.now (with_chain c.args.self.now.pool.pairs (numbers x))) c.deref.ensures.0 in
-    let carried = carried_parts c.args.self.now c.leave_chain.new.self c.split_pool-answers.new.self.pool (numbers c.plan-chain.result.slots.items) c.split_pool-answers.result.items left c.split_pool-answers.ensures.pool in
+    let planned = subst (λ (z : PoolState). IsPlanned z c.args.s.0 (numbers c.plan-chain.result.slots.items)
+    c.plan-chain.result.gain) (ap (λ z. z.pool) c.self.view_is)
+    (record {
+      first = c.plan-chain.ensures.first;
+      linked = c.plan-chain.ensures.chain;
+      size =
+          c.plan-chain.ensures.size;
+      gains = c.plan-chain.ensures.gain;
+    }) in
+    let left = c.leave_chain.ensures
+    ∙ ap (λ (x : List Slot). left_all c.args.self.now (with_chain c.args.self.now.pool.pairs (numbers x)))
+    c.deref.ensures.0 in
+    let carried = carried_parts c.args.self.now c.leave_chain.new.self c.split_pool-answers.new.self.pool
+    (numbers c.plan-chain.result.slots.items) c.split_pool-answers.result.items left
+    c.split_pool-answers.ensures.pool in
     let pool : c.push_diamond.new.self.pool ≡ c.split_pool-answers.new.self.pool =
-    ap (λ z. z.pool) c.push_diamond.ensures ∙ pushed_all-pool c.push_born.new.self (diamond_slots c.push_born.new.self.pool.pairs c.args.s.0)
-    ∙ ap (λ z. z.pool) c.push_born.ensures ∙ pushed_all-pool c.split_pool-answers.new.self (born_leaves c.split_pool-answers.new.self.pool.pairs c.deref-2.result.now) in
+    ap (λ z. z.pool) c.push_diamond.ensures
+    ∙ pushed_all-pool c.push_born.new.self (diamond_slots c.push_born.new.self.pool.pairs c.args.s.0)
+    ∙ ap (λ z. z.pool) c.push_born.ensures
+    ∙ pushed_all-pool c.split_pool-answers.new.self
+    (born_leaves c.split_pool-answers.new.self.pool.pairs c.deref-2.result.now) in
     subst (λ (z : PoolState). IsBornOfSplit c.args.self.now.pool z c.split_pool-answers.result.items) (sym pool)
-    (carried_born c.args.self.now.pool c.split_pool-answers.new.self.pool (numbers c.plan-chain.result.slots.items) c.split_pool-answers.result.items planned.linked carried)
+    (carried_born c.args.self.now.pool c.split_pool-answers.new.self.pool (numbers c.plan-chain.result.slots.items)
+    c.split_pool-answers.result.items planned.linked carried)

@@ -11,7 +11,9 @@ invariant_of-self c =
     let state = ap (λ z. z.parts) c.self-inside.view_is ∙ (ap (λ (z : QueuedState). z.parts) c.self.view_is) in
     let whole = subst IsWhole state c.self-inside.invariant.0 in
     let is = subst IsParts (ap (λ (z : QueuedState). z.parts) c.self.view_is) c.self.invariant in
-    subst IsParts (sym (c.expire.ensures ∙ ap (λ (z : PartsState). expired_at z c.args.s.0) (ap (λ (z : QueuedState). z.parts) c.self.view_is))) (expired_parts c.args.self.now.parts c.args.s.0 whole c.requires.live is)
+    subst IsParts (sym (c.expire.ensures
+    ∙ ap (λ (z : PartsState). expired_at z c.args.s.0) (ap (λ (z : QueuedState). z.parts) c.self.view_is)))
+    (expired_parts c.args.self.now.parts c.args.s.0 whole c.requires.live is)
 
 pub returns-clause-stamps : goal.returns-clause-stamps
 returns-clause-stamps c = λ a.
@@ -19,6 +21,8 @@ returns-clause-stamps c = λ a.
     let whole = subst IsWhole state c.self-inside.invariant.0 in
     let is = subst IsParts (ap (λ (z : QueuedState). z.parts) c.self.view_is) c.self.invariant in
     let t = address_at c.args.self.now.parts.pool.pairs c.args.s.0 in
-    subst (λ (z : PartsState). stamp_of (mesh_of z c.args.self.now.log) a ≡ cond (nat_eq t a) (option_map with_expired (stamp_of (mesh_of c.args.self.now.parts c.args.self.now.log) a)) (stamp_of (mesh_of c.args.self.now.parts c.args.self.now.log) a))
+    subst (λ (z : PartsState). stamp_of (mesh_of z c.args.self.now.log) a ≡ cond (nat_eq t a)
+    (option_map with_expired (stamp_of (mesh_of c.args.self.now.parts c.args.self.now.log) a))
+    (stamp_of (mesh_of c.args.self.now.parts c.args.self.now.log) a))
     (sym (c.expire.ensures ∙ ap (λ (z : PartsState). expired_at z c.args.s.0) (ap (λ (z : QueuedState). z.parts) c.self.view_is)))
     (expired_stamps c.args.self.now.parts c.args.self.now.log c.args.s.0 t whole is c.requires.live refl a)

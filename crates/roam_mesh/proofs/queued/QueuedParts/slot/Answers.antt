@@ -20,7 +20,8 @@ tri-requires-in-Some-partner c =
     let state = ap (λ z. z.parts) c.self-inside.view_is ∙ (ap (λ (z : QueuedState). z.parts) c.self.view_is) in
     let last = subst (λ l. slice_index_or l c.in-Some-last.s.0 None ≡ Some c.in-Some-last._rank) (ap (λ (z : PartsState). z.merge) state) c.in-Some-last.ensures.last.0 in
     let valid = subst IsParts (ap (λ (z : QueuedState). z.parts) c.self.view_is) c.self.invariant in
-    let live = mate_live c.args.self.now.parts (among c.args.self.now.parts.fresh) c.in-Some-last.s.0 c.in-Some-partner.mate.0 c.in-Some-last._rank valid.placed last in
+    let live = mate_live c.args.self.now.parts (among c.args.self.now.parts.fresh) c.in-Some-last.s.0
+    c.in-Some-partner.mate.0 c.in-Some-last._rank valid.placed last in
     record {
       live = subst (λ (p : List ℕ). (mate_of (address_at p c.in-Some-last.s.0) ≡ 0 → ⊥) → address_at p c.in-Some-partner.mate.0 ≡ mate_of (address_at p c.in-Some-last.s.0) →
           IsLive p c.in-Some-partner.mate.0) (sym (ap (λ (z : PartsState). z.pool.pairs) state)) live

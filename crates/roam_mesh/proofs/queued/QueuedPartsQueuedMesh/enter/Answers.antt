@@ -44,7 +44,10 @@ returns-clause-entered c =
     let reading = c.args.reading.now in
     let after = c.enter_next.ensures.entered in
     let seen = entered_seen parts after.0 after.1 reading c.args.odometer c.enter_next.ensures.whole c.self.invariant after.2 in
-    let head = same_head (address_at parts.pool.pairs after.1) c.args._t _ _ (sym seen.fresh ∙ ap (λ (p : PartsState). (seen_parts p).fresh) (ap (λ (z : QueuedState). z.parts) c.self.view_is) ∙ c.requires.next.1) in
+    let head = same_head (address_at parts.pool.pairs after.1) c.args._t _ _ (sym seen.fresh
+    ∙ ap (λ (p : PartsState). (seen_parts p).fresh) (ap (λ (z : QueuedState). z.parts) c.self.view_is)
+    ∙ c.requires.next.1) in
     let one = subst (λ t. IsEntered (seen_parts parts) (seen_parts (entered parts after.0 after.1 reading c.args.odometer)) t reading c.args.odometer) head seen in
     let two = subst (λ p. IsEntered (seen_parts parts) (seen_parts p) c.args._t reading c.args.odometer) (sym after.3) one in
-    subst (λ (p : PartsState). IsEntered (seen_parts p) (seen_parts c.enter_next.new.self) c.args._t reading c.args.odometer) (ap (λ (z : QueuedState). z.parts) c.self.view_is) two
+    subst (λ (p : PartsState). IsEntered (seen_parts p) (seen_parts c.enter_next.new.self) c.args._t reading
+    c.args.odometer) (ap (λ (z : QueuedState). z.parts) c.self.view_is) two

@@ -12,7 +12,8 @@ pub loop-self-init : goal.loop-self-init
 loop-self-init c =
     let is : IsParts c.args.self.now.parts = subst IsParts (ap (λ (z : QueuedState). z.parts) c.self.view_is) c.self.invariant in
     let none : c.args.self.now.parts.fresh ≡ [] = settled_fresh c.args.self.now.parts c.requires.settled in
-    let start = subst (λ (z : PartsState). HasForgotten c.args.self.now.parts z) (sym (ap (λ (z : QueuedState). z.parts) c.self.view_is)) (forgotten_start c.args.self.now.parts is none) in
+    let start = subst (λ (z : PartsState). HasForgotten c.args.self.now.parts z)
+    (sym (ap (λ (z : QueuedState). z.parts) c.self.view_is)) (forgotten_start c.args.self.now.parts is none) in
     (start, ap (λ (z : QueuedState). z.log) c.self.view_is)
 
 pub loop-self-preserved : goal.loop-self-preserved
@@ -22,7 +23,9 @@ loop-self-preserved c =
     let pool : IsPool c.loop-self.self-inside.parts.pool.n c.loop-self.self-inside.parts.pool.pairs = subst (λ (z : PoolState). IsPool z.n z.pairs) (sym kept.pool) is.pool in
     let step = c.forget_last.ensures.some c.loop-self-test.true in
     let has = forgotten_has c.loop-self.self-inside.parts step.0 step.1 c.forget_last.ensures.whole pool kept.placed kept.near step.2 in
-    let then = subst (λ (z : PartsState). HasForgotten c.args.self.now.parts z) (sym step.3) (forgotten_then c.args.self.now.parts c.loop-self.self-inside.parts (forgotten c.loop-self.self-inside.parts step.0 step.1) kept has.0) in
+    let then = subst (λ (z : PartsState). HasForgotten c.args.self.now.parts z) (sym step.3)
+    (forgotten_then c.args.self.now.parts c.loop-self.self-inside.parts
+    (forgotten c.loop-self.self-inside.parts step.0 step.1) kept has.0) in
     (then, c.loop-self.invariant.1)
 
 pub invariant_of-self : goal.invariant_of-self

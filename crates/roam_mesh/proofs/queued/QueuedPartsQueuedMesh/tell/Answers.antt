@@ -15,20 +15,32 @@ use Rattle.roam_mesh.proofs.queued.QueuedPartsQueuedMesh.tell.Goals as goal
 
 pub hear-requires-clause-entry : goal.hear-requires-clause-entry
 hear-requires-clause-entry c =
-    let entry : IsEntry c.self.inside.parts.pool.n (among (pool_members c.self.inside.parts.pool)) c.args.rank.tri = subst (λ (z : PartsState). IsEntry z.pool.n (among (pool_members z.pool)) c.args.rank.tri) (sym (ap (λ (z : QueuedState). z.parts) c.self.view_is)) c.requires.entry in
-    let at : address_at c.self.inside.parts.pool.pairs c.in-Some.s.0 ≡ c.args.rank.tri = subst (λ (z : PartsState). address_at z.pool.pairs c.in-Some.s.0 ≡ c.args.rank.tri) (sym (ap (λ (z : QueuedState). z.parts) c.self.view_is)) c.in-Some.ensures.some in
+    let entry : IsEntry c.self.inside.parts.pool.n (among (pool_members c.self.inside.parts.pool)) c.args.rank.tri =
+    subst (λ (z : PartsState). IsEntry z.pool.n (among (pool_members z.pool)) c.args.rank.tri)
+    (sym (ap (λ (z : QueuedState). z.parts) c.self.view_is)) c.requires.entry in
+    let at : address_at c.self.inside.parts.pool.pairs c.in-Some.s.0 ≡ c.args.rank.tri =
+    subst (λ (z : PartsState). address_at z.pool.pairs c.in-Some.s.0 ≡ c.args.rank.tri)
+    (sym (ap (λ (z : QueuedState). z.parts) c.self.view_is)) c.in-Some.ensures.some in
     entry_told c.self.inside.parts c.in-Some.s.0 c.args.rank.tri c.self.invariant entry at
 
 pub hear-requires-clause-leaf : goal.hear-requires-clause-leaf
 hear-requires-clause-leaf c leaf =
-    let none : c.self.inside.parts.fresh ≡ [] = ap (λ (z : PartsState). z.fresh) (ap (λ (z : QueuedState). z.parts) c.self.view_is) ∙ settled_fresh c.args.self.now.parts c.requires.settled in
+    let none : c.self.inside.parts.fresh ≡ [] =
+    ap (λ (z : PartsState). z.fresh) (ap (λ (z : QueuedState). z.parts) c.self.view_is)
+    ∙ settled_fresh c.args.self.now.parts c.requires.settled in
     leaf_present c.self.inside.parts (among c.self.inside.parts.fresh) c.in-Some.s.0 c.self.invariant.placed leaf (ap (λ l. among l c.in-Some.s.0) none)
 
 pub hear-requires-clause-diamond : goal.hear-requires-clause-diamond
 hear-requires-clause-diamond c leaf =
-    let none : c.self.inside.parts.fresh ≡ [] = ap (λ (z : PartsState). z.fresh) (ap (λ (z : QueuedState). z.parts) c.self.view_is) ∙ settled_fresh c.args.self.now.parts c.requires.settled in
-    let entry : IsEntry c.self.inside.parts.pool.n (among (pool_members c.self.inside.parts.pool)) c.args.rank.tri = subst (λ (z : PartsState). IsEntry z.pool.n (among (pool_members z.pool)) c.args.rank.tri) (sym (ap (λ (z : QueuedState). z.parts) c.self.view_is)) c.requires.entry in
-    let at : address_at c.self.inside.parts.pool.pairs c.in-Some.s.0 ≡ c.args.rank.tri = subst (λ (z : PartsState). address_at z.pool.pairs c.in-Some.s.0 ≡ c.args.rank.tri) (sym (ap (λ (z : QueuedState). z.parts) c.self.view_is)) c.in-Some.ensures.some in
+    let none : c.self.inside.parts.fresh ≡ [] =
+    ap (λ (z : PartsState). z.fresh) (ap (λ (z : QueuedState). z.parts) c.self.view_is)
+    ∙ settled_fresh c.args.self.now.parts c.requires.settled in
+    let entry : IsEntry c.self.inside.parts.pool.n (among (pool_members c.self.inside.parts.pool)) c.args.rank.tri =
+    subst (λ (z : PartsState). IsEntry z.pool.n (among (pool_members z.pool)) c.args.rank.tri)
+    (sym (ap (λ (z : QueuedState). z.parts) c.self.view_is)) c.requires.entry in
+    let at : address_at c.self.inside.parts.pool.pairs c.in-Some.s.0 ≡ c.args.rank.tri =
+    subst (λ (z : PartsState). address_at z.pool.pairs c.in-Some.s.0 ≡ c.args.rank.tri)
+    (sym (ap (λ (z : QueuedState). z.parts) c.self.view_is)) c.in-Some.ensures.some in
     let ready : is_ready_at c.self.inside.parts.pool.pairs c.in-Some.s.0 ≡ true = ⊎_elim
     (λ (there : is_leaf_at c.self.inside.parts.pool.pairs c.in-Some.s.0 ≡ true). absurd (both_ways (is_leaf_at c.self.inside.parts.pool.pairs c.in-Some.s.0) leaf there))
     (λ (diamond : (is_leaf_at c.self.inside.parts.pool.pairs c.in-Some.s.0 ≡ false) × (is_ready_at c.self.inside.parts.pool.pairs c.in-Some.s.0 ≡ true)). diamond.1)
@@ -37,20 +49,31 @@ hear-requires-clause-diamond c leaf =
 
 pub invariant_of-self : goal.invariant_of-self
 invariant_of-self c =
-    let none : c.self.inside.parts.fresh ≡ [] = ap (λ (z : PartsState). z.fresh) (ap (λ (z : QueuedState). z.parts) c.self.view_is) ∙ settled_fresh c.args.self.now.parts c.requires.settled in
-    let entry : IsEntry c.self.inside.parts.pool.n (among (pool_members c.self.inside.parts.pool)) c.args.rank.tri = subst (λ (z : PartsState). IsEntry z.pool.n (among (pool_members z.pool)) c.args.rank.tri) (sym (ap (λ (z : QueuedState). z.parts) c.self.view_is)) c.requires.entry in
-    let at : address_at c.self.inside.parts.pool.pairs c.in-Some.s.0 ≡ c.args.rank.tri = subst (λ (z : PartsState). address_at z.pool.pairs c.in-Some.s.0 ≡ c.args.rank.tri) (sym (ap (λ (z : QueuedState). z.parts) c.self.view_is)) c.in-Some.ensures.some in
+    let none : c.self.inside.parts.fresh ≡ [] =
+    ap (λ (z : PartsState). z.fresh) (ap (λ (z : QueuedState). z.parts) c.self.view_is)
+    ∙ settled_fresh c.args.self.now.parts c.requires.settled in
+    let entry : IsEntry c.self.inside.parts.pool.n (among (pool_members c.self.inside.parts.pool)) c.args.rank.tri =
+    subst (λ (z : PartsState). IsEntry z.pool.n (among (pool_members z.pool)) c.args.rank.tri)
+    (sym (ap (λ (z : QueuedState). z.parts) c.self.view_is)) c.requires.entry in
+    let at : address_at c.self.inside.parts.pool.pairs c.in-Some.s.0 ≡ c.args.rank.tri =
+    subst (λ (z : PartsState). address_at z.pool.pairs c.in-Some.s.0 ≡ c.args.rank.tri)
+    (sym (ap (λ (z : QueuedState). z.parts) c.self.view_is)) c.in-Some.ensures.some in
     subst IsParts (sym c.hear.ensures.told)
     (told_parts c.self.inside.parts c.in-Some.s.0 c.args.rank.p c.hear.ensures.whole c.self.invariant none (entry_told c.self.inside.parts c.in-Some.s.0 c.args.rank.tri c.self.invariant entry at))
 
 pub returns-in-Some-clause-told : goal.returns-in-Some-clause-told
 returns-in-Some-clause-told c =
-    let entry : IsEntry c.self.inside.parts.pool.n (among (pool_members c.self.inside.parts.pool)) c.args.rank.tri = subst (λ (z : PartsState). IsEntry z.pool.n (among (pool_members z.pool)) c.args.rank.tri) (sym (ap (λ (z : QueuedState). z.parts) c.self.view_is)) c.requires.entry in
-    let at : address_at c.self.inside.parts.pool.pairs c.in-Some.s.0 ≡ c.args.rank.tri = subst (λ (z : PartsState). address_at z.pool.pairs c.in-Some.s.0 ≡ c.args.rank.tri) (sym (ap (λ (z : QueuedState). z.parts) c.self.view_is)) c.in-Some.ensures.some in
+    let entry : IsEntry c.self.inside.parts.pool.n (among (pool_members c.self.inside.parts.pool)) c.args.rank.tri =
+    subst (λ (z : PartsState). IsEntry z.pool.n (among (pool_members z.pool)) c.args.rank.tri)
+    (sym (ap (λ (z : QueuedState). z.parts) c.self.view_is)) c.requires.entry in
+    let at : address_at c.self.inside.parts.pool.pairs c.in-Some.s.0 ≡ c.args.rank.tri =
+    subst (λ (z : PartsState). address_at z.pool.pairs c.in-Some.s.0 ≡ c.args.rank.tri)
+    (sym (ap (λ (z : QueuedState). z.parts) c.self.view_is)) c.in-Some.ensures.some in
     let live : IsLive c.self.inside.parts.pool.pairs c.in-Some.s.0 = entry_live c.self.inside.parts.pool.pairs c.in-Some.s.0 (entry_told c.self.inside.parts c.in-Some.s.0 c.args.rank.tri c.self.invariant entry at) in
     let seen : IsTold (seen_parts c.self.inside.parts) (seen_parts (told c.self.inside.parts c.in-Some.s.0 c.args.rank.p)) c.args.rank =
     told_seen c.self.inside.parts c.in-Some.s.0 c.args.rank c.hear.ensures.whole c.self.invariant.pool live at in
-    subst (λ (z : PartsState). IsTold (seen_parts z) (seen_parts c.hear.new.self) c.args.rank) (ap (λ (z : QueuedState). z.parts) c.self.view_is)
+    subst (λ (z : PartsState). IsTold (seen_parts z) (seen_parts c.hear.new.self) c.args.rank)
+    (ap (λ (z : QueuedState). z.parts) c.self.view_is)
     (subst (λ (z : PartsState). IsTold (seen_parts c.self.inside.parts) (seen_parts z) c.args.rank) (sym c.hear.ensures.told) seen)
 
 pub returns-in_default-clause-told : goal.returns-in_default-clause-told
