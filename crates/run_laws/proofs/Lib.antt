@@ -19,3 +19,4 @@ pub mod ShownLemmas
 pub mod FileLemmas
 pub mod GridLemmas
 pub mod StatementLemmas
+mod GeneratedLemmas

@@ -23,3 +23,4 @@ pub mod Leaving
 pub mod Moment
 pub mod Statement
 pub mod StatementLaws
+pub mod GeneratedLaws

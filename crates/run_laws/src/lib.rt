@@ -7,11 +7,13 @@
 #![tactic(auto)]
 
 mod cut_short;
+mod generated;
 mod laws;
 mod statement;
 mod status;
 
 pub use cut_short::cut_short_laws;
+pub use generated::generated_laws;
 pub use laws::{
     certify_examples, certify_laws, fitting_laws, measure_examples, run_laws, script_examples,
     state_laws, turn_count_laws, walk_laws,
