@@ -3,6 +3,7 @@ use Rattle.std.proofs.Common.{◌≡◌, ℕ, true, List, [], ◌∷◌, ◌++�
 use Rattle.mesh_defs.specs.State.{State, text_in}
 use Rattle.roam_edge.specs.MeshSink.{Mesh}
 use Rattle.roam_edge.specs.Told.{IsPrefix}
+use Rattle.roam_edge.specs.Fault.{Rose}
 use Rattle.obj_write.specs.Written.{mesh_with, Grows, IsPartOfMesh}
 use Rattle.run_laws.specs.Words.{AsMeshes}
 use Rattle.run_laws.specs.Picture.{Picture, triangles_of, mark_count}
@@ -33,16 +34,19 @@ record IsFrameCounted (state : State) (mesh : MeshState) (note : FrameNote) : Ty
 module _ (meshes meshes' : Option (List Mesh)) (report : Option (List ℕ)) (prefix : List ℕ) (number k : ℕ) (same : k ≡ number) (picture : Picture) (text : List ℕ)
     (is : text ≡ text_in picture.state (triangles_of picture)) where
   -- the mesh of a frame was cut short
-  pub cut-frame-mesh : ((all : List Mesh) → meshes ≡ Some all → (part : List Mesh) × IsPartOfMesh prefix k text part × (meshes' ≡ Some (all ++ part)))
-      → IsCutShort (told meshes report) (told meshes' report) (picture_acts (AsMeshes prefix) number picture)
-  cut-frame-mesh part =
+  pub cut-frame-mesh : {f f' i : ℕ} → ((all : List Mesh) → meshes ≡ Some all → (part : List Mesh) × IsPartOfMesh prefix k text part
+      × (meshes' ≡ Some (all ++ part)))
+      → Rose f f' → IsCutShort (told meshes report f i) (told meshes' report f' i) (picture_acts (AsMeshes prefix) number picture)
+  cut-frame-mesh part rose =
       let P : List ℕ → Type 0 = λ t. (all : List Mesh) → meshes ≡ Some all → (cut : List Mesh) × IsPartOfMesh prefix k t cut × (meshes' ≡ Some (all ++ cut)) in
       let Q : ℕ → Type 0 = λ i. (all : List Mesh) → meshes ≡ Some all → (cut : List Mesh)
       × IsPartOfMesh prefix i (text_in picture.state (triangles_of picture)) cut × (meshes' ≡ Some (all ++ cut)) in
-      cut-mesh meshes meshes' report prefix number (text_in picture.state (triangles_of picture)) (ReportText (frame_line number picture) ∷ []) (subst Q same (subst P is part))
+      cut-mesh meshes meshes' report prefix number (text_in picture.state (triangles_of picture)) (ReportText
+      (frame_line number picture) ∷ []) (subst Q same (subst P is part)) rose
 
 module _ (meshes meshes' : Option (List Mesh)) (report report' : Option (List ℕ)) (prefix : List ℕ) (number k : ℕ) (same : k ≡ number) (picture : Picture) (text : List ℕ)
-    (is : text ≡ text_in picture.state (triangles_of picture)) (whole : Grows meshes meshes' (mesh_with prefix k text true ∷ [])) where
+    (is : text ≡ text_in picture.state (triangles_of picture)) {f f' : ℕ} (whole : Grows meshes meshes'
+    (mesh_with prefix k text true ∷ [])) (unmoved : f' ≡ f) where
   -- the mesh that was written is that of the frame
   is-whole : Grows meshes meshes' (mesh_with prefix number (text_in picture.state (triangles_of picture)) true ∷ [])
   is-whole =
@@ -51,21 +55,25 @@ module _ (meshes meshes' : Option (List Mesh)) (report report' : Option (List �
       subst Q same (subst P is whole)
 
   -- the line of a frame was cut short
-  pub cut-frame-line : (line : List ℕ) → line ≡ frame_line number picture
+  pub cut-frame-line : {i i' : ℕ} (line : List ℕ) → line ≡ frame_line number picture
       → ((all : List ℕ) → report ≡ Some all → (front : List ℕ) × IsPrefix front line × (report' ≡ Some (all ++ front)))
-      → IsCutShort (told meshes report) (told meshes' report') (picture_acts (AsMeshes prefix) number picture)
-  cut-frame-line line written part =
+      → Rose i i' → IsCutShort (told meshes report f i) (told meshes' report' f' i') (picture_acts (AsMeshes prefix) number picture)
+  cut-frame-line line written part rose =
       let P : List ℕ → Type 0 = λ t. (all : List ℕ) → report ≡ Some all → (front : List ℕ) × IsPrefix front t × (report' ≡ Some (all ++ front)) in
-      cut-line meshes meshes' report report' prefix number (text_in picture.state (triangles_of picture)) (frame_line number picture) is-whole (subst P written part)
+      cut-line meshes meshes' report report' prefix number (text_in picture.state (triangles_of picture))
+      (frame_line number picture) is-whole unmoved (subst P written part) rose
 
   -- a frame was written
-  pub frame-stands : (line : List ℕ) → line ≡ frame_line number picture → ((all : List ℕ) → report ≡ Some all → report' ≡ Some (all ++ line))
-      → Stands (told meshes report) (told meshes' report') (picture_acts (AsMeshes prefix) number picture)
-  frame-stands line written came =
+  pub frame-stands : {i i' : ℕ} (line : List ℕ) → line ≡ frame_line number picture → ((all : List ℕ) → report ≡ Some all
+      → report' ≡ Some (all ++ line))
+      → i' ≡ i → Stands (told meshes report f i) (told meshes' report' f' i') (picture_acts (AsMeshes prefix) number picture)
+  frame-stands line written came same_report =
       let P : List ℕ → Type 0 = λ t. (all : List ℕ) → report ≡ Some all → report' ≡ Some (all ++ t) in
       record {
         meshes_grow = is-whole;
         report_grows = λ all told_report. subst P written came all told_report ∙ ap (λ m. Some (all ++ m)) (sym (append-nil (frame_line number picture)));
+        mesh_same = unmoved;
+        report_same = same_report;
       }
 
 -- the text that is written is that of the picture

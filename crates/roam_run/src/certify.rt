@@ -7,7 +7,7 @@ ghost use Rattle.mesh_defs.specs.State.{priority_in};
 ghost use Rattle.roam_edge.specs.MeshSink.{Mesh};
 ghost use Rattle.roam_edge.specs.Shelf.{NamedFile};
 ghost use Rattle.cert_text.specs.CertText.{cert_text};
-ghost use Rattle.run_laws.specs.Act.{told};
+ghost use Rattle.run_laws.specs.Act.{report_tells};
 ghost use Rattle.run_laws.specs.Cause.{StatusHasCause, StatusWritesHaveCause};
 ghost use Rattle.run_laws.specs.Words.{OnGrid, Make};
 ghost use Rattle.run_laws.specs.Certify.{IsMade, makes_at};
@@ -38,18 +38,22 @@ pub(crate) fn run_make<F: Shelf, R: Sink>(
 ) -> Status
     requires opens { F.opens shelf.old ≤ 2 ^ 63 }
     requires bounds { AreInBounds words.now.budget words.now.spacing }
-    ensures outcome { (meshes : Option (List Mesh)) (files : List NamedFile) → F.files shelf.old ≡ Some files →
-        CommandEnds (told meshes (R.contents report.old)) (told meshes (R.contents report.new))
+    ensures outcome { (meshes : Option (List Mesh)) (count : ℕ) (files : List NamedFile) →
+        F.files shelf.old ≡ Some files →
+        CommandEnds (report_tells R.Sink meshes count report.old)
+        (report_tells R.Sink meshes count report.new)
         (seen (F.files shelf.old) (F.rest shelf.old) (F.opens shelf.old) (F.ended shelf.old))
         (seen (F.files shelf.new) (F.rest shelf.new) (F.opens shelf.new) (F.ended shelf.new))
         (OnGrid words.now.grid.now (Make (making_seen words.now))) files result None }
-    ensures read_fault { result ≡ Status.ReadFault → (meshes : Option (List Mesh)) →
-        CommandReadFault (told meshes (R.contents report.old)) (told meshes (R.contents report.new))
+    ensures read_fault { result ≡ Status.ReadFault → (meshes : Option (List Mesh)) (count : ℕ) →
+        CommandReadFault (report_tells R.Sink meshes count report.old)
+        (report_tells R.Sink meshes count report.new)
         (seen (F.files shelf.old) (F.rest shelf.old) (F.opens shelf.old) (F.ended shelf.old))
         (seen (F.files shelf.new) (F.rest shelf.new) (F.opens shelf.new) (F.ended shelf.new))
         (OnGrid words.now.grid.now (Make (making_seen words.now))) }
-    ensures no_memory { result ≡ Status.NoMemory → (meshes : Option (List Mesh)) →
-        CommandNoMemory (told meshes (R.contents report.old)) (told meshes (R.contents report.new))
+    ensures no_memory { result ≡ Status.NoMemory → (meshes : Option (List Mesh)) (count : ℕ) →
+        CommandNoMemory (report_tells R.Sink meshes count report.old)
+        (report_tells R.Sink meshes count report.new)
         (seen (F.files shelf.old) (F.rest shelf.old) (F.opens shelf.old) (F.ended shelf.old))
         (seen (F.files shelf.new) (F.rest shelf.new) (F.opens shelf.new) (F.ended shelf.new))
         (OnGrid words.now.grid.now (Make (making_seen words.now))) }
@@ -118,8 +122,10 @@ fn cert_of_frame(
 
 /// Writes a certificate, the last text of a run.
 fn end_with_cert<R: Sink>(cert: &Cert, report: &mut R) -> Status
-    ensures ends { (meshes : Option (List Mesh)) (files : ℕ) → DoesAs (told meshes (R.contents report.old))
-        (told meshes (R.contents report.new)) (text_outcome (cert_text cert.now) Status.Done files) result }
+    ensures ends { (meshes : Option (List Mesh)) (count : ℕ) (files : ℕ) →
+        DoesAs (report_tells R.Sink meshes count report.old)
+        (report_tells R.Sink meshes count report.new)
+        (text_outcome (cert_text cert.now) Status.Done files) result }
     ensures status { (result ≡ Status.Done) ⊎ (result ≡ Status.WriteFault) }
     ensures faults { (count : ℕ) → StatusWritesHaveCause count count (R.faults report.old) (R.faults report.new) result }
 {

@@ -2,7 +2,7 @@
 
 ghost use Rattle.std.specs.Prelude.{◌≡◌, true, ◌<◌, ◌≤◌, false, length, OnOk, OnErr};
 ghost use Rattle.roam_edge.specs.declared.mesh_sink.TheConstants.{LONGEST_PREFIX, GREATEST_NUMBER};
-ghost use Rattle.run_laws.specs.Act.{told, Stands, IsCutShort};
+ghost use Rattle.run_laws.specs.Act.{sinks_tell, Stands, IsCutShort};
 ghost use Rattle.run_laws.specs.Cause.{WritesHaveCause};
 ghost use Rattle.run_laws.specs.Words.{AsMeshes};
 ghost use Rattle.run_laws.specs.Outcome.{picture_acts};
@@ -36,12 +36,12 @@ pub(crate) fn show_frame<M: MeshSink, R: Sink>(
     requires noted { IsNoted engine.now note.now }
     requires closed { IsClosed engine.now.state.grid.n (among (pool_members engine.now.mesh.pool)) }
     requires room { is_strip showing ≡ true → length (leaves_seen engine.now) ≤ length room.old }
-    ensures ok { OnOk result (Stands (told (M.meshes meshes.old) (R.contents report.old))
-        (told (M.meshes meshes.new) (R.contents report.new))
+    ensures ok { OnOk result (Stands (sinks_tell M.MeshSink R.Sink meshes.old report.old)
+        (sinks_tell M.MeshSink R.Sink meshes.new report.new)
         (picture_acts (show_seen showing.entry) engine.now.frames (picture_seen engine.now note.now))) }
     ensures idle { OnOk result (M.under_way meshes.new ≡ false) }
-    ensures err { OnErr result (IsCutShort (told (M.meshes meshes.old) (R.contents report.old))
-        (told (M.meshes meshes.new) (R.contents report.new))
+    ensures err { OnErr result (IsCutShort (sinks_tell M.MeshSink R.Sink meshes.old report.old)
+        (sinks_tell M.MeshSink R.Sink meshes.new report.new)
         (picture_acts (show_seen showing.entry) engine.now.frames (picture_seen engine.now note.now))) }
     ensures faults { WritesHaveCause (M.faults meshes.old) (M.faults meshes.new)
         (R.faults report.old) (R.faults report.new) result }
@@ -67,12 +67,12 @@ fn write_frame<M: MeshSink, R: Sink>(
     requires number_low { 1 ≤ engine.now.frames }
     requires number_high { engine.now.frames ≤ GREATEST_NUMBER }
     requires noted { IsNoted engine.now note.now }
-    ensures ok { OnOk result (Stands (told (M.meshes meshes.old) (R.contents report.old))
-        (told (M.meshes meshes.new) (R.contents report.new))
+    ensures ok { OnOk result (Stands (sinks_tell M.MeshSink R.Sink meshes.old report.old)
+        (sinks_tell M.MeshSink R.Sink meshes.new report.new)
         (picture_acts (AsMeshes prefix.now) engine.now.frames (picture_seen engine.now note.now))) }
     ensures idle { OnOk result (M.under_way meshes.new ≡ false) }
-    ensures err { OnErr result (IsCutShort (told (M.meshes meshes.old) (R.contents report.old))
-        (told (M.meshes meshes.new) (R.contents report.new))
+    ensures err { OnErr result (IsCutShort (sinks_tell M.MeshSink R.Sink meshes.old report.old)
+        (sinks_tell M.MeshSink R.Sink meshes.new report.new)
         (picture_acts (AsMeshes prefix.now) engine.now.frames (picture_seen engine.now note.now))) }
     ensures faults { WritesHaveCause (M.faults meshes.old) (M.faults meshes.new)
         (R.faults report.old) (R.faults report.new) result }

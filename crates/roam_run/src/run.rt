@@ -5,7 +5,7 @@ ghost use Rattle.mesh_defs.specs.HeightField.{HeightField};
 ghost use Rattle.mesh_defs.specs.declared.level.TheConstants.{GREATEST_LEVEL};
 ghost use Rattle.roam_edge.specs.MeshSink.{Mesh};
 ghost use Rattle.roam_edge.specs.Shelf.{NamedFile, bytes_of};
-ghost use Rattle.run_laws.specs.Act.{told};
+ghost use Rattle.run_laws.specs.Act.{sinks_tell, report_tells};
 ghost use Rattle.run_laws.specs.Cause.{StatusHasCause};
 ghost use Rattle.run_laws.specs.Words.{Scripted, Fitting, OnGrid, Generated, Frames, is_of_engine, command_of, file_count, Checking};
 ghost use Rattle.run_laws.specs.Outcome.{Outcome, IsOutcome, HasOneOutcome};
@@ -157,20 +157,20 @@ fn run_of_words<F: Shelf, M: MeshSink, R: Sink>(
     requires report_faults { R.faults report.old < 2 ^ 64 - 1 }
     requires opens { F.opens shelf.old ≤ 2 ^ 63 }
     ensures outcome { (files : List NamedFile) → AreFiles (F.files shelf.old) (map string_bytes words.now) files →
-        EndsRight (told (M.meshes meshes.old) (R.contents report.old))
-        (told (M.meshes meshes.new) (R.contents report.new))
+        EndsRight (sinks_tell M.MeshSink R.Sink meshes.old report.old)
+        (sinks_tell M.MeshSink R.Sink meshes.new report.new)
         (seen (F.files shelf.old) (F.rest shelf.old) (F.opens shelf.old) (F.ended shelf.old))
         (seen (F.files shelf.new) (F.rest shelf.new) (F.opens shelf.new) (F.ended shelf.new))
         (map string_bytes words.now) files result.status }
     ensures read_fault { result.status ≡ Status.ReadFault →
-        LeavesAtReadFault (told (M.meshes meshes.old) (R.contents report.old))
-        (told (M.meshes meshes.new) (R.contents report.new))
+        LeavesAtReadFault (sinks_tell M.MeshSink R.Sink meshes.old report.old)
+        (sinks_tell M.MeshSink R.Sink meshes.new report.new)
         (seen (F.files shelf.old) (F.rest shelf.old) (F.opens shelf.old) (F.ended shelf.old))
         (seen (F.files shelf.new) (F.rest shelf.new) (F.opens shelf.new) (F.ended shelf.new))
         (map string_bytes words.now) }
     ensures no_memory { result.status ≡ Status.NoMemory →
-        LeavesAtNoMemory (told (M.meshes meshes.old) (R.contents report.old))
-        (told (M.meshes meshes.new) (R.contents report.new))
+        LeavesAtNoMemory (sinks_tell M.MeshSink R.Sink meshes.old report.old)
+        (sinks_tell M.MeshSink R.Sink meshes.new report.new)
         (seen (F.files shelf.old) (F.rest shelf.old) (F.opens shelf.old) (F.ended shelf.old))
         (seen (F.files shelf.new) (F.rest shelf.new) (F.opens shelf.new) (F.ended shelf.new))
         (map string_bytes words.now) }
@@ -220,20 +220,20 @@ fn run_command<F: Shelf, M: MeshSink, R: Sink>(
     requires opens { F.opens shelf.old ≤ 2 ^ 63 }
     ensures outcome { (files : List NamedFile) →
         (0 < file_count (Some (command_seen command.now)) → F.files shelf.old ≡ Some files) →
-        CommandEnds (told (M.meshes meshes.old) (R.contents report.old))
-        (told (M.meshes meshes.new) (R.contents report.new))
+        CommandEnds (sinks_tell M.MeshSink R.Sink meshes.old report.old)
+        (sinks_tell M.MeshSink R.Sink meshes.new report.new)
         (seen (F.files shelf.old) (F.rest shelf.old) (F.opens shelf.old) (F.ended shelf.old))
         (seen (F.files shelf.new) (F.rest shelf.new) (F.opens shelf.new) (F.ended shelf.new))
         (command_seen command.now) files result.status (option_map engine_seen result.engine) }
     ensures read_fault { result.status ≡ Status.ReadFault →
-        CommandReadFault (told (M.meshes meshes.old) (R.contents report.old))
-        (told (M.meshes meshes.new) (R.contents report.new))
+        CommandReadFault (sinks_tell M.MeshSink R.Sink meshes.old report.old)
+        (sinks_tell M.MeshSink R.Sink meshes.new report.new)
         (seen (F.files shelf.old) (F.rest shelf.old) (F.opens shelf.old) (F.ended shelf.old))
         (seen (F.files shelf.new) (F.rest shelf.new) (F.opens shelf.new) (F.ended shelf.new))
         (command_seen command.now) }
     ensures no_memory { result.status ≡ Status.NoMemory →
-        CommandNoMemory (told (M.meshes meshes.old) (R.contents report.old))
-        (told (M.meshes meshes.new) (R.contents report.new))
+        CommandNoMemory (sinks_tell M.MeshSink R.Sink meshes.old report.old)
+        (sinks_tell M.MeshSink R.Sink meshes.new report.new)
         (seen (F.files shelf.old) (F.rest shelf.old) (F.opens shelf.old) (F.ended shelf.old))
         (seen (F.files shelf.new) (F.rest shelf.new) (F.opens shelf.new) (F.ended shelf.new))
         (command_seen command.now) }
@@ -270,21 +270,21 @@ fn run_frames<F: Shelf, M: MeshSink, R: Sink>(
     requires accepted { IsFrameCommand command.now }
     requires opens { F.opens shelf.old ≤ 2 ^ 63 }
     ensures outcome { (files : List NamedFile) → F.files shelf.old ≡ Some files →
-        CommandEnds (told (M.meshes meshes.old) (R.contents report.old))
-        (told (M.meshes meshes.new) (R.contents report.new))
+        CommandEnds (sinks_tell M.MeshSink R.Sink meshes.old report.old)
+        (sinks_tell M.MeshSink R.Sink meshes.new report.new)
         (seen (F.files shelf.old) (F.rest shelf.old) (F.opens shelf.old) (F.ended shelf.old))
         (seen (F.files shelf.new) (F.rest shelf.new) (F.opens shelf.new) (F.ended shelf.new))
         (OnGrid command.now.grid.now (Frames (scripted_seen command.now))) files result.status
         (option_map engine_seen result.engine) }
     ensures read_fault { result.status ≡ Status.ReadFault →
-        CommandReadFault (told (M.meshes meshes.old) (R.contents report.old))
-        (told (M.meshes meshes.new) (R.contents report.new))
+        CommandReadFault (sinks_tell M.MeshSink R.Sink meshes.old report.old)
+        (sinks_tell M.MeshSink R.Sink meshes.new report.new)
         (seen (F.files shelf.old) (F.rest shelf.old) (F.opens shelf.old) (F.ended shelf.old))
         (seen (F.files shelf.new) (F.rest shelf.new) (F.opens shelf.new) (F.ended shelf.new))
         (OnGrid command.now.grid.now (Frames (scripted_seen command.now))) }
     ensures no_memory { result.status ≡ Status.NoMemory →
-        CommandNoMemory (told (M.meshes meshes.old) (R.contents report.old))
-        (told (M.meshes meshes.new) (R.contents report.new))
+        CommandNoMemory (sinks_tell M.MeshSink R.Sink meshes.old report.old)
+        (sinks_tell M.MeshSink R.Sink meshes.new report.new)
         (seen (F.files shelf.old) (F.rest shelf.old) (F.opens shelf.old) (F.ended shelf.old))
         (seen (F.files shelf.new) (F.rest shelf.new) (F.opens shelf.new) (F.ended shelf.new))
         (OnGrid command.now.grid.now (Frames (scripted_seen command.now))) }
@@ -324,21 +324,21 @@ fn run_engine<F: Shelf, M: MeshSink, R: Sink>(
     requires shown { show_for command.now.making ≡ show_seen showing }
     requires opens { F.opens shelf.old ≤ 2 ^ 63 }
     ensures outcome { (files : List NamedFile) → F.files shelf.old ≡ Some files →
-        CommandEnds (told (M.meshes meshes.old) (R.contents report.old))
-        (told (M.meshes meshes.new) (R.contents report.new))
+        CommandEnds (sinks_tell M.MeshSink R.Sink meshes.old report.old)
+        (sinks_tell M.MeshSink R.Sink meshes.new report.new)
         (seen (F.files shelf.old) (F.rest shelf.old) (F.opens shelf.old) (F.ended shelf.old))
         (seen (F.files shelf.new) (F.rest shelf.new) (F.opens shelf.new) (F.ended shelf.new))
         (OnGrid command.now.grid.now (Frames (scripted_seen command.now))) files result.status
         (option_map engine_seen result.engine) }
     ensures read_fault { result.status ≡ Status.ReadFault →
-        CommandReadFault (told (M.meshes meshes.old) (R.contents report.old))
-        (told (M.meshes meshes.new) (R.contents report.new))
+        CommandReadFault (sinks_tell M.MeshSink R.Sink meshes.old report.old)
+        (sinks_tell M.MeshSink R.Sink meshes.new report.new)
         (seen (F.files shelf.old) (F.rest shelf.old) (F.opens shelf.old) (F.ended shelf.old))
         (seen (F.files shelf.new) (F.rest shelf.new) (F.opens shelf.new) (F.ended shelf.new))
         (OnGrid command.now.grid.now (Frames (scripted_seen command.now))) }
     ensures no_memory { result.status ≡ Status.NoMemory →
-        CommandNoMemory (told (M.meshes meshes.old) (R.contents report.old))
-        (told (M.meshes meshes.new) (R.contents report.new))
+        CommandNoMemory (sinks_tell M.MeshSink R.Sink meshes.old report.old)
+        (sinks_tell M.MeshSink R.Sink meshes.new report.new)
         (seen (F.files shelf.old) (F.rest shelf.old) (F.opens shelf.old) (F.ended shelf.old))
         (seen (F.files shelf.new) (F.rest shelf.new) (F.opens shelf.new) (F.ended shelf.new))
         (OnGrid command.now.grid.now (Frames (scripted_seen command.now))) }
@@ -377,11 +377,15 @@ fn run_engine<F: Shelf, M: MeshSink, R: Sink>(
 fn run_try<R: Sink>(alloc: Global, n: u32, seed: u32, report: &mut R) -> Run
     requires n_low { 1 ≤ n }
     requires n_high { n ≤ GREATEST_LEVEL }
-    ensures outcome { (meshes : Option (List Mesh)) (shelf : Seen) (files : List NamedFile) →
-        CommandEnds (told meshes (R.contents report.old)) (told meshes (R.contents report.new))
+    ensures outcome { (meshes : Option (List Mesh)) (count : ℕ) (shelf : Seen)
+        (files : List NamedFile) →
+        CommandEnds (report_tells R.Sink meshes count report.old)
+        (report_tells R.Sink meshes count report.new)
         shelf shelf (Generated n seed) files result.status (option_map engine_seen result.engine) }
-    ensures no_memory { result.status ≡ Status.NoMemory → (meshes : Option (List Mesh)) (shelf : Seen) →
-        CommandNoMemory (told meshes (R.contents report.old)) (told meshes (R.contents report.new))
+    ensures no_memory { result.status ≡ Status.NoMemory →
+        (meshes : Option (List Mesh)) (count : ℕ) (shelf : Seen) →
+        CommandNoMemory (report_tells R.Sink meshes count report.old)
+        (report_tells R.Sink meshes count report.new)
         shelf shelf (Generated n seed) }
     ensures engine { IsSome result.engine ↔ IsTrue (ends_script result.status) }
     ensures status { (result.status ≢ Status.Usage) × (result.status ≢ Status.GridRefused)

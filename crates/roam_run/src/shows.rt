@@ -1,6 +1,6 @@
 //! A frame as a strip, or as a line on how far its mesh is from the surface.
 
-ghost use Rattle.std.specs.Prelude.{◌≡◌, ◌*◌, ◌^◌, ◌<◌, ◌≤◌, Option, List, false, length, All, OnOk, OnErr};
+ghost use Rattle.std.specs.Prelude.{ℕ, ◌≡◌, ◌*◌, ◌^◌, ◌<◌, ◌≤◌, Option, List, false, length, All, OnOk, OnErr};
 ghost use Rattle.mesh_defs.specs.Triangle.{level_of};
 ghost use Rattle.mesh_defs.specs.ClosedSet.{IsClosed, among};
 ghost use Rattle.roam_edge.specs.Fault.{HasCause};
@@ -12,7 +12,7 @@ ghost use Rattle.strip_laws.specs.Strip.{strip_of};
 ghost use Rattle.deviation_laws.specs.PlaneHeight.{deviation_of, thickest_of};
 ghost use Rattle.roam_mesh.specs.Mesh.{pool_members};
 ghost use Rattle.frame_loop.specs.declared.note.FrameNote.{FrameNote as NoteSeen};
-ghost use Rattle.run_laws.specs.Act.{told, Stands, IsCutShort};
+ghost use Rattle.run_laws.specs.Act.{sinks_tell, report_tells, Stands, IsCutShort};
 ghost use Rattle.run_laws.specs.Cause.{WritesHaveCause};
 ghost use Rattle.run_laws.specs.Turns.{left_turns, right_turns};
 ghost use Rattle.run_laws.specs.Words.{AsStrips, AsMeasures};
@@ -49,12 +49,14 @@ pub(crate) fn write_strip<M: MeshSink, R: Sink>(
     requires number_high { engine.now.frames ≤ GREATEST_NUMBER }
     requires closed { IsClosed engine.now.state.grid.n (among (pool_members engine.now.mesh.pool)) }
     requires room { length (leaves_seen engine.now) ≤ length room.old }
-    ensures ok { (note : NoteSeen) → OnOk result (Stands (told (M.meshes meshes.old) (R.contents report.old))
-        (told (M.meshes meshes.new) (R.contents report.new))
+    ensures ok { (note : NoteSeen) →
+        OnOk result (Stands (sinks_tell M.MeshSink R.Sink meshes.old report.old)
+        (sinks_tell M.MeshSink R.Sink meshes.new report.new)
         (picture_acts (AsStrips prefix.now) engine.now.frames (picture_seen engine.now note))) }
     ensures idle { OnOk result (M.under_way meshes.new ≡ false) }
-    ensures err { (note : NoteSeen) → OnErr result (IsCutShort (told (M.meshes meshes.old) (R.contents report.old))
-        (told (M.meshes meshes.new) (R.contents report.new))
+    ensures err { (note : NoteSeen) →
+        OnErr result (IsCutShort (sinks_tell M.MeshSink R.Sink meshes.old report.old)
+        (sinks_tell M.MeshSink R.Sink meshes.new report.new)
         (picture_acts (AsStrips prefix.now) engine.now.frames (picture_seen engine.now note))) }
     ensures faults { WritesHaveCause (M.faults meshes.old) (M.faults meshes.new)
         (R.faults report.old) (R.faults report.new) result }
@@ -90,12 +92,14 @@ fn write_order<M: MeshSink, R: Sink>(
     requires number_high { engine.now.frames ≤ GREATEST_NUMBER }
     requires closed { IsClosed engine.now.state.grid.n (among (pool_members engine.now.mesh.pool)) }
     requires order { order.now ≡ strip_of engine.now.state.grid.n (among (pool_members engine.now.mesh.pool)) }
-    ensures ok { (note : NoteSeen) → OnOk result (Stands (told (M.meshes meshes.old) (R.contents report.old))
-        (told (M.meshes meshes.new) (R.contents report.new))
+    ensures ok { (note : NoteSeen) →
+        OnOk result (Stands (sinks_tell M.MeshSink R.Sink meshes.old report.old)
+        (sinks_tell M.MeshSink R.Sink meshes.new report.new)
         (picture_acts (AsStrips prefix.now) engine.now.frames (picture_seen engine.now note))) }
     ensures idle { OnOk result (M.under_way meshes.new ≡ false) }
-    ensures err { (note : NoteSeen) → OnErr result (IsCutShort (told (M.meshes meshes.old) (R.contents report.old))
-        (told (M.meshes meshes.new) (R.contents report.new))
+    ensures err { (note : NoteSeen) →
+        OnErr result (IsCutShort (sinks_tell M.MeshSink R.Sink meshes.old report.old)
+        (sinks_tell M.MeshSink R.Sink meshes.new report.new)
         (picture_acts (AsStrips prefix.now) engine.now.frames (picture_seen engine.now note))) }
     ensures faults { WritesHaveCause (M.faults meshes.old) (M.faults meshes.new)
         (R.faults report.old) (R.faults report.new) result }
@@ -162,10 +166,14 @@ fn strip_text(number: u32, triangles: u64, left: u32, right: u32) -> Text
 /// Cost (not proved): that of `deviation`; takes no memory.
 pub(crate) fn write_measure<R: Sink>(engine: &Engine, report: &mut R) -> Result<(), Failed>
     requires closed { IsClosed engine.now.state.grid.n (among (pool_members engine.now.mesh.pool)) }
-    ensures ok { (meshes : Option (List Mesh)) (note : NoteSeen) → OnOk result (Stands (told meshes (R.contents report.old))
-        (told meshes (R.contents report.new)) (picture_acts AsMeasures engine.now.frames (picture_seen engine.now note))) }
-    ensures err { (meshes : Option (List Mesh)) (note : NoteSeen) → OnErr result (IsCutShort (told meshes (R.contents report.old))
-        (told meshes (R.contents report.new)) (picture_acts AsMeasures engine.now.frames (picture_seen engine.now note))) }
+    ensures ok { (meshes : Option (List Mesh)) (count : ℕ) (note : NoteSeen) →
+        OnOk result (Stands (report_tells R.Sink meshes count report.old)
+        (report_tells R.Sink meshes count report.new)
+        (picture_acts AsMeasures engine.now.frames (picture_seen engine.now note))) }
+    ensures err { (meshes : Option (List Mesh)) (count : ℕ) (note : NoteSeen) →
+        OnErr result (IsCutShort (report_tells R.Sink meshes count report.old)
+        (report_tells R.Sink meshes count report.new)
+        (picture_acts AsMeasures engine.now.frames (picture_seen engine.now note))) }
     ensures faults { HasCause (R.faults report.old) (R.faults report.new) result }
 {
     report.write(measure_report(engine).as_slice())

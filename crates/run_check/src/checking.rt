@@ -1,12 +1,12 @@
 //! The command `certify check`: whether a certificate is sound, and a mesh the one that it is of.
 
-ghost use Rattle.std.specs.Prelude.{◌≡◌, ◌≢◌, ◌+◌, ◌^◌, ◌≤◌, ◌⊎◌, List, Option, All, IfOk, None, Some, Err};
+ghost use Rattle.std.specs.Prelude.{ℕ, ◌≡◌, ◌≢◌, ◌+◌, ◌^◌, ◌≤◌, ◌⊎◌, List, Option, All, IfOk, None, Some, Err};
 ghost use Rattle.mesh_defs.specs.Triangle.{IsAddress};
 ghost use Rattle.roam_edge.specs.Fault.{Rose, next_count};
 ghost use Rattle.roam_edge.specs.MeshSink.{Mesh};
 ghost use Rattle.roam_edge.specs.Shelf.{NamedFile, bytes_of};
 ghost use Rattle.mesh_compare.specs.Differs.{first_difference};
-ghost use Rattle.run_laws.specs.Act.{told};
+ghost use Rattle.run_laws.specs.Act.{report_tells};
 ghost use Rattle.run_laws.specs.Cause.{StatusHasCause};
 ghost use Rattle.run_laws.specs.Words.{OnGrid, Check};
 ghost use Rattle.run_laws.specs.Certify.{IsFaultless};
@@ -47,18 +47,22 @@ pub fn run_check<F: Shelf, R: Sink>(
 ) -> Status
     requires opens { F.opens shelf.old ≤ 2 ^ 63 }
     requires bounds { AreInBounds words.now.budget words.now.spacing }
-    ensures outcome { (meshes : Option (List Mesh)) (files : List NamedFile) → F.files shelf.old ≡ Some files →
-        CommandEnds (told meshes (R.contents report.old)) (told meshes (R.contents report.new))
+    ensures outcome { (meshes : Option (List Mesh)) (count : ℕ) (files : List NamedFile) →
+        F.files shelf.old ≡ Some files →
+        CommandEnds (report_tells R.Sink meshes count report.old)
+        (report_tells R.Sink meshes count report.new)
         (seen (F.files shelf.old) (F.rest shelf.old) (F.opens shelf.old) (F.ended shelf.old))
         (seen (F.files shelf.new) (F.rest shelf.new) (F.opens shelf.new) (F.ended shelf.new))
         (OnGrid words.now.grid.now (Check (checking_seen words.now))) files result None }
-    ensures read_fault { result ≡ Status.ReadFault → (meshes : Option (List Mesh)) →
-        CommandReadFault (told meshes (R.contents report.old)) (told meshes (R.contents report.new))
+    ensures read_fault { result ≡ Status.ReadFault → (meshes : Option (List Mesh)) (count : ℕ) →
+        CommandReadFault (report_tells R.Sink meshes count report.old)
+        (report_tells R.Sink meshes count report.new)
         (seen (F.files shelf.old) (F.rest shelf.old) (F.opens shelf.old) (F.ended shelf.old))
         (seen (F.files shelf.new) (F.rest shelf.new) (F.opens shelf.new) (F.ended shelf.new))
         (OnGrid words.now.grid.now (Check (checking_seen words.now))) }
-    ensures no_memory { result ≡ Status.NoMemory → (meshes : Option (List Mesh)) →
-        CommandNoMemory (told meshes (R.contents report.old)) (told meshes (R.contents report.new))
+    ensures no_memory { result ≡ Status.NoMemory → (meshes : Option (List Mesh)) (count : ℕ) →
+        CommandNoMemory (report_tells R.Sink meshes count report.old)
+        (report_tells R.Sink meshes count report.new)
         (seen (F.files shelf.old) (F.rest shelf.old) (F.opens shelf.old) (F.ended shelf.old))
         (seen (F.files shelf.new) (F.rest shelf.new) (F.opens shelf.new) (F.ended shelf.new))
         (OnGrid words.now.grid.now (Check (checking_seen words.now))) }
@@ -102,7 +106,8 @@ fn judge<F: Shelf>(
 ) -> Result<Judgement, CheckStop>
     requires opens { F.opens shelf.old ≤ 2 ^ 63 + 1 }
     requires bounds { AreInBounds words.now.budget words.now.spacing }
-    ensures ok { IfOk result (λ judgement. (files : List NamedFile) → F.files shelf.old ≡ Some files →
+    ensures ok { IfOk result (λ judgement. (files : List NamedFile) →
+        F.files shelf.old ≡ Some files →
         IsJudged (checking_seen words.now) wedges.now files judgement) }
     ensures opens { IfOk result (λ judgement. F.opens shelf.new + 1 ≡ F.opens shelf.old + opened_for judgement) }
     ensures ended { IfOk result (λ judgement. judged_status judgement ≡ Status.Done →
@@ -134,7 +139,8 @@ fn judge_cert<F: Shelf>(
     requires opens { F.opens shelf.old ≤ 2 ^ 63 + 2 }
     requires bounds { AreInBounds words.now.budget words.now.spacing }
     requires leaves { All (IsAddress wedges.now.n) cert.now.leaves }
-    ensures ok { IfOk result (λ judgement. (files : List NamedFile) → F.files shelf.old ≡ Some files →
+    ensures ok { IfOk result (λ judgement. (files : List NamedFile) →
+        F.files shelf.old ≡ Some files →
         IsCheckOutcome (checking_seen words.now) wedges.now (Ok cert.now) (bytes_of files words.now.mesh.now)
         (judged_outcome judgement)) }
     ensures opens { IfOk result (λ judgement. F.opens shelf.new + 2 ≡ F.opens shelf.old + opened_for judgement) }
@@ -144,7 +150,8 @@ fn judge_cert<F: Shelf>(
         ⊎ ((F.opens shelf.new ≡ F.opens shelf.old + 1) × IsFaultless (checking_seen words.now) wedges.now cert.now) }
     ensures faultless { result ≡ Err CheckStop.Failed → IsFaultless (checking_seen words.now) wedges.now cert.now }
     ensures opened { result ≡ Err CheckStop.Failed → F.opens shelf.new ≡ F.opens shelf.old + 1 }
-    ensures stopped { result ≡ Err CheckStop.Failed → (files : List NamedFile) → F.files shelf.old ≡ Some files →
+    ensures stopped { result ≡ Err CheckStop.Failed → (files : List NamedFile) →
+        F.files shelf.old ≡ Some files →
         StopsReading (MeshHasRead (mesh_seen (checking_seen words.now) wedges.now cert.now))
         (bytes_of files words.now.mesh.now) (F.rest shelf.new) (F.ended shelf.new) }
     ensures files { F.files shelf.new ≡ F.files shelf.old }
@@ -185,7 +192,8 @@ fn difference<F: Shelf>(
     ensures ended { IfOk result (λ found. found ≡ None →
         HasEnded (seen (F.files shelf.new) (F.rest shelf.new) (F.opens shelf.new) (F.ended shelf.new))) }
     ensures opened { F.opens shelf.new ≡ next_count (F.opens shelf.old) }
-    ensures stopped { result ≡ Err CheckStop.Failed → (files : List NamedFile) → F.files shelf.old ≡ Some files →
+    ensures stopped { result ≡ Err CheckStop.Failed → (files : List NamedFile) →
+        F.files shelf.old ≡ Some files →
         StopsReading (MeshHasRead (mesh_seen (checking_seen words.now) wedges.now cert.now))
         (bytes_of files words.now.mesh.now) (F.rest shelf.new) (F.ended shelf.new) }
     ensures files { F.files shelf.new ≡ F.files shelf.old }

@@ -1,11 +1,11 @@
 //! The command `info`, and its line.
 
-ghost use Rattle.std.specs.Prelude.{◌≡◌, ◌≢◌, ◌+◌, ◌^◌, ◌<◌, ◌≤◌, List, Option, None, Some, max, length};
+ghost use Rattle.std.specs.Prelude.{ℕ, ◌≡◌, ◌≢◌, ◌+◌, ◌^◌, ◌<◌, ◌≤◌, List, Option, None, Some, max, length};
 ghost use Rattle.mesh_defs.specs.BoundingBox.{least, greatest};
 ghost use Rattle.mesh_defs.specs.Thickness.{thickness_of};
 ghost use Rattle.roam_edge.specs.MeshSink.{Mesh};
 ghost use Rattle.roam_edge.specs.Shelf.{NamedFile};
-ghost use Rattle.run_laws.specs.Act.{told};
+ghost use Rattle.run_laws.specs.Act.{report_tells};
 ghost use Rattle.run_laws.specs.Cause.{StatusHasCause};
 ghost use Rattle.run_laws.specs.Words.{OnGrid, Facts};
 ghost use Rattle.run_laws.specs.ReportText.{info_line};
@@ -35,18 +35,22 @@ pub fn run_info<F: Shelf, R: Sink>(
     report: &mut R,
 ) -> Status
     requires { F.opens shelf.old ≤ 2 ^ 63 }
-    ensures outcome { (meshes : Option (List Mesh)) (files : List NamedFile) → F.files shelf.old ≡ Some files →
-        CommandEnds (told meshes (R.contents report.old)) (told meshes (R.contents report.new))
+    ensures outcome { (meshes : Option (List Mesh)) (count : ℕ) (files : List NamedFile) →
+        F.files shelf.old ≡ Some files →
+        CommandEnds (report_tells R.Sink meshes count report.old)
+        (report_tells R.Sink meshes count report.new)
         (seen (F.files shelf.old) (F.rest shelf.old) (F.opens shelf.old) (F.ended shelf.old))
         (seen (F.files shelf.new) (F.rest shelf.new) (F.opens shelf.new) (F.ended shelf.new))
         (OnGrid name.now Facts) files result None }
-    ensures read_fault { result ≡ Status.ReadFault → (meshes : Option (List Mesh)) →
-        CommandReadFault (told meshes (R.contents report.old)) (told meshes (R.contents report.new))
+    ensures read_fault { result ≡ Status.ReadFault → (meshes : Option (List Mesh)) (count : ℕ) →
+        CommandReadFault (report_tells R.Sink meshes count report.old)
+        (report_tells R.Sink meshes count report.new)
         (seen (F.files shelf.old) (F.rest shelf.old) (F.opens shelf.old) (F.ended shelf.old))
         (seen (F.files shelf.new) (F.rest shelf.new) (F.opens shelf.new) (F.ended shelf.new))
         (OnGrid name.now Facts) }
-    ensures no_memory { result ≡ Status.NoMemory → (meshes : Option (List Mesh)) →
-        CommandNoMemory (told meshes (R.contents report.old)) (told meshes (R.contents report.new))
+    ensures no_memory { result ≡ Status.NoMemory → (meshes : Option (List Mesh)) (count : ℕ) →
+        CommandNoMemory (report_tells R.Sink meshes count report.old)
+        (report_tells R.Sink meshes count report.new)
         (seen (F.files shelf.old) (F.rest shelf.old) (F.opens shelf.old) (F.ended shelf.old))
         (seen (F.files shelf.new) (F.rest shelf.new) (F.opens shelf.new) (F.ended shelf.new))
         (OnGrid name.now Facts) }

@@ -2,7 +2,7 @@
 
 ghost use Rattle.std.specs.Prelude.{◌≡◌, ◌≢◌, ◌+◌, ◌^◌, ◌<◌, ◌≤◌, List, None, Some, false, OnOk, OnErr};
 ghost use Rattle.roam_edge.specs.Shelf.{NamedFile};
-ghost use Rattle.run_laws.specs.Act.{told, Stands, IsCutShort};
+ghost use Rattle.run_laws.specs.Act.{sinks_tell, Stands, IsCutShort};
 ghost use Rattle.run_laws.specs.Cause.{StatusHasCause, WritesHaveCause};
 ghost use Rattle.run_laws.specs.Words.{OnGrid, Fit};
 ghost use Rattle.run_laws.specs.Promise.{seen, HasEnded, CommandReadFault, CommandNoMemory};
@@ -36,20 +36,20 @@ pub fn run_fit<F: Shelf, M: MeshSink, R: Sink>(
     requires accepted { IsFitting words.now }
     requires opens { F.opens shelf.old ≤ 2 ^ 63 }
     ensures outcome { (files : List NamedFile) → F.files shelf.old ≡ Some files →
-        CommandEnds (told (M.meshes meshes.old) (R.contents report.old))
-        (told (M.meshes meshes.new) (R.contents report.new))
+        CommandEnds (sinks_tell M.MeshSink R.Sink meshes.old report.old)
+        (sinks_tell M.MeshSink R.Sink meshes.new report.new)
         (seen (F.files shelf.old) (F.rest shelf.old) (F.opens shelf.old) (F.ended shelf.old))
         (seen (F.files shelf.new) (F.rest shelf.new) (F.opens shelf.new) (F.ended shelf.new))
         (OnGrid words.now.grid.now (Fit (fitting_seen words.now))) files result None }
     ensures read_fault { result ≡ Status.ReadFault →
-        CommandReadFault (told (M.meshes meshes.old) (R.contents report.old))
-        (told (M.meshes meshes.new) (R.contents report.new))
+        CommandReadFault (sinks_tell M.MeshSink R.Sink meshes.old report.old)
+        (sinks_tell M.MeshSink R.Sink meshes.new report.new)
         (seen (F.files shelf.old) (F.rest shelf.old) (F.opens shelf.old) (F.ended shelf.old))
         (seen (F.files shelf.new) (F.rest shelf.new) (F.opens shelf.new) (F.ended shelf.new))
         (OnGrid words.now.grid.now (Fit (fitting_seen words.now))) }
     ensures no_memory { result ≡ Status.NoMemory →
-        CommandNoMemory (told (M.meshes meshes.old) (R.contents report.old))
-        (told (M.meshes meshes.new) (R.contents report.new))
+        CommandNoMemory (sinks_tell M.MeshSink R.Sink meshes.old report.old)
+        (sinks_tell M.MeshSink R.Sink meshes.new report.new)
         (seen (F.files shelf.old) (F.rest shelf.old) (F.opens shelf.old) (F.ended shelf.old))
         (seen (F.files shelf.new) (F.rest shelf.new) (F.opens shelf.new) (F.ended shelf.new))
         (OnGrid words.now.grid.now (Fit (fitting_seen words.now))) }
@@ -90,12 +90,12 @@ fn show<M: MeshSink, R: Sink>(
     requires idle { M.under_way meshes.old ≡ false }
     requires accepted { IsFitting words.now }
     requires level { fitted.now.fit.n ≡ fitted.now.wedges.n }
-    ensures ok { OnOk result (Stands (told (M.meshes meshes.old) (R.contents report.old))
-        (told (M.meshes meshes.new) (R.contents report.new))
+    ensures ok { OnOk result (Stands (sinks_tell M.MeshSink R.Sink meshes.old report.old)
+        (sinks_tell M.MeshSink R.Sink meshes.new report.new)
         (fitted_acts (fitting_seen words.now) fitted.now)) }
     ensures idle { OnOk result (M.under_way meshes.new ≡ false) }
-    ensures err { OnErr result (IsCutShort (told (M.meshes meshes.old) (R.contents report.old))
-        (told (M.meshes meshes.new) (R.contents report.new))
+    ensures err { OnErr result (IsCutShort (sinks_tell M.MeshSink R.Sink meshes.old report.old)
+        (sinks_tell M.MeshSink R.Sink meshes.new report.new)
         (fitted_acts (fitting_seen words.now) fitted.now)) }
     ensures faults { WritesHaveCause (M.faults meshes.old) (M.faults meshes.new)
         (R.faults report.old) (R.faults report.new) result }

@@ -1,9 +1,25 @@
 -- Acts that stand, one after another, and acts that were cut short.
-use Rattle.std.proofs.Common.{◌≡◌, ℕ, true, List, [], ◌∷◌, ◌++◌, Option, Some, refl, sym, ◌∙◌, ap, append_assoc, append-nil}
+use Rattle.std.proofs.Common.{◌≡◌, ℕ, true, List, [], ◌∷◌, ◌++◌, Option, Some, Result, Ok, Err, OnOk, OnErr, refl, sym, ◌∙◌, ap, subst, append_assoc, append-nil}
 use Rattle.roam_edge.specs.MeshSink.{Mesh}
 use Rattle.roam_edge.specs.Told.{IsPrefix}
+use Rattle.roam_edge.specs.Fault.{Rose}
 use Rattle.obj_write.specs.Written.{mesh_with, Grows, IsPartOfMesh}
 use Rattle.run_laws.specs.Act.{Act, WholeMesh, ReportText, Told, Stands, IsCutShort, StandsInPart, meshes_of, report_of, told}
+
+-- what two facts about an answer give
+pub both-ok : {T E P Q R : Type 0} (answer : Result T E) → (P → Q → R) → OnOk answer P → OnOk answer Q → OnOk answer R
+both-ok (Ok value) give one two = give one two
+both-ok (Err error) give one two = tt
+
+pub both-err : {T E P Q R : Type 0} (answer : Result T E) → (P → Q → R) → OnErr answer P → OnErr answer Q → OnErr answer R
+both-err (Ok value) give one two = tt
+both-err (Err error) give one two = give one two
+
+-- a count that rose from a later moment on rose from the first one on, if it was the same
+rose-since : (before middle now : ℕ) → middle ≡ before → Rose middle now → Rose before now
+rose-since before middle now same rose =
+    let P : ℕ → Type 0 = λ k. Rose k now in
+    subst P same rose
 
 -- nothing came
 pub grows-nothing : {A : Type 0} (before : Option (List A)) → Grows before before []
@@ -28,7 +44,8 @@ report_of-append (ReportText bytes ∷ first) second =
 
 -- no act was done
 pub stands-nothing : (before : Told) → Stands before before []
-stands-nothing before = record { meshes_grow = grows-nothing before.meshes; report_grows = grows-nothing before.report }
+stands-nothing before =
+    record { meshes_grow = grows-nothing before.meshes; report_grows = grows-nothing before.report; mesh_same = refl; report_same = refl }
 
 -- acts were done, and then others
 pub stands-append : (before middle now : Told) (first second : List Act)
@@ -36,6 +53,8 @@ pub stands-append : (before middle now : Told) (first second : List Act)
 stands-append before middle now first second one two = record {
   meshes_grow = rw (meshes_of-append first second) (grows-append before.meshes middle.meshes now.meshes (meshes_of first) (meshes_of second) one.meshes_grow two.meshes_grow);
   report_grows = rw (report_of-append first second) (grows-append before.report middle.report now.report (report_of first) (report_of second) one.report_grows two.report_grows);
+  mesh_same = two.mesh_same ∙ one.mesh_same;
+  report_same = two.report_same ∙ one.report_same;
 }
 
 -- acts were done, and then an act in part
@@ -51,6 +70,8 @@ part-append before middle now first done (WholeMesh prefix number bytes) one par
             ∙ ap (λ m. m ++ cut.0) (sym (meshes_of-append first done)))),
       ),
   rw (report_of-append first done) (grows-append before.report middle.report now.report (report_of first) (report_of done) one.report_grows part.1),
+  rose-since before.mesh_faults middle.mesh_faults now.mesh_faults one.mesh_same part.2,
+  part.3 ∙ one.report_same,
 )
 part-append before middle now first done (ReportText bytes) one part = (
   rw (meshes_of-append first done) (grows-append before.meshes middle.meshes now.meshes (meshes_of first) (meshes_of done) one.meshes_grow part.0),
@@ -62,6 +83,8 @@ part-append before middle now first done (ReportText bytes) one part = (
             ∙ ap (λ m. all ++ m) (sym (append_assoc (report_of first) (report_of done) cut.0)
             ∙ ap (λ m. m ++ cut.0) (sym (report_of-append first done)))),
       ),
+  rose-since before.report_faults middle.report_faults now.report_faults one.report_same part.2,
+  part.3 ∙ one.mesh_same,
 )
 
 -- acts were done, and then others were cut short
@@ -86,47 +109,51 @@ cut-longer before now acts more cut = record {
 }
 
 -- a mesh was cut short, and nothing else was done
-pub cut-mesh : (meshes meshes' : Option (List Mesh)) (report : Option (List ℕ)) (prefix : List ℕ) (number : ℕ) (bytes : List ℕ) (owed : List Act)
+pub cut-mesh : {k k' i : ℕ} (meshes meshes' : Option (List Mesh)) (report : Option (List ℕ)) (prefix : List ℕ) (number : ℕ)
+    (bytes : List ℕ) (owed : List Act)
     → ((all : List Mesh) → meshes ≡ Some all → (part : List Mesh) × IsPartOfMesh prefix number bytes part × (meshes' ≡ Some (all ++ part)))
-    → IsCutShort (told meshes report) (told meshes' report) (WholeMesh prefix number bytes ∷ owed)
-cut-mesh meshes meshes' report prefix number bytes owed part = record {
+    → Rose k k' → IsCutShort (told meshes report k i) (told meshes' report k' i) (WholeMesh prefix number bytes ∷ owed)
+cut-mesh meshes meshes' report prefix number bytes owed part rose = record {
   done = [];
   next = WholeMesh prefix number bytes;
   owed = owed;
   in_order = refl;
-  standing = (part, grows-nothing report);
+  standing = (part, grows-nothing report, rose, refl);
 }
 
 -- a mesh was written whole, and then a line was cut short
-pub cut-line : (meshes meshes' : Option (List Mesh)) (report report' : Option (List ℕ)) (prefix : List ℕ) (number : ℕ) (bytes line : List ℕ)
-    → Grows meshes meshes' (mesh_with prefix number bytes true ∷ [])
+pub cut-line : {k k' i i' : ℕ} (meshes meshes' : Option (List Mesh)) (report report' : Option (List ℕ)) (prefix : List ℕ)
+    (number : ℕ) (bytes line : List ℕ)
+    → Grows meshes meshes' (mesh_with prefix number bytes true ∷ []) → k' ≡ k
     → ((all : List ℕ) → report ≡ Some all → (front : List ℕ) × IsPrefix front line × (report' ≡ Some (all ++ front)))
-    → IsCutShort (told meshes report) (told meshes' report') (WholeMesh prefix number bytes ∷ (ReportText line ∷ []))
-cut-line meshes meshes' report report' prefix number bytes line whole part = record {
+    → Rose i i' → IsCutShort (told meshes report k i) (told meshes' report' k' i') (WholeMesh prefix number bytes ∷ (ReportText line ∷ []))
+cut-line meshes meshes' report report' prefix number bytes line whole same part rose = record {
   done = WholeMesh prefix number bytes ∷ [];
   next = ReportText line;
   owed = [];
   in_order = refl;
-  standing = (whole, part);
+  standing = (whole, part, rose, same);
 }
 
 -- a line was cut short, and nothing else was done
-pub cut-only-line : (meshes : Option (List Mesh)) (report report' : Option (List ℕ)) (line : List ℕ) (owed : List Act)
+pub cut-only-line : {k i i' : ℕ} (meshes : Option (List Mesh)) (report report' : Option (List ℕ)) (line : List ℕ) (owed : List Act)
     → ((all : List ℕ) → report ≡ Some all → (front : List ℕ) × IsPrefix front line × (report' ≡ Some (all ++ front)))
-    → IsCutShort (told meshes report) (told meshes report') (ReportText line ∷ owed)
-cut-only-line meshes report report' line owed part = record {
+    → Rose i i' → IsCutShort (told meshes report k i) (told meshes report' k i') (ReportText line ∷ owed)
+cut-only-line meshes report report' line owed part rose = record {
   done = [];
   next = ReportText line;
   owed = owed;
   in_order = refl;
-  standing = (grows-nothing meshes, part);
+  standing = (grows-nothing meshes, part, rose, refl);
 }
 
 -- a text was written
-pub stands-text : (meshes : Option (List Mesh)) (report report' : Option (List ℕ)) (text : List ℕ)
+pub stands-text : {k i i' : ℕ} (meshes : Option (List Mesh)) (report report' : Option (List ℕ)) (text : List ℕ)
     → ((all : List ℕ) → report ≡ Some all → report' ≡ Some (all ++ text))
-    → Stands (told meshes report) (told meshes report') (ReportText text ∷ [])
-stands-text meshes report report' text came = record {
+    → i' ≡ i → Stands (told meshes report k i) (told meshes report' k i') (ReportText text ∷ [])
+stands-text meshes report report' text came same = record {
   meshes_grow = grows-nothing meshes;
   report_grows = λ all is. came all is ∙ ap (λ m. Some (all ++ m)) (sym (append-nil text));
+  mesh_same = refl;
+  report_same = same;
 }

@@ -1,10 +1,11 @@
 -- Acts of frames that were cut short: which act was cut, and what stands of it.
-use Rattle.std.proofs.Common.{◌≡◌, ◌⊎◌, ℕ, zero, suc, ◌+◌, true, false, IsTrue, List, [], ◌∷◌, ◌++◌, take, Option, Some, None, slice_get, refl, sym, ◌∙◌, ap, subst, inl, inr, arith, append_assoc, append-nil}
+use Rattle.std.proofs.Common.{◌≡◌, ◌⊎◌, ℕ, zero, suc, ◌+◌, ◌-◌, ◌^◌, ◌<◌, true, false, IsTrue, List, [], ◌∷◌, ◌++◌, take, Option, Some, None, slice_get, refl, sym, ◌∙◌, ap, subst, inl, inr, arith, append_assoc, append-nil}
 use Rattle.std.specs.Prelude.{◌≢◌, Result}
 use Rattle.std.proofs.lemmas.Option.{none-some}
 use Rattle.mesh_defs.specs.HeightField.{HeightField}
 use Rattle.mesh_defs.specs.State.{text_in}
 use Rattle.roam_edge.specs.MeshSink.{Mesh}
+use Rattle.roam_edge.specs.Fault.{Rose}
 use Rattle.obj_write.specs.Written.{mesh_with, IsPartOfMesh}
 use Rattle.roam_edge.specs.Shelf.{bytes_of}
 use Rattle.pgm_grid.specs.declared.fault.PgmFault.{PgmFault}
@@ -13,11 +14,11 @@ use Rattle.run_laws.specs.declared.status.Status.{Status}
 use Rattle.run_laws.specs.declared.status.Status.TheVariants.{NoMemory, ReadFault, WriteFault}
 use Rattle.run_laws.specs.Walk.{Refusal}
 use Rattle.run_laws.specs.Words.{Show, AsMeshes, AsStrips, AsLeast, AsMeasures, AsSums, Frames, Command}
-use Rattle.run_laws.specs.Act.{Act, WholeMesh, ReportText, Told, Stands, StandsInPart, IsCutShort, meshes_of, report_of}
+use Rattle.run_laws.specs.Act.{Act, WholeMesh, ReportText, Told, StandsInPart, IsCutShort, meshes_of, report_of}
 use Rattle.run_laws.specs.Picture.{Picture, triangles_of, strip_triangles}
 use Rattle.run_laws.specs.Outcome.{Outcome, picture_acts, shown_acts, sum_acts, stop_acts, script_walk, IsScriptOutcome, IsGridOutcome, IsWordsOutcome, IsOutcome}
 use Rattle.run_laws.specs.ReportText.{frame_line, strip_line, least_line, measure_line, line_refusal}
-use Rattle.run_laws.specs.CutShort.{is_by_frame, first_frames, StandsInMesh, StandsInText, StandsInFrame, CutRunsStand, CutTextsStand, WriteFaultsStand}
+use Rattle.run_laws.specs.CutShort.{is_by_frame, first_frames, StandsUnbegun, StandsInMesh, StandsInText, IsCutInMesh, IsCutInLine, StandsInRun, SinksDecide, CutRunsStand, CutTextsStand, WriteFaultsStand}
 
 heads : (a b : Act) (xs ys : List Act) → a ∷ xs ≡ b ∷ ys → a ≡ b
 heads a b xs ys same = cc
@@ -110,33 +111,43 @@ some-one : {A : Type 0} (a b : A) → Some a ≡ Some b → a ≡ b
 some-one a b same = cc
 
 mesh_cases : (before now : Told) (acts : List Act) (prefix : List ℕ) (number : ℕ) (bytes : List ℕ) (meshes : Option (List Mesh)) → before.meshes ≡ meshes
-    → StandsInPart before now acts (WholeMesh prefix number bytes) → Stands before now acts ⊎ StandsInMesh before now acts prefix number bytes
+    → StandsInPart before now acts (WholeMesh prefix number bytes) → StandsUnbegun before now acts
+    ⊎ StandsInMesh before now acts prefix number bytes
 mesh_cases before now acts prefix number bytes None is part = inl (record {
-  meshes_grow = λ all told. absurd (none-some all (sym is ∙ told));
-  report_grows = part.1;
+  meshes = λ all told. absurd (none-some all (sym is ∙ told));
+  report = part.1;
+  failed = part.2;
+  report_same = part.3;
 })
 mesh_cases before now acts prefix number bytes (Some known) is part =
     let stood = part.0 known is in
-    mesh_cases_of before now acts prefix number bytes known is part.1 stood.0 stood.1 stood.2
+    mesh_cases_of before now acts prefix number bytes known is part.1 part.2 part.3 stood.0 stood.1 stood.2
   where
     mesh_cases_of : (before now : Told) (acts : List Act) (prefix : List ℕ) (number : ℕ) (bytes : List ℕ) (known : List Mesh) → before.meshes ≡ Some known
-        → ((all : List ℕ) → before.report ≡ Some all → now.report ≡ Some (all ++ report_of acts)) → (piece : List Mesh) → IsPartOfMesh prefix number bytes piece
-        → now.meshes ≡ Some (known ++ (meshes_of acts ++ piece)) → Stands before now acts ⊎ StandsInMesh before now acts prefix number bytes
-    mesh_cases_of before now acts prefix number bytes known is report piece (inl nothing) came = inl (record {
-      meshes_grow = λ all told.
+        → ((all : List ℕ) → before.report ≡ Some all → now.report ≡ Some (all ++ report_of acts))
+        → Rose before.mesh_faults now.mesh_faults → now.report_faults ≡ before.report_faults → (piece : List Mesh)
+        → IsPartOfMesh prefix number bytes piece
+        → now.meshes ≡ Some (known ++ (meshes_of acts ++ piece)) → StandsUnbegun before now acts
+        ⊎ StandsInMesh before now acts prefix number bytes
+    mesh_cases_of before now acts prefix number bytes known is report rose same_report piece (inl nothing) came = inl (record {
+      meshes = λ all told.
           let same = some-one known all (sym is ∙ told) in
           came ∙ ap (λ m. Some (known ++ m)) (ap (λ m. meshes_of acts ++ m) nothing ∙ append-nil (meshes_of acts)) ∙ ap (λ m. Some (m ++ meshes_of acts)) same;
-      report_grows = report;
+      report = report;
+      failed = rose;
+      report_same = same_report;
     })
-    mesh_cases_of before now acts prefix number bytes known is report piece (inr begun) came = inr (record {
+    mesh_cases_of before now acts prefix number bytes known is report rose same_report piece (inr begun) came = inr (record {
       mesh = λ all told.
           let same = some-one known all (sym is ∙ told) in
           (begun.0, begun.1, came ∙ ap (λ m. Some (known ++ (meshes_of acts ++ m))) begun.2 ∙ ap (λ m. Some (m ++ (meshes_of acts ++ mesh_with prefix number begun.0 false ∷ []))) same);
       report = report;
+      failed = rose;
+      report_same = same_report;
     })
 
 text_case : (before now : Told) (acts : List Act) (bytes : List ℕ) → StandsInPart before now acts (ReportText bytes) → StandsInText before now acts bytes
-text_case before now acts bytes part = record { meshes = part.0; report = part.1 }
+text_case before now acts bytes part = record { meshes = part.0; report = part.1; failed = part.2; mesh_same = part.3 }
 
 -- one text was cut short behind some acts
 text_cut : (before now : Told) (acts : List Act) (bytes : List ℕ) (mine : List Act) (next : Act) (owed : List Act) → ReportText bytes ∷ [] ≡ mine ++ next ∷ owed
@@ -149,7 +160,8 @@ text_cut before now acts bytes (d ∷ mine) next owed same part = absurd (not-em
 -- a mesh and a text behind it were cut short behind some acts
 pub mesh_cut : (before now : Told) (acts : List Act) (prefix : List ℕ) (number : ℕ) (bytes line : List ℕ) (mine : List Act) (next : Act) (owed : List Act)
     → WholeMesh prefix number bytes ∷ (ReportText line ∷ []) ≡ mine ++ next ∷ owed → StandsInPart before now (acts ++ mine) next
-    → Stands before now acts ⊎ StandsInMesh before now acts prefix number bytes ⊎ StandsInText before now (acts ++ WholeMesh prefix number bytes ∷ []) line
+    → StandsUnbegun before now acts ⊎ StandsInMesh before now acts prefix number bytes ⊎ StandsInText before now
+    (acts ++ WholeMesh prefix number bytes ∷ []) line
 mesh_cut before now acts prefix number bytes line [] next owed same part =
     let P : List Act → Type 0 = λ l. StandsInPart before now l (WholeMesh prefix number bytes) in
     elim (mesh_cases before now acts prefix number bytes before.meshes refl
@@ -165,16 +177,18 @@ mesh_cut before now acts prefix number bytes line (d ∷ mine) next owed same pa
 
 -- the same, with the prefix that is shown
 with_prefix : (before now : Told) (acts : List Act) (prefix : List ℕ) (shown : Option (List ℕ)) (number : ℕ) (bytes line : List ℕ) → shown ≡ Some prefix
-    → Stands before now acts ⊎ StandsInMesh before now acts prefix number bytes ⊎ StandsInText before now (acts ++ WholeMesh prefix number bytes ∷ []) line
-    → Stands before now acts ⊎ ((other : List ℕ) × (shown ≡ Some other) × StandsInMesh before now acts other number bytes)
+    → StandsUnbegun before now acts ⊎ StandsInMesh before now acts prefix number bytes ⊎ StandsInText before now
+    (acts ++ WholeMesh prefix number bytes ∷ []) line
+    → ((other : List ℕ) × (shown ≡ Some other) × (StandsUnbegun before now acts ⊎ StandsInMesh before now acts other number bytes))
     ⊎ StandsInText before now (acts ++ WholeMesh prefix number bytes ∷ []) line
-with_prefix before now acts prefix shown number bytes line is (inl none) = inl none
-with_prefix before now acts prefix shown number bytes line is (inr (inl some)) = inr (inl (prefix, is, some))
-with_prefix before now acts prefix shown number bytes line is (inr (inr text)) = inr (inr text)
+with_prefix before now acts prefix shown number bytes line is (inl none) = inl (prefix, is, inl none)
+with_prefix before now acts prefix shown number bytes line is (inr (inl some)) = inl (prefix, is, inr some)
+with_prefix before now acts prefix shown number bytes line is (inr (inr text)) = inr text
 
 -- the acts of a frame were cut short behind those of the frames before it
 frame_cut : (before now : Told) (acts : List Act) (show : Show) (number : ℕ) (picture : Picture) (mine : List Act) (next : Act) (owed : List Act)
-    → picture_acts show number picture ≡ mine ++ next ∷ owed → StandsInPart before now (acts ++ mine) next → StandsInFrame before now acts show number picture
+    → picture_acts show number picture ≡ mine ++ next ∷ owed → StandsInPart before now (acts ++ mine) next
+    → IsCutInMesh before now acts show number picture ⊎ IsCutInLine before now acts show number picture
 frame_cut before now acts (AsMeshes prefix) number picture mine next owed same part =
     with_prefix before now acts prefix (Some prefix) number (text_in picture.state (triangles_of picture)) (frame_line number picture) refl
     (mesh_cut before now acts prefix number (text_in picture.state (triangles_of picture)) (frame_line number picture) mine next owed same part)
@@ -187,17 +201,25 @@ frame_cut before now acts (AsLeast prefix tolerance) number picture mine next ow
 frame_cut before now acts AsMeasures number picture mine next owed same part =
     let line = text_cut before now acts (measure_line number picture) mine next owed same part in
     let P : List Act → Type 0 = λ l. StandsInText before now l (measure_line number picture) in
-    inr (inr (subst P (sym (append-nil acts)) line))
+    inr (subst P (sym (append-nil acts)) line)
 frame_cut before now acts (AsSums n seed) number picture mine next owed same part = absurd (not-empty mine next owed same)
 
 pub cut_runs : CutRunsStand
 cut_runs before now show pictures stop cut =
     elim (cut_at show 1 pictures (stop_acts stop) cut.done cut.next cut.owed cut.in_order) [
-      | inl frame ↦ inl (frame.j, frame.picture, frame.at, in_frame frame)
-      | inr last ↦ inr (in_refusal stop last)
+      | inl frame ↦ in_run frame.j frame.picture frame.at (in_frame frame)
+      | inr last ↦ inr (inr (in_refusal stop last))
     ]
   where
-    in_frame : (frame : CutInFrame show 1 pictures cut.done cut.next) → StandsInFrame before now (first_frames show pictures frame.j) show (frame.j + 1) frame.picture
+    in_run : (j : ℕ) (picture : Picture) → slice_get pictures j ≡ Some picture
+        → IsCutInMesh before now (first_frames show pictures j) show (j + 1) picture
+        ⊎ IsCutInLine before now (first_frames show pictures j) show (j + 1) picture → StandsInRun before now show pictures stop
+    in_run j picture at (inl mesh) = inl (j, picture, at, mesh)
+    in_run j picture at (inr line) = inr (inl (j, picture, at, line))
+
+    in_frame : (frame : CutInFrame show 1 pictures cut.done cut.next)
+        → IsCutInMesh before now (first_frames show pictures frame.j) show (frame.j + 1) frame.picture
+        ⊎ IsCutInLine before now (first_frames show pictures frame.j) show (frame.j + 1) frame.picture
     in_frame frame =
         let number : frame.j + 1 ≡ 1 + frame.j = omega arith in
         frame_cut before now (first_frames show pictures frame.j) show (frame.j + 1) frame.picture frame.mine cut.next frame.more
@@ -250,3 +272,30 @@ write_faults read before now old new words files s grid status ends failed run b
       shown = outcome.1;
       stands = cut_runs before now s.show outcome.0 stop (subst R acts (e.2.cut_short failed));
     }
+
+-- Which sink failed.
+
+not-rose : (old new : ℕ) → old < 2 ^ 64 - 1 → new ≡ old → Rose old new → ⊥
+not-rose old new low same rose = omega (arith, rose, same, low)
+
+module _ (before now : Told) (show : Show) (acts : List Act) (number : ℕ) (picture : Picture) where
+  -- no mesh was cut short where the meshes did not fail
+  mesh-failed : before.mesh_faults < 2 ^ 64 - 1 → now.mesh_faults ≡ before.mesh_faults → IsCutInMesh before now acts show number picture → ⊥
+  mesh-failed low same cut = elim cut.2 [
+    | inl none ↦ not-rose before.mesh_faults now.mesh_faults low same none.failed
+    | inr some ↦ not-rose before.mesh_faults now.mesh_faults low same some.failed
+  ]
+
+pub sinks-decide : SinksDecide
+sinks-decide before now show pictures stop (inl m) = (
+  λ low same. absurd (mesh-failed before now show (first_frames show pictures m.0) (m.0 + 1) m.1 low same m.3),
+  λ low same. m,
+)
+sinks-decide before now show pictures stop (inr (inl line)) = (
+  λ low same. inl line,
+  λ low same. absurd (not-rose before.report_faults now.report_faults low same line.3.failed),
+)
+sinks-decide before now show pictures stop (inr (inr last)) = (
+  λ low same. inr last,
+  λ low same. absurd (not-rose before.report_faults now.report_faults low same last.2.failed),
+)

@@ -82,7 +82,7 @@ module _ (read_texts : TextsAreRead) (words : List (List ℕ)) (files : List Nam
       let bytes : List ℕ = fit_text f.spacing grid triangles in
       let at = subst (λ (o : Outcome). IsCutShort before now o.acts) is.2 short in
       elim (mesh_cut before now [] f.prefix 1 bytes (fit_line grid triangles) at.done at.next at.owed at.in_order at.standing) [
-        | inl none ↦ nothing status undone none
+        | inl none ↦ record { added = []; behind = none.meshes all there; fits = tt; done = λ e. absurd (undone e) }
         | inr (inl part) ↦ in-mesh status undone bytes part
         | inr (inr text) ↦ record {
           added = mesh_with f.prefix 1 bytes true ∷ [];

@@ -3,7 +3,7 @@ use Rattle.std.proofs.Common.{◌≡◌, ◌≢◌, ℕ, ◌+◌, ◌^◌, ◌�
 use Rattle.std.proofs.Math.Nat.{min-eq_left}
 use Rattle.mesh_defs.specs.HeightField.{HeightField}
 use Rattle.mesh_defs.specs.State.{start_state}
-use Rattle.roam_edge.specs.Fault.{next_count}
+use Rattle.roam_edge.specs.Fault.{next_count, Rose}
 use Rattle.roam_edge.specs.MeshSink.{Mesh}
 use Rattle.roam_edge.specs.Shelf.{NamedFile, bytes_of}
 use Rattle.roam_edge.specs.Told.{IsPrefix}
@@ -39,11 +39,11 @@ next_count-two before middle now low is more =
     omega (arith, one, two)
 
 -- the last text of a run was cut short
-pub text-cut : (meshes : Option (List Mesh)) (report report' : Option (List ℕ)) (text : List ℕ) (status : Status) (files : ℕ)
+pub text-cut : {k i i' : ℕ} (meshes : Option (List Mesh)) (report report' : Option (List ℕ)) (text : List ℕ) (status : Status) (files : ℕ)
     → ((all : List ℕ) → report ≡ Some all → (front : List ℕ) × IsPrefix front text × (report' ≡ Some (all ++ front)))
-    → DoesAs (told meshes report) (told meshes report') (text_outcome text status files) ends.WriteFault
-text-cut meshes report report' text status files part =
-    record { complete = λ e. cc; cut_short = λ e. cut-only-line meshes report report' text [] part }
+    → Rose i i' → DoesAs (told meshes report k i) (told meshes report' k i') (text_outcome text status files) ends.WriteFault
+text-cut meshes report report' text status files part rose =
+    record { complete = λ e. cc; cut_short = λ e. cut-only-line meshes report report' text [] part rose }
 
 -- a command ends as the outcome says that what its grid is read as leads to
 pub ends-as : (before now : Told) (old new : Seen) (name : List ℕ) (job : Job) (files : List NamedFile) (answer : Result HeightField PgmFault) (end : Outcome) (status : Status)

@@ -3,6 +3,7 @@ use Rattle.std.proofs.Common.{◌≡◌, ◌≢◌, ℕ, true, List, [], ◌∷�
 use Rattle.mesh_defs.specs.State.{State}
 use Rattle.roam_edge.specs.MeshSink.{Mesh}
 use Rattle.roam_edge.specs.Told.{IsPrefix}
+use Rattle.roam_edge.specs.Fault.{Rose}
 use Rattle.obj_write.specs.Written.{mesh_with, Grows, IsPartOfMesh}
 use Rattle.roam_script.specs.declared.line.Line.{Line}
 use Rattle.roam_script.specs.declared.line.Line.TheVariants.{Blank, Camera, Set, Plane, NoPlanes, Budget, Raise, Frame}
@@ -27,14 +28,15 @@ module _ (meshes meshes' : Option (List Mesh)) (report report' : Option (List �
   acts = WholeMesh prefix number bytes ∷ (ReportText line ∷ [])
 
   -- the mesh was cut short
-  pub cut-acts-mesh : ((all : List Mesh) → meshes ≡ Some all → (part : List Mesh) × IsPartOfMesh prefix count text part × (meshes' ≡ Some (all ++ part)))
-      → IsCutShort (told meshes report) (told meshes' report) acts
-  cut-acts-mesh part =
+  pub cut-acts-mesh : {k k' i : ℕ} → ((all : List Mesh) → meshes ≡ Some all → (part : List Mesh)
+      × IsPartOfMesh prefix count text part × (meshes' ≡ Some (all ++ part)))
+      → Rose k k' → IsCutShort (told meshes report k i) (told meshes' report k' i) acts
+  cut-acts-mesh part rose =
       let P : List ℕ → Type 0 = λ t. (all : List Mesh) → meshes ≡ Some all → (cut : List Mesh) × IsPartOfMesh prefix number t cut × (meshes' ≡ Some (all ++ cut)) in
       let Q : ℕ → Type 0 = λ k. (all : List Mesh) → meshes ≡ Some all → (cut : List Mesh) × IsPartOfMesh prefix k text cut × (meshes' ≡ Some (all ++ cut)) in
-      cut-mesh meshes meshes' report prefix number bytes (ReportText line ∷ []) (subst P is (subst Q same part))
+      cut-mesh meshes meshes' report prefix number bytes (ReportText line ∷ []) (subst P is (subst Q same part)) rose
 
-  module _ (whole : Grows meshes meshes' (mesh_with prefix count text true ∷ [])) where
+  module _ {k k' : ℕ} (whole : Grows meshes meshes' (mesh_with prefix count text true ∷ [])) (unmoved : k' ≡ k) where
     grown : Grows meshes meshes' (mesh_with prefix number bytes true ∷ [])
     grown =
         let P : List ℕ → Type 0 = λ t. Grows meshes meshes' (mesh_with prefix number t true ∷ []) in
@@ -42,23 +44,34 @@ module _ (meshes meshes' : Option (List Mesh)) (report report' : Option (List �
         subst P is (subst Q same whole)
 
     -- the line was cut short
-    pub cut-acts-line : ((all : List ℕ) → report ≡ Some all → (front : List ℕ) × IsPrefix front words × (report' ≡ Some (all ++ front)))
-        → IsCutShort (told meshes report) (told meshes' report') acts
-    cut-acts-line part =
+    pub cut-acts-line : {i i' : ℕ} → ((all : List ℕ) → report ≡ Some all → (front : List ℕ) × IsPrefix front words × (report' ≡ Some
+        (all ++ front)))
+        → Rose i i' → IsCutShort (told meshes report k i) (told meshes' report' k' i') acts
+    cut-acts-line part rose =
         let P : List ℕ → Type 0 = λ t. (all : List ℕ) → report ≡ Some all → (front : List ℕ) × IsPrefix front t × (report' ≡ Some (all ++ front)) in
-        cut-line meshes meshes' report report' prefix number bytes line grown (subst P says part)
+        cut-line meshes meshes' report report' prefix number bytes line grown unmoved (subst P says part) rose
 
     -- both were written
-    pub stands-acts : ((all : List ℕ) → report ≡ Some all → report' ≡ Some (all ++ words)) → Stands (told meshes report) (told meshes' report') acts
-    stands-acts came =
+    pub stands-acts : {i i' : ℕ} → ((all : List ℕ) → report ≡ Some all → report' ≡ Some (all ++ words)) → i' ≡ i
+        → Stands (told meshes report k i) (told meshes' report' k' i') acts
+    stands-acts came same_report =
         let P : List ℕ → Type 0 = λ t. (all : List ℕ) → report ≡ Some all → report' ≡ Some (all ++ t) in
-        let text_came = stands-text meshes' report report' line (subst P says came) in
-        record { meshes_grow = grown; report_grows = text_came.report_grows }
+        let text_came = stands-text {k = k'} meshes' report report' line (subst P says came) same_report in
+        record { meshes_grow = grown; report_grows = text_came.report_grows; mesh_same = unmoved; report_same = same_report }
 
--- one line, cut short
+-- one line
 module _ (meshes : Option (List Mesh)) (report report' : Option (List ℕ)) (line words : List ℕ) (says : words ≡ line) where
-  pub cut-words : ((all : List ℕ) → report ≡ Some all → (front : List ℕ) × IsPrefix front words × (report' ≡ Some (all ++ front)))
-      → IsCutShort (told meshes report) (told meshes report') (ReportText line ∷ [])
-  cut-words part =
+  -- one line, cut short
+  pub cut-words : {k i i' : ℕ} → ((all : List ℕ) → report ≡ Some all → (front : List ℕ) × IsPrefix front words × (report' ≡ Some
+      (all ++ front)))
+      → Rose i i' → IsCutShort (told meshes report k i) (told meshes report' k i') (ReportText line ∷ [])
+  cut-words part rose =
       let P : List ℕ → Type 0 = λ t. (all : List ℕ) → report ≡ Some all → (front : List ℕ) × IsPrefix front t × (report' ≡ Some (all ++ front)) in
-      cut-only-line meshes report report' line [] (subst P says part)
+      cut-only-line meshes report report' line [] (subst P says part) rose
+
+  -- one line, written
+  pub stands-words : {k i i' : ℕ} → ((all : List ℕ) → report ≡ Some all → report' ≡ Some (all ++ words)) → i' ≡ i
+      → Stands (told meshes report k i) (told meshes report' k i') (ReportText line ∷ [])
+  stands-words came same =
+      let P : List ℕ → Type 0 = λ t. (all : List ℕ) → report ≡ Some all → report' ≡ Some (all ++ t) in
+      stands-text meshes report report' line (subst P says came) same

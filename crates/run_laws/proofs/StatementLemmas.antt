@@ -84,9 +84,9 @@ module _ (before now : Moment) (words : List (List ℕ)) (status : Status) where
       → (status ≡ Usage) ↔ (command_of words ≡ None)
       → (status ≡ ReadFault) ↔ (before.shelf_faults < now.shelf_faults)
       → (status ≡ WriteFault)
-      ↔ ((before.mesh_faults < now.mesh_faults) ⊎ (before.report_faults < now.report_faults))
-      → StatusHasCause before.shelf_faults now.shelf_faults before.mesh_faults now.mesh_faults
-      before.report_faults now.report_faults status
+      ↔ ((before.sinks.mesh_faults < now.sinks.mesh_faults) ⊎ (before.sinks.report_faults < now.sinks.report_faults))
+      → StatusHasCause before.shelf_faults now.shelf_faults before.sinks.mesh_faults now.sinks.mesh_faults
+      before.sinks.report_faults now.sinks.report_faults status
       → IsCaused before now words status
   is-caused allows none read_cause write_cause cause = record {
     allowed = allows;
@@ -95,10 +95,10 @@ module _ (before now : Moment) (words : List (List ℕ)) (status : Status) where
     write = write_cause;
     shelf_later = by-read (before.shelf_faults ≤ now.shelf_faults) status (λ is. least-less _ _ (read_cause.0 is))
         (λ not. least-same _ _ (cause.not_read not));
-    mesh_later = by-write (before.mesh_faults ≤ now.mesh_faults) status
+    mesh_later = by-write (before.sinks.mesh_faults ≤ now.sinks.mesh_faults) status
         (λ is. (cause.writes.write is).meshes_later)
         (λ not. least-same _ _ (cause.writes.not_write not).meshes_same);
-    report_later = by-write (before.report_faults ≤ now.report_faults) status
+    report_later = by-write (before.sinks.report_faults ≤ now.sinks.report_faults) status
         (λ is. (cause.writes.write is).report_later)
         (λ not. least-same _ _ (cause.writes.not_write not).report_same);
   }

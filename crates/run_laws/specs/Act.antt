@@ -1,9 +1,12 @@
 -- What a run does to the outside: a list of acts, each a whole mesh or a text at the end of the report.
 -- This project's own words.
--- Words: Act, meshes_of, report_of, Told, told, Stands, StandsInPart, IsCutShort.
+-- Words: Act, meshes_of, report_of, Told, told, sinks_tell, report_tells, Stands, StandsInPart, IsCutShort.
 use Rattle.std.specs.Prelude.{◌≡◌, ℕ, true, List, [], ◌∷◌, ◌++◌, Option, Some}
 use Rattle.roam_edge.specs.MeshSink.{Mesh}
 use Rattle.roam_edge.specs.Told.{IsPrefix}
+use Rattle.roam_edge.specs.Fault.{Rose}
+use Rattle.roam_edge.specs.declared.mesh_sink.MeshSink as showing
+use Rattle.roam_edge.specs.declared.sink.Sink as reporting
 use Rattle.obj_write.specs.Written.{mesh_with, Grows, IsPartOfMesh}
 
 -- a whole mesh, written and finished; or a text at the end of the report
@@ -23,29 +26,45 @@ report_of [] = []
 report_of (WholeMesh prefix number bytes ∷ acts) = report_of acts
 report_of (ReportText bytes ∷ acts) = bytes ++ report_of acts
 
--- what a sink of meshes and a report tell at one moment
+-- what a sink of meshes and a report tell at one moment, and how often each has failed
 pub record Told : Type 0 where
   pub meshes : Option (List Mesh)
   pub report : Option (List ℕ)
+  pub mesh_faults : ℕ
+  pub report_faults : ℕ
 
-abbrev pub told : Option (List Mesh) → Option (List ℕ) → Told
-told all_meshes all_bytes = record { meshes = all_meshes; report = all_bytes }
+abbrev pub told : Option (List Mesh) → Option (List ℕ) → ℕ → ℕ → Told
+told all_meshes all_bytes meshes_failed report_failed =
+    record { meshes = all_meshes; report = all_bytes; mesh_faults = meshes_failed; report_faults = report_failed }
 
--- These acts were added to meshes and report, in order, and nothing else.
+-- what a sink of meshes and a report tell
+abbrev pub sinks_tell : {M R : Type 0} → showing.Ghosts M → reporting.Ghosts R → M → R → Told
+sinks_tell m r meshes report = told (m.meshes meshes) (r.contents report) (m.faults meshes) (r.faults report)
+
+-- what a report tells, beside any meshes that have failed so often
+abbrev pub report_tells : {R : Type 0} → reporting.Ghosts R → Option (List Mesh) → ℕ → R → Told
+report_tells r meshes count report = told meshes (r.contents report) count (r.faults report)
+
+-- These acts were added to meshes and report, in order, and nothing else; and neither has failed.
 pub record Stands (before now : Told) (acts : List Act) : Type 0 where
   pub meshes_grow : Grows before.meshes now.meshes (meshes_of acts)
   pub report_grows : Grows before.report now.report (report_of acts)
+  pub mesh_same : now.mesh_faults ≡ before.mesh_faults
+  pub report_same : now.report_faults ≡ before.report_faults
 
--- the acts done were added, and a part of the next one
+-- The acts done were added, and a part of the next one: of a mesh, and then the meshes failed and the report did not; or of a text,
+-- and then the report failed and the meshes did not.
 abbrev pub StandsInPart : Told → Told → List Act → Act → Type 0
 StandsInPart before now done (WholeMesh prefix number bytes) =
     ((all : List Mesh) → before.meshes ≡ Some all → (part : List Mesh) × IsPartOfMesh prefix number bytes part
     × (now.meshes ≡ Some (all ++ (meshes_of done ++ part))))
     × Grows before.report now.report (report_of done)
+    × Rose before.mesh_faults now.mesh_faults × (now.report_faults ≡ before.report_faults)
 StandsInPart before now done (ReportText bytes) =
     Grows before.meshes now.meshes (meshes_of done)
     × ((all : List ℕ) → before.report ≡ Some all → (front : List ℕ) × IsPrefix front bytes
     × (now.report ≡ Some (all ++ (report_of done ++ front))))
+    × Rose before.report_faults now.report_faults × (now.mesh_faults ≡ before.mesh_faults)
 
 -- The acts were cut short: some were added whole and in order, and of the next one a part. So a mesh that
 -- was finished stays, and an unfinished mesh or a cut text is a prefix of what was owed.

@@ -4,27 +4,22 @@ use Rattle.std.specs.Prelude.{ℕ, Bool}
 use Rattle.roam_edge.specs.declared.shelf.Shelf as reading
 use Rattle.roam_edge.specs.declared.mesh_sink.MeshSink as showing
 use Rattle.roam_edge.specs.declared.sink.Sink as reporting
-use Rattle.run_laws.specs.Act.{Told, told}
+use Rattle.run_laws.specs.Act.{Told, sinks_tell}
 use Rattle.run_laws.specs.Promise.{Seen, seen}
 
--- what the shelf tells, what the two sinks tell, whether a mesh is begun and not finished, and how often each of the three has
--- failed
+-- what the shelf tells, what the two sinks tell, whether a mesh is begun and not finished, and how often the shelf has failed
 pub record Moment : Type 0 where
   pub shelf : Seen
   pub sinks : Told
   pub under_way : Bool
   pub shelf_faults : ℕ
-  pub mesh_faults : ℕ
-  pub report_faults : ℕ
 
 -- the moment of a shelf, a sink of meshes and a report, by what each of them tells
 abbrev pub moment : {F M R : Type 0} → reading.Ghosts F → showing.Ghosts M → reporting.Ghosts R
     → F → M → R → Moment
 moment f m r files meshes report = record {
   shelf = seen (f.files files) (f.rest files) (f.opens files) (f.ended files);
-  sinks = told (m.meshes meshes) (r.contents report);
+  sinks = sinks_tell m r meshes report;
   under_way = m.under_way meshes;
   shelf_faults = f.faults files;
-  mesh_faults = m.faults meshes;
-  report_faults = r.faults report;
 }

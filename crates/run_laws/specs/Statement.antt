@@ -92,7 +92,7 @@ pub record IsCaused (before now : Moment) (words : List (List ℕ)) (status : St
   pub usage : (status ≡ Usage) ↔ (command_of words ≡ None)
   pub read : (status ≡ ReadFault) ↔ (before.shelf_faults < now.shelf_faults)
   pub write : (status ≡ WriteFault)
-      ↔ ((before.mesh_faults < now.mesh_faults) ⊎ (before.report_faults < now.report_faults))
+      ↔ ((before.sinks.mesh_faults < now.sinks.mesh_faults) ⊎ (before.sinks.report_faults < now.sinks.report_faults))
   pub shelf_later : before.shelf_faults ≤ now.shelf_faults
-  pub mesh_later : before.mesh_faults ≤ now.mesh_faults
-  pub report_later : before.report_faults ≤ now.report_faults
+  pub mesh_later : before.sinks.mesh_faults ≤ now.sinks.mesh_faults
+  pub report_later : before.sinks.report_faults ≤ now.sinks.report_faults

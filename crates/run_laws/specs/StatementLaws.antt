@@ -58,12 +58,12 @@ CompleteFollows =
     (files : List NamedFile)
     → EndsByStatus before now words status left → IsCaused before now words status
     → AreFiles before.shelf.files words files → IsAccepted words files
-    → now.shelf_faults ≡ before.shelf_faults → now.mesh_faults ≡ before.mesh_faults
-    → now.report_faults ≡ before.report_faults → (status ≡ Done) ⊎ (status ≡ NoMemory)
+    → now.shelf_faults ≡ before.shelf_faults → now.sinks.mesh_faults ≡ before.sinks.mesh_faults
+    → now.sinks.report_faults ≡ before.sinks.report_faults → (status ≡ Done) ⊎ (status ≡ NoMemory)
 
 -- a count of faults rose only where the status names it, and then by one at least, unless it stands at its greatest value
 abbrev pub FaultsFollow : Type 0
 FaultsFollow = (before now : Moment) (words : List (List ℕ)) (status : Status)
     → IsCaused before now words status
-    → StatusHasCause before.shelf_faults now.shelf_faults before.mesh_faults now.mesh_faults
-    before.report_faults now.report_faults status
+    → StatusHasCause before.shelf_faults now.shelf_faults before.sinks.mesh_faults now.sinks.mesh_faults
+    before.sinks.report_faults now.sinks.report_faults status

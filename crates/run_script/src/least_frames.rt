@@ -9,7 +9,7 @@ ghost use Rattle.roam_script.specs.declared.limits.Limits.{Limits as LimitsSeen}
 ghost use Rattle.roam_script.specs.declared.limits.TheConstants.{MOST_FRAMES};
 ghost use Rattle.wedgie_tree.specs.declared.wedges.TheConstants.{GREATEST_SPACING};
 ghost use Rattle.least_laws.specs.Least.{IsLeastList};
-ghost use Rattle.run_laws.specs.Act.{told, Stands, IsCutShort};
+ghost use Rattle.run_laws.specs.Act.{sinks_tell, Stands, IsCutShort};
 ghost use Rattle.run_laws.specs.Cause.{WritesHaveCause};
 ghost use Rattle.run_laws.specs.Walk.{start_walk, state_after};
 ghost use Rattle.run_laws.specs.Words.{AsLeast};
@@ -152,11 +152,11 @@ impl<'a> LeastFrames<'a> {
         requires level { self.now.least.n ≡ self.now.wedges.n }
         requires spacing_low { 1 ≤ self.now.spacing }
         requires spacing_high { self.now.spacing ≤ GREATEST_SPACING }
-        ensures ok { OnOk result (Stands (told (M.meshes meshes.old) (R.contents report.old))
-            (told (M.meshes meshes.new) (R.contents report.new)) (least_acts self.now note.now)) }
+        ensures ok { OnOk result (Stands (sinks_tell M.MeshSink R.Sink meshes.old report.old)
+            (sinks_tell M.MeshSink R.Sink meshes.new report.new) (least_acts self.now note.now)) }
         ensures idle { OnOk result (M.under_way meshes.new ≡ false) }
-        ensures err { OnErr result (IsCutShort (told (M.meshes meshes.old) (R.contents report.old))
-            (told (M.meshes meshes.new) (R.contents report.new)) (least_acts self.now note.now)) }
+        ensures err { OnErr result (IsCutShort (sinks_tell M.MeshSink R.Sink meshes.old report.old)
+            (sinks_tell M.MeshSink R.Sink meshes.new report.new) (least_acts self.now note.now)) }
         ensures faults { WritesHaveCause (M.faults meshes.old) (M.faults meshes.new)
             (R.faults report.old) (R.faults report.new) result }
     {

@@ -2,7 +2,7 @@
 
 ghost use Rattle.std.specs.Prelude.{◌≡◌, ◌≢◌, ◌^◌, ◌≤◌, List, None, Some, false};
 ghost use Rattle.roam_edge.specs.Shelf.{NamedFile};
-ghost use Rattle.run_laws.specs.Act.{told};
+ghost use Rattle.run_laws.specs.Act.{sinks_tell};
 ghost use Rattle.run_laws.specs.Cause.{StatusHasCause};
 ghost use Rattle.run_laws.specs.Words.{OnGrid, Frames, AsLeast};
 ghost use Rattle.run_laws.specs.Promise.{seen, HasEnded, OpensForStatus, CommandReadFault, CommandNoMemory};
@@ -37,20 +37,20 @@ pub fn run_least<F: Shelf, M: MeshSink, R: Sink>(
     requires shown { show_for command.now.making ≡ AsLeast prefix.now tolerance }
     requires opens { F.opens shelf.old ≤ 2 ^ 63 }
     ensures outcome { (files : List NamedFile) → F.files shelf.old ≡ Some files →
-        CommandEnds (told (M.meshes meshes.old) (R.contents report.old))
-        (told (M.meshes meshes.new) (R.contents report.new))
+        CommandEnds (sinks_tell M.MeshSink R.Sink meshes.old report.old)
+        (sinks_tell M.MeshSink R.Sink meshes.new report.new)
         (seen (F.files shelf.old) (F.rest shelf.old) (F.opens shelf.old) (F.ended shelf.old))
         (seen (F.files shelf.new) (F.rest shelf.new) (F.opens shelf.new) (F.ended shelf.new))
         (OnGrid command.now.grid.now (Frames (scripted_seen command.now))) files result None }
     ensures read_fault { result ≡ Status.ReadFault →
-        CommandReadFault (told (M.meshes meshes.old) (R.contents report.old))
-        (told (M.meshes meshes.new) (R.contents report.new))
+        CommandReadFault (sinks_tell M.MeshSink R.Sink meshes.old report.old)
+        (sinks_tell M.MeshSink R.Sink meshes.new report.new)
         (seen (F.files shelf.old) (F.rest shelf.old) (F.opens shelf.old) (F.ended shelf.old))
         (seen (F.files shelf.new) (F.rest shelf.new) (F.opens shelf.new) (F.ended shelf.new))
         (OnGrid command.now.grid.now (Frames (scripted_seen command.now))) }
     ensures no_memory { result ≡ Status.NoMemory →
-        CommandNoMemory (told (M.meshes meshes.old) (R.contents report.old))
-        (told (M.meshes meshes.new) (R.contents report.new))
+        CommandNoMemory (sinks_tell M.MeshSink R.Sink meshes.old report.old)
+        (sinks_tell M.MeshSink R.Sink meshes.new report.new)
         (seen (F.files shelf.old) (F.rest shelf.old) (F.opens shelf.old) (F.ended shelf.old))
         (seen (F.files shelf.new) (F.rest shelf.new) (F.opens shelf.new) (F.ended shelf.new))
         (OnGrid command.now.grid.now (Frames (scripted_seen command.now))) }

@@ -5,7 +5,7 @@ ghost use Rattle.mesh_defs.specs.declared.level.TheConstants.{GREATEST_LEVEL};
 ghost use Rattle.roam_script.specs.declared.limits.Limits.{Limits as LimitsSeen};
 ghost use Rattle.roam_script.specs.declared.limits.TheConstants.{MOST_LINES};
 ghost use Rattle.roam_script.specs.Laws.{LiesInRange};
-ghost use Rattle.run_laws.specs.Act.{told};
+ghost use Rattle.run_laws.specs.Act.{sinks_tell};
 ghost use Rattle.run_laws.specs.Cause.{WritesHaveCause};
 ghost use Rattle.run_laws.specs.Picture.{Picture};
 ghost use Rattle.run_laws.specs.Walk.{Walk, limits_of, after_line};
@@ -54,8 +54,9 @@ pub trait FrameMaker {
         requires ready { (lines : ℕ) × is_ready self.old lines × (lines < MOST_LINES) }
         requires ranges { (limits : LimitsSeen) × is_under self.old limits × LiesInRange limits Line.Frame }
         ensures outcome { (show : Show) (walk : Walk) (pictures : List Picture) → follows self.old show walk pictures →
-            TakesFrame (told (M.meshes meshes.old) (R.contents report.old))
-            (told (M.meshes meshes.new) (R.contents report.new)) show walk pictures (follows self.new) result }
+            TakesFrame (sinks_tell M.MeshSink R.Sink meshes.old report.old)
+            (sinks_tell M.MeshSink R.Sink meshes.new report.new)
+            show walk pictures (follows self.new) result }
         ensures ready { (lines : ℕ) → is_ready self.old lines → is_ready self.new (lines + 1) }
         ensures idle { OnOk result (M.under_way meshes.new ≡ false) }
         ensures faults { WritesHaveCause (M.faults meshes.old) (M.faults meshes.new)

@@ -8,7 +8,7 @@ ghost use Rattle.run_laws.specs.Cause.{StatusHasCause, StatusWritesHaveCause};
 ghost use Rattle.run_laws.specs.Promise.{seen, HasEnded};
 ghost use Rattle.run_laws.specs.Walk.{Walk};
 ghost use Rattle.run_laws.specs.Words.{Show};
-ghost use Rattle.run_laws.specs.Act.{Told, told};
+ghost use Rattle.run_laws.specs.Act.{Told, sinks_tell};
 ghost use Rattle.run_laws.specs.ReportText.{line_refusal};
 ghost use Rattle.run_script.specs.StageView.{IsStage, IsAt};
 ghost use Rattle.run_laws.specs.Maker.{Starts, Begins, refusal, IsScriptEnd, EndsScript, ScriptHasCome};
@@ -51,8 +51,10 @@ fn take_line<K: FrameMaker, M: MeshSink, R: Sink>(
     requires ready { K.is_ready frames.old stage.old.lines }
     requires stage { IsStage stage.old }
     ensures outcome { (before : Told) (show : Show) (start : Walk) (read : List ℕ) → Starts start →
-        IsAt before (told (M.meshes meshes.old) (R.contents report.old)) show (K.follows frames.old) start read stage.old →
-        TakesBytes before (told (M.meshes meshes.new) (R.contents report.new)) show (K.follows frames.new) start
+        IsAt before (sinks_tell M.MeshSink R.Sink meshes.old report.old)
+        show (K.follows frames.old) start read stage.old →
+        TakesBytes before (sinks_tell M.MeshSink R.Sink meshes.new report.new)
+        show (K.follows frames.new) start
         (read ++ 10 ∷ []) stage.new result }
     ensures ready { OnOk result (K.is_ready frames.new stage.new.lines) }
     ensures stage { OnOk result (IsStage stage.new) }
@@ -97,8 +99,10 @@ fn take_byte<K: FrameMaker, M: MeshSink, R: Sink>(
     requires ready { K.is_ready frames.old stage.old.lines }
     requires stage { IsStage stage.old }
     ensures outcome { (before : Told) (show : Show) (start : Walk) (read : List ℕ) → Starts start →
-        IsAt before (told (M.meshes meshes.old) (R.contents report.old)) show (K.follows frames.old) start read stage.old →
-        TakesBytes before (told (M.meshes meshes.new) (R.contents report.new)) show (K.follows frames.new) start
+        IsAt before (sinks_tell M.MeshSink R.Sink meshes.old report.old)
+        show (K.follows frames.old) start read stage.old →
+        TakesBytes before (sinks_tell M.MeshSink R.Sink meshes.new report.new)
+        show (K.follows frames.new) start
         (read ++ byte ∷ []) stage.new result }
     ensures ready { OnOk result (K.is_ready frames.new stage.new.lines) }
     ensures stage { OnOk result (IsStage stage.new) }
@@ -135,8 +139,10 @@ fn take_piece<K: FrameMaker, M: MeshSink, R: Sink>(
     requires ready { K.is_ready frames.old stage.old.lines }
     requires stage { IsStage stage.old }
     ensures outcome { (before : Told) (show : Show) (start : Walk) (read : List ℕ) → Starts start →
-        IsAt before (told (M.meshes meshes.old) (R.contents report.old)) show (K.follows frames.old) start read stage.old →
-        TakesBytes before (told (M.meshes meshes.new) (R.contents report.new)) show (K.follows frames.new) start
+        IsAt before (sinks_tell M.MeshSink R.Sink meshes.old report.old)
+        show (K.follows frames.old) start read stage.old →
+        TakesBytes before (sinks_tell M.MeshSink R.Sink meshes.new report.new)
+        show (K.follows frames.new) start
         (read ++ piece.now) stage.new result }
     ensures ready { OnOk result (K.is_ready frames.new stage.new.lines) }
     ensures stage { OnOk result (IsStage stage.new) }
@@ -173,8 +179,10 @@ fn end_script<K: FrameMaker, M: MeshSink, R: Sink>(
     requires ready { K.is_ready frames.old stage.old.lines }
     requires stage { IsStage stage.old }
     ensures ends { (before : Told) (show : Show) (start : Walk) (read : List ℕ) → Starts start →
-        IsAt before (told (M.meshes meshes.old) (R.contents report.old)) show (K.follows frames.old) start read stage.old →
-        EndsScript before (told (M.meshes meshes.new) (R.contents report.new)) show (K.follows frames.new) start read result }
+        IsAt before (sinks_tell M.MeshSink R.Sink meshes.old report.old)
+        show (K.follows frames.old) start read stage.old →
+        EndsScript before (sinks_tell M.MeshSink R.Sink meshes.new report.new)
+        show (K.follows frames.new) start read result }
     ensures status { IsScriptEnd result }
     ensures idle { result ≢ Status.WriteFault → M.under_way meshes.new ≡ false }
     ensures faults { StatusWritesHaveCause (M.faults meshes.old) (M.faults meshes.new)
@@ -201,13 +209,13 @@ pub fn run_script<K: FrameMaker, F: Shelf, M: MeshSink, R: Sink>(
     requires ready { K.is_ready frames.old 0 }
     ensures ends { (show : Show) (start : Walk) → Begins show (K.follows frames.old) start →
         (files : List NamedFile) → F.files shelf.old ≡ Some files → result ≢ Status.ReadFault →
-        EndsScript (told (M.meshes meshes.old) (R.contents report.old))
-        (told (M.meshes meshes.new) (R.contents report.new)) show (K.follows frames.new) start
+        EndsScript (sinks_tell M.MeshSink R.Sink meshes.old report.old)
+        (sinks_tell M.MeshSink R.Sink meshes.new report.new) show (K.follows frames.new) start
         (bytes_of files name.now) result }
     ensures read_fault { result ≡ Status.ReadFault → (show : Show) (start : Walk) →
         Begins show (K.follows frames.old) start → (files : List NamedFile) → F.files shelf.old ≡ Some files →
-        StopsReading (ScriptHasCome (told (M.meshes meshes.old) (R.contents report.old))
-        (told (M.meshes meshes.new) (R.contents report.new)) show start)
+        StopsReading (ScriptHasCome (sinks_tell M.MeshSink R.Sink meshes.old report.old)
+        (sinks_tell M.MeshSink R.Sink meshes.new report.new) show start)
         (bytes_of files name.now) (F.rest shelf.new) (F.ended shelf.new) }
     ensures status { (result ≡ Status.ReadFault) ⊎ IsScriptEnd result }
     ensures done { result ≡ Status.Done → HasEnded (seen (F.files shelf.new) (F.rest shelf.new)

@@ -4,4 +4,5 @@ use Rattle.run_laws.proofs.GridLemmas.{text-cut}
 use Rattle.roam_run.proofs.certify.end_with_cert.Goals as goal
 
 pub returns-in-Err-clause-ends : goal.returns-in-Err-clause-ends
-returns-in-Err-clause-ends g c meshes files = text-cut meshes _ _ (cert_text c.args.cert.now) Done files c.in-Err.ensures.bytes.failed
+returns-in-Err-clause-ends g c meshes count files =
+    text-cut meshes _ _ (cert_text c.args.cert.now) Done files c.in-Err.ensures.bytes.failed c.in-Err.ensures.faults.failed

@@ -27,4 +27,5 @@ returns-clause-outcome g c files told_files =
     refused-ends _ _ _ _ c.args.words.now.grid.now job files c.in-Err-Refused.fault c.as_slice.result.now _
     (c.in-Err-Refused.ensures.refused c.in-Err-Refused.fault (ap Err c.in-Err-Refused.field-0-is) files told_files)
     (c.as_slice.ensures.value ∙ c.grid_report.ensures ∙ ap grid_refusal c.in-Err-Refused.fault-is)
-    (next_count-one _ _ c.requires.opens c.in-Err-Refused.ensures.opens) (c.end_with_text.ensures.ends (g.M.MeshSink.meshes c.args.meshes.now) 1)
+    (next_count-one _ _ c.requires.opens c.in-Err-Refused.ensures.opens) (c.end_with_text.ensures.ends (g.M.MeshSink.meshes
+    c.args.meshes.now) (g.M.MeshSink.faults c.args.meshes.now) 1)

@@ -2,7 +2,7 @@ use Rattle.std.proofs.Common.{◌≡◌, ◌++◌, ℕ, List, [], length, take, 
 use Rattle.std.proofs.lemmas.Grind.{common_steps}
 use Rattle.roam_edge.specs.Shelf.{bytes_of}
 use Rattle.run_laws.specs.declared.status.Status.{Status}
-use Rattle.run_laws.specs.Act.{told}
+use Rattle.run_laws.specs.Act.{sinks_tell}
 use Rattle.run_laws.specs.Maker.{EndsScript}
 use Rattle.run_laws.proofs.StepLemmas.{place, come-begin}
 use Rattle.run_laws.proofs.FileLemmas.{file-cut, piece-read, read-end, has-ended, stops-unopened, stops-behind}
@@ -44,8 +44,9 @@ returns-then-count-eq0-clause-ends g c show start begins all told_files read =
     let old = c.pieces.invariant.carried show start begins in
     let same : bytes_of all c.args.name.now ≡ old.0 = ended-file _ _ show _ start c.pieces.stage _ _ _ old.0 old.1
     (λ unread is. (c.in-Ok-read.ensures.bytes.empty unread is).0 c.if-count-eq0.true) all told_files in
-    let P = λ (l : List ℕ). EndsScript (told (g.M.MeshSink.meshes c.args.meshes.now) (g.R.Sink.contents c.args.report.now))
-    (told (g.M.MeshSink.meshes c.end_script.new.meshes) (g.R.Sink.contents c.end_script.new.report)) show (g.K.FrameMaker.follows c.end_script.new.frames) start l c.end_script.result in
+    let P = λ (l : List ℕ). EndsScript (sinks_tell g.M.MeshSink g.R.Sink c.args.meshes.now c.args.report.now)
+    (sinks_tell g.M.MeshSink g.R.Sink c.end_script.new.meshes c.end_script.new.report) show (g.K.FrameMaker.follows
+    c.end_script.new.frames) start l c.end_script.result in
     subst P (sym same) (c.end_script.ensures.ends _ show start old.0 begins.starts old.1.place)
 
 pub returns-then-count-eq0-clause-done : goal.returns-then-count-eq0-clause-done
@@ -59,12 +60,14 @@ returns-in-Err-clause-ends g c show start begins all told_files read =
     let old = c.pieces.invariant.carried show start begins in
     let file = piece-file _ _ show _ start c.pieces.stage _ _ _ old.0 (take c.in-Ok-read.count c.read.new.buf) c.in-Ok-read.count old.1
     (piece-read _ c.in-Ok-read.count _ _ c.in-Ok-read.ensures.bytes.within c.in-Ok-read.ensures.bytes.gives) all told_files in
-    let P = λ (l : List ℕ). EndsScript (told (g.M.MeshSink.meshes c.args.meshes.now) (g.R.Sink.contents c.args.report.now))
-    (told (g.M.MeshSink.meshes c.take_piece.new.meshes) (g.R.Sink.contents c.take_piece.new.report)) show (g.K.FrameMaker.follows c.take_piece.new.frames) start l c.status_of.result in
+    let P = λ (l : List ℕ). EndsScript (sinks_tell g.M.MeshSink g.R.Sink c.args.meshes.now c.args.report.now)
+    (sinks_tell g.M.MeshSink g.R.Sink c.take_piece.new.meshes c.take_piece.new.report) show (g.K.FrameMaker.follows
+    c.take_piece.new.frames) start l c.status_of.result in
     let stop = ends-stop _ _ show (g.K.FrameMaker.follows c.take_piece.new.frames) start begins.alone (old.0 ++ take c.in-Ok-read.count c.read.new.buf) file.0 c.take_piece.new.stage c.in-Err.stop
     (c.in-Err.ensures.outcome _ show start old.0 begins.starts old.1.place) in
-    let Q = λ (status : Status). EndsScript (told (g.M.MeshSink.meshes c.args.meshes.now) (g.R.Sink.contents c.args.report.now))
-    (told (g.M.MeshSink.meshes c.take_piece.new.meshes) (g.R.Sink.contents c.take_piece.new.report)) show (g.K.FrameMaker.follows c.take_piece.new.frames) start
+    let Q = λ (status : Status). EndsScript (sinks_tell g.M.MeshSink g.R.Sink c.args.meshes.now c.args.report.now)
+    (sinks_tell g.M.MeshSink g.R.Sink c.take_piece.new.meshes c.take_piece.new.report) show (g.K.FrameMaker.follows
+    c.take_piece.new.frames) start
     ((old.0 ++ take c.in-Ok-read.count c.read.new.buf) ++ file.0) status in
     subst P (sym file.1) (subst Q (sym c.status_of.ensures) stop)
 

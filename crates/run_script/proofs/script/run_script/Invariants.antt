@@ -3,7 +3,7 @@ use Rattle.roam_edge.specs.Shelf.{NamedFile}
 use Rattle.roam_edge.specs.Fault.{next_count}
 use Rattle.run_laws.specs.Walk.{Walk}
 use Rattle.run_laws.specs.Words.{Show}
-use Rattle.run_laws.specs.Act.{told}
+use Rattle.run_laws.specs.Act.{sinks_tell}
 use Rattle.run_laws.specs.Cause.{NoFault}
 use Rattle.run_script.specs.StageView.{IsStage}
 use Rattle.run_laws.specs.Maker.{Begins}
@@ -14,8 +14,8 @@ use Rattle.run_script.proofs.script.run_script.Given as goal
 abbrev pub invariant-pieces : goal.invariant-pieces
 invariant-pieces g l = record {
   carried : (show : Show) (start : Walk) → Begins show (g.K.FrameMaker.follows l.fn.frames) start → (bytes : List ℕ)
-      × IsCarried (told (g.M.MeshSink.meshes l.fn.meshes) (g.R.Sink.contents l.fn.report))
-      (told (g.M.MeshSink.meshes l.meshes) (g.R.Sink.contents l.report)) show (g.K.FrameMaker.follows l.frames) start l.stage
+      × IsCarried (sinks_tell g.M.MeshSink g.R.Sink l.fn.meshes l.fn.report)
+      (sinks_tell g.M.MeshSink g.R.Sink l.meshes l.report) show (g.K.FrameMaker.follows l.frames) start l.stage
       (g.F.Shelf.files l.fn.shelf) (g.F.Shelf.rest l.shelf) l.name bytes;
   told_rest : (all : List NamedFile) → g.F.Shelf.files l.fn.shelf ≡ Some all → (unread : List ℕ) × (g.F.Shelf.rest l.shelf ≡ Some unread);
   ready : g.K.FrameMaker.is_ready l.frames l.stage.lines;

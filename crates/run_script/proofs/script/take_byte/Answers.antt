@@ -11,13 +11,13 @@ pub returns-in-Ok-clause-outcome : goal.returns-in-Ok-clause-outcome
 returns-in-Ok-clause-outcome g c before show start read keeps at =
     takes-refusal before _ show (g.K.FrameMaker.follows c.args.frames.now) start read c.args.stage.now at _ c.in-Some.fault
     (byte-settles before _ show (g.K.FrameMaker.follows c.args.frames.now) start read c.args.stage.now at c.args.byte c.in-Some.fault c.if-byte-eq10.false c.in-Some.ensures.some)
-    c.args.stage.now _ (stands-text _ _ _ _ c.in-Ok.ensures.bytes.ok)
+    c.args.stage.now _ (stands-text _ _ _ _ c.in-Ok.ensures.bytes.ok c.in-Ok.ensures.faults.ok)
 
 pub returns-in-Err-clause-outcome : goal.returns-in-Err-clause-outcome
 returns-in-Err-clause-outcome g c before show start read keeps at =
     takes-cut before _ show (g.K.FrameMaker.follows c.args.frames.now) start read c.args.stage.now at _ c.in-Some.fault
     (byte-settles before _ show (g.K.FrameMaker.follows c.args.frames.now) start read c.args.stage.now at c.args.byte c.in-Some.fault c.if-byte-eq10.false c.in-Some.ensures.some)
-    c.args.stage.now _ (cut-only-line _ _ _ _ [] c.in-Err.ensures.bytes.failed)
+    c.args.stage.now _ (cut-only-line _ _ _ _ [] c.in-Err.ensures.bytes.failed c.in-Err.ensures.faults.failed)
 
 pub returns-in-None-clause-outcome : goal.returns-in-None-clause-outcome
 returns-in-None-clause-outcome g c before show start read keeps at = record {

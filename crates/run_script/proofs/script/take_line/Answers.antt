@@ -79,7 +79,7 @@ returns-in-Ok-refuse-clause-outcome g c before show start read starts at =
     (line-settles before _ show (g.K.FrameMaker.follows c.args.frames.now) start read c.args.stage.now at c.in-Err.fault
     (line-shown before _ show (g.K.FrameMaker.follows c.args.frames.now) start read c.args.stage.now at c.limits.result c.as_slice.result.now (Err c.in-Err.fault)
     (c.limits.ensures.value show at.here.walk at.here.pictures at.shows.followed at.shows.lines) c.as_slice.ensures.value is))
-    c.args.stage.now _ (stands-text _ _ _ _ c.in-Ok-refuse.ensures.bytes.ok)
+    c.args.stage.now _ (stands-text _ _ _ _ c.in-Ok-refuse.ensures.bytes.ok c.in-Ok-refuse.ensures.faults.ok)
 
 pub returns-in-Err-refuse-clause-outcome : goal.returns-in-Err-refuse-clause-outcome
 returns-in-Err-refuse-clause-outcome g c before show start read starts at =
@@ -88,4 +88,4 @@ returns-in-Err-refuse-clause-outcome g c before show start read starts at =
     (line-settles before _ show (g.K.FrameMaker.follows c.args.frames.now) start read c.args.stage.now at c.in-Err.fault
     (line-shown before _ show (g.K.FrameMaker.follows c.args.frames.now) start read c.args.stage.now at c.limits.result c.as_slice.result.now (Err c.in-Err.fault)
     (c.limits.ensures.value show at.here.walk at.here.pictures at.shows.followed at.shows.lines) c.as_slice.ensures.value is))
-    c.args.stage.now _ (cut-only-line _ _ _ _ [] c.in-Err-refuse.ensures.bytes.failed)
+    c.args.stage.now _ (cut-only-line _ _ _ _ [] c.in-Err-refuse.ensures.bytes.failed c.in-Err-refuse.ensures.faults.failed)
