@@ -85,14 +85,14 @@ fi
 
 # What a reader of the two main contracts has to know: how many clauses they have, and to how many words they unfold
 # (checks/words.py). Within the crates of the run, of Statement.antt and Moment.antt alone (the page of the contract), and of a frame.
-runs=run_laws,run_words,run_files,run_script,run_check,run_fit,roam_run
+runs=word_laws,run_laws,run_words,run_files,run_script,run_check,run_fit,run_engine,roam_run
 page=run_laws.specs.Statement,run_laws.specs.Moment
 short() {
   local said
   said=$(python3 checks/words.py "$@") || tail -n 1 <<<"$said"
 }
 if has the_main_contracts_have_few_words python3; then
-  none roam_has_ten_clauses "$(short crates/roam_run/src/run.rt roam --ensures 10 --most 307 --within "$runs")"
+  none roam_has_ten_clauses "$(short crates/roam_run/src/run.rt roam --ensures 10 --most 308 --within "$runs")"
   none roam_has_a_page_of_words "$(short crates/roam_run/src/run.rt roam --most 60 --within "$page")"
   none a_frame_has_few_words "$(short crates/frame_loop/src/frame.rt frame --ensures 7 --most 161)"
 fi
