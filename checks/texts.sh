@@ -85,7 +85,7 @@ fi
 
 # What a reader of the two main contracts has to know: how many clauses they have, and to how many words they unfold
 # (checks/words.py). Within the crates of the run, of Statement.antt and Moment.antt alone (the page of the contract), and of a frame.
-runs=run_laws,run_words,run_files,run_script,run_check,run_fit,roam_run
+runs=word_laws,run_laws,run_words,run_files,run_script,run_check,run_fit,run_engine,roam_run
 page=run_laws.specs.Statement,run_laws.specs.Moment
 short() {
   local said

@@ -16,9 +16,10 @@ ghost use Rattle.frame_loop.specs.Outlook.{outlook_of, AreBracketed};
 
 use crate::laws::outlook_laws;
 use crate::listing::list_and_number;
+use crate::lists::Lists;
 use crate::note::FrameNote;
 use crate::outlook::Outlook;
-use bintree_addr::{Point, Tri};
+use bintree_addr::Tri;
 use cull_marks::Planes;
 use obj_write::{MeshView, VertexChange, VertexTable};
 use pgm_grid::Grid;
@@ -29,16 +30,6 @@ use std::marker::Model;
 use triangle_pool::Pool;
 use view_priority::{Camera, Meter};
 use wedgie_tree::Wedges;
-
-/// Numbers are mended where at most one in so many of the leaves that there is room for was split or merged: past that to make them
-/// anew costs no more than to look up what each of these triangles is now.
-const MENDED_SHARE: usize = 16;
-
-/// What stands where no change was listed yet.
-const NO_CHANGE: VertexChange = VertexChange {
-    point: Point { x: 0, y: 0 },
-    shown: false,
-};
 
 /// Terrain, a view of it, and the mesh that follows the view.
 #[derive(Drop)]
@@ -108,12 +99,15 @@ impl Engine {
         ensures merges { IfOk result (λ e. e.mesh.pool.merges ≡ 0) }
     {
         let n = grid.n();
-        let wedges = Wedges::build(alloc, grid)?;
         let room = room(n, budget);
+        let wedges = Wedges::build(alloc, grid)?;
+        let lists = Lists::make(alloc, n, room)?;
         let mesh = Mesh::make(alloc, n, room)?;
-        let mut leaves = vec![in alloc; Tri::default(); room as usize]?;
-        let changes = vec![in alloc; NO_CHANGE; room as usize / MENDED_SHARE]?;
-        let mut numbers = VertexTable::new(alloc, n)?;
+        let Lists {
+            mut leaves,
+            changes,
+            mut numbers,
+        } = lists;
         let (leaf_count, vertices) = list_and_number(mesh.pool(), &mut leaves, &mut numbers);
         Ok(Engine {
             outlook: start_outlook(wedges, spacing),

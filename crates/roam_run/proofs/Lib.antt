@@ -1,9 +1,3 @@
-pub mod CameraLemmas
-pub mod EngineLemmas
-pub mod ShowingLemmas
-pub mod FrameLemmas
-pub mod ShowLemmas
-pub mod CertifyLemmas
+pub mod LeftLemmas
 pub mod TopLemmas
-pub mod SumLemmas
 pub mod TryLemmas

@@ -6,11 +6,11 @@ use Rattle.run_laws.specs.declared.status.Status.TheVariants.{NoMemory, Usage, R
 use Rattle.run_laws.specs.Act.{Told}
 use Rattle.frame_loop.specs.Engine.{EngineState}
 use Rattle.run_laws.specs.Laws.{EnginesAreUnique}
-use Rattle.run_laws.specs.Words.{Command, file_count, command_of}
+use Rattle.word_laws.specs.Words.{Command, file_count, command_of}
 use Rattle.run_laws.specs.Outcome.{Outcome, plain_outcome, IsWordsOutcome, IsOutcome}
 use Rattle.run_laws.specs.Promise.{Seen, AreFiles, is_complete, leaves_engine, EndsRight}
 use Rattle.run_laws.proofs.ActLemmas.{stands-nothing}
-use Rattle.roam_run.specs.EngineSeen.{engine_seen}
+use Rattle.run_engine.specs.EngineSeen.{engine_seen}
 use Rattle.run_laws.specs.Leaving.{CommandEnds}
 use Rattle.run_laws.proofs.GridLemmas.{not-complete}
 

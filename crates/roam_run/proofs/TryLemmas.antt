@@ -7,19 +7,19 @@ use Rattle.frame_loop.specs.Engine.{EngineState}
 use Rattle.run_laws.specs.declared.status.Status.{Status}
 use Rattle.run_laws.specs.declared.status.Status.TheVariants as ends
 use Rattle.run_laws.specs.Walk.{Refusal}
-use Rattle.run_laws.specs.Words.{AsSums, Generated}
+use Rattle.word_laws.specs.Words.{AsSums, Generated}
 use Rattle.run_laws.specs.Picture.{Picture}
 use Rattle.run_laws.specs.ReportText.{all_triangles, worst_in, sums_line, try_line}
 use Rattle.run_laws.specs.Act.{Act, ReportText, Told, Stands, IsCutShort}
 use Rattle.run_laws.specs.Outcome.{Outcome, text_outcome, shown_acts, sum_acts, stop_acts, stop_status, frames_outcome, engine_end, made_walk}
 use Rattle.run_laws.specs.Promise.{Seen, is_complete, ends_script}
 use Rattle.run_laws.proofs.WalkLemmas.{along-stop}
-use Rattle.roam_run.specs.declared.generated.Sums.{Sums}
-use Rattle.roam_run.specs.EngineSeen.{engine_seen}
+use Rattle.run_engine.specs.declared.generated.Sums.{Sums}
+use Rattle.run_engine.specs.EngineSeen.{engine_seen}
 use Rattle.run_laws.specs.Maker.{DoesAs}
 use Rattle.run_laws.specs.Leaving.{CommandEnds}
-use Rattle.roam_run.specs.SumView.{made_start, IsSumOf, SumsUp}
-use Rattle.roam_run.proofs.EngineLemmas.{followed-end}
+use Rattle.run_engine.specs.SumView.{made_start, IsSumOf, SumsUp}
+use Rattle.roam_run.proofs.LeftLemmas.{followed-end}
 
 no-acts : (n seed k : ℕ) (ps : List Picture) → shown_acts (AsSums n seed) k ps ≡ []
 no-acts n seed k [] = refl

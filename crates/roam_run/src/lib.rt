@@ -3,19 +3,12 @@
 //! For a program that hands it real files, and for tests that hand it objects in memory. Words and
 //! files determine a run's outcome: its acts (a whole mesh, a text of the report) and its status. The
 //! contract of `roam` says which acts stand after each status, and that each mesh is the best of the
-//! state at its frame line. Here are the commands that an engine carries out; the others stand below.
+//! state at its frame line. The commands stand below, and what an engine makes in `run_engine`.
 //! No file is named here, and nothing is printed but the report.
 
 #![tactic(auto)]
 
-mod carry;
-mod certify;
-mod engine_frames;
-mod frame;
-mod generated;
-mod report;
 mod run;
-mod shows;
 
 pub use run::{Run, roam};
 pub use run_laws::Status;

@@ -8,7 +8,7 @@ use Rattle.bintree_laws.proofs.LevelLemmas.{level-le}
 use Rattle.roam_edge.specs.Shelf.{NamedFile, bytes_of}
 use Rattle.pgm_grid.specs.Progress.{grid_of}
 use Rattle.run_laws.specs.declared.status.Status.{Status}
-use Rattle.run_laws.specs.Words.{Checking, Check, OnGrid}
+use Rattle.word_laws.specs.Words.{Checking, Check, OnGrid}
 use Rattle.run_laws.specs.Act.{Told}
 use Rattle.run_laws.specs.Outcome.{text_outcome}
 use Rattle.run_laws.specs.Promise.{Seen, CommandReadFault, CommandNoMemory}

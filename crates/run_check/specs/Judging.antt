@@ -10,7 +10,7 @@ use Rattle.certificate_laws.specs.declared.reason.Reject.TheVariants.{BadLine, N
 use Rattle.cert_text.specs.Certificate.{Certificate}
 use Rattle.run_laws.specs.declared.status.Status.{Status}
 use Rattle.run_laws.specs.declared.status.Status.TheVariants as ends
-use Rattle.run_laws.specs.Words.{Checking}
+use Rattle.word_laws.specs.Words.{Checking}
 use Rattle.run_laws.specs.CertFile.{cert_in, CertHasRead}
 use Rattle.run_laws.specs.Certify.{checks_at, IsFaultless}
 use Rattle.run_laws.specs.ReportText.{certified_line, rejection}

@@ -8,7 +8,7 @@ ghost use Rattle.roam_edge.specs.Shelf.{NamedFile, bytes_of};
 ghost use Rattle.mesh_compare.specs.Differs.{first_difference};
 ghost use Rattle.run_laws.specs.Act.{report_tells};
 ghost use Rattle.run_laws.specs.Cause.{StatusHasCause};
-ghost use Rattle.run_laws.specs.Words.{OnGrid, Check};
+ghost use Rattle.word_laws.specs.Words.{OnGrid, Check};
 ghost use Rattle.run_laws.specs.Certify.{IsFaultless};
 ghost use Rattle.run_laws.specs.Outcome.{IsCheckOutcome};
 ghost use Rattle.run_laws.specs.Promise.{seen, HasEnded, OpensForStatus, CommandReadFault, CommandNoMemory};

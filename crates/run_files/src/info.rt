@@ -7,7 +7,7 @@ ghost use Rattle.roam_edge.specs.MeshSink.{Mesh};
 ghost use Rattle.roam_edge.specs.Shelf.{NamedFile};
 ghost use Rattle.run_laws.specs.Act.{report_tells};
 ghost use Rattle.run_laws.specs.Cause.{StatusHasCause};
-ghost use Rattle.run_laws.specs.Words.{OnGrid, Facts};
+ghost use Rattle.word_laws.specs.Words.{OnGrid, Facts};
 ghost use Rattle.run_laws.specs.ReportText.{info_line};
 ghost use Rattle.run_laws.specs.Promise.{seen, HasEnded, CommandReadFault, CommandNoMemory};
 ghost use Rattle.run_laws.specs.Leaving.{CommandEnds};

@@ -18,7 +18,7 @@ use Rattle.roam_edge.specs.Shelf.{NamedFile, bytes_of}
 use Rattle.pgm_grid.specs.Progress.{grid_of}
 use Rattle.run_laws.specs.declared.status.Status.{Status}
 use Rattle.run_laws.specs.declared.status.Status.TheVariants.{Done, WriteFault}
-use Rattle.run_laws.specs.Words.{Target, AtError, InBudget, Fitting, Fit, OnGrid}
+use Rattle.word_laws.specs.Words.{Target, AtError, InBudget, Fitting, Fit, OnGrid}
 use Rattle.run_laws.specs.Fit.{tolerance_of, IsFitFor, fit_text}
 use Rattle.run_laws.specs.Act.{Act, WholeMesh, ReportText, Told, Stands, IsCutShort}
 use Rattle.run_laws.specs.Outcome.{plain_outcome, fit_acts}

@@ -5,7 +5,7 @@ use Rattle.mesh_defs.specs.HeightField.{HeightField}
 use Rattle.mesh_defs.specs.MeshText.{vertices_of}
 use Rattle.deviation_laws.specs.PlaneHeight.{deviation_of}
 use Rattle.roam_num.specs.Places.{exact_decimal}
-use Rattle.run_laws.specs.Words.{Target, AtError, InBudget, Fitting}
+use Rattle.word_laws.specs.Words.{Target, AtError, InBudget, Fitting}
 use Rattle.run_laws.specs.Fit.{tolerance_of, IsFitted, fit_text}
 use Rattle.run_laws.specs.Act.{Act, WholeMesh, ReportText}
 use Rattle.run_fit.specs.declared.fitted.Fitted.{Fitted}

@@ -2,7 +2,7 @@
 
 ghost use Rattle.std.specs.Prelude.{◌≡◌, ◌*◌, ◌≤◌, IfOk};
 ghost use Rattle.mesh_defs.specs.declared.level.TheConstants.{GREATEST_LEVEL};
-ghost use Rattle.run_laws.specs.Words.{greatest_error};
+ghost use Rattle.word_laws.specs.Words.{greatest_error};
 ghost use Rattle.run_laws.specs.Fit.{tolerance_of};
 ghost use Rattle.run_words.specs.FitView.{target_seen, IsTarget};
 ghost use Rattle.run_fit.specs.FittedSeen.{IsFittedTo, tolerance_for, budget_for};

@@ -4,7 +4,7 @@ ghost use Rattle.std.specs.Prelude.{◌≡◌, ◌≢◌, ◌+◌, ◌^◌, ◌<
 ghost use Rattle.roam_edge.specs.Shelf.{NamedFile};
 ghost use Rattle.run_laws.specs.Act.{sinks_tell, Stands, IsCutShort};
 ghost use Rattle.run_laws.specs.Cause.{StatusHasCause, WritesHaveCause};
-ghost use Rattle.run_laws.specs.Words.{OnGrid, Fit};
+ghost use Rattle.word_laws.specs.Words.{OnGrid, Fit};
 ghost use Rattle.run_laws.specs.Promise.{seen, HasEnded, CommandReadFault, CommandNoMemory};
 ghost use Rattle.run_laws.specs.Leaving.{CommandEnds};
 ghost use Rattle.run_words.specs.FitView.{fitting_seen, IsFitting};

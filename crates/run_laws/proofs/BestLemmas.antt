@@ -15,7 +15,7 @@ use Rattle.pgm_grid.specs.Laws.{TextsAreRead}
 use Rattle.run_laws.specs.declared.status.Status.{Status}
 use Rattle.run_laws.specs.declared.status.Status.TheVariants.{Done, NoMemory, Usage, GridRefused, ScriptRefused, ReadFault, WriteFault, Rejected}
 use Rattle.run_laws.specs.Walk.{Walk, start_walk, walk_of}
-use Rattle.run_laws.specs.Words.{Scripted, Checking, Frames, Check, Command, OnGrid}
+use Rattle.word_laws.specs.Words.{Scripted, Checking, Frames, Check, Command, OnGrid}
 use Rattle.run_laws.specs.CertFile.{cert_in}
 use Rattle.run_laws.specs.Act.{Act, Told, Stands, report_of}
 use Rattle.run_laws.specs.Picture.{Picture, ArePictures}

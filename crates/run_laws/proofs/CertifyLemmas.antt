@@ -17,7 +17,7 @@ use Rattle.cert_text.specs.Certificate.{Certificate}
 use Rattle.cert_text.specs.CertText.{cert_text}
 use Rattle.run_laws.specs.declared.status.Status.{Status}
 use Rattle.run_laws.specs.declared.status.Status.TheVariants.{Done, Rejected}
-use Rattle.run_laws.specs.Words.{Making, Checking}
+use Rattle.word_laws.specs.Words.{Making, Checking}
 use Rattle.run_laws.specs.Certify.{makes_at, checks_at, IsMade, IsFaultless}
 use Rattle.run_laws.specs.ReportText.{certified_line, rejection}
 use Rattle.run_laws.specs.Outcome.{Outcome, text_outcome, IsMakeOutcome, IsCompared, IsVerdictOutcome, IsCheckOutcome}

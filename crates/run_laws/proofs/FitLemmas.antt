@@ -12,7 +12,7 @@ use Rattle.fit_laws.proofs.BudgetLemmas.{budget_found}
 use Rattle.fit_laws.proofs.ErrorLemmas.{error-finest, worst-deviation}
 use Rattle.fit_laws.proofs.OrderLemmas.{leaves-order, least-one, budget-one}
 use Rattle.run_laws.specs.declared.status.Status.TheVariants.{Done}
-use Rattle.run_laws.specs.Words.{Target, AtError, InBudget, Fitting}
+use Rattle.word_laws.specs.Words.{Target, AtError, InBudget, Fitting}
 use Rattle.run_laws.specs.Fit.{tolerance_of, IsFitFor, IsFitted, IsFewestFor, IsClosestFor, IsBestFit}
 use Rattle.run_laws.specs.Outcome.{Outcome, plain_outcome, fit_acts, IsFitOutcome}
 use Rattle.run_laws.specs.Laws.{TolerancesAreExact}

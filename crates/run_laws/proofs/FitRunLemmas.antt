@@ -8,7 +8,7 @@ use Rattle.pgm_grid.specs.Laws.{TextsAreRead}
 use Rattle.obj_write.specs.Written.{mesh_with}
 use Rattle.run_laws.specs.declared.status.Status.{Status}
 use Rattle.run_laws.specs.declared.status.Status.TheVariants.{Done, NoMemory, Usage, GridRefused, ScriptRefused, ReadFault, WriteFault, Rejected}
-use Rattle.run_laws.specs.Words.{Fitting, Fit, Command, OnGrid, has_script}
+use Rattle.word_laws.specs.Words.{Fitting, Fit, Command, OnGrid, has_script}
 use Rattle.run_laws.specs.Fit.{fit_text}
 use Rattle.run_laws.specs.ReportText.{fit_line}
 use Rattle.run_laws.specs.Act.{Told, Stands, IsCutShort}

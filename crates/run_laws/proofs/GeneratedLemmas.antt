@@ -15,7 +15,7 @@ use Rattle.roam_script.specs.declared.line.Line.{Line}
 use Rattle.roam_script.specs.declared.line.Line.TheVariants.{Blank, Camera, Set, Plane, NoPlanes, Budget, Raise, Frame}
 use Rattle.roam_gen.specs.Generated.{made_grid, made_lines, frame_lines, camera_line, edit_line}
 use Rattle.run_laws.specs.Walk.{Walk, start_walk, after_line, walk_along}
-use Rattle.run_laws.specs.Words.{AsSums, Command}
+use Rattle.word_laws.specs.Words.{AsSums, Command}
 use Rattle.run_laws.specs.Act.{Act, ReportText}
 use Rattle.run_laws.specs.Picture.{Picture, ArePictures, IsCertified}
 use Rattle.run_laws.specs.ReportText.{all_triangles, worst_in, count_blocked, sums_line, try_line}

@@ -14,7 +14,7 @@ use Rattle.roam_edge.specs.MeshSink.{Mesh}
 use Rattle.obj_write.specs.Written.{mesh_with, IsPartOfMesh}
 use Rattle.run_laws.specs.declared.status.Status.{Status}
 use Rattle.run_laws.specs.Walk.{Refusal}
-use Rattle.run_laws.specs.Words.{Show, AsMeshes, AsStrips, AsLeast, AsMeasures, AsSums, Scripted, prefix_of}
+use Rattle.word_laws.specs.Words.{Show, AsMeshes, AsStrips, AsLeast, AsMeasures, AsSums, Scripted, prefix_of}
 use Rattle.run_laws.specs.Act.{Act, WholeMesh, ReportText, meshes_of, Told, Stands, StandsInPart, IsCutShort}
 use Rattle.run_laws.specs.Picture.{Picture, triangles_of, strip_triangles, IsLeastFrame, IsPicture, ArePictures}
 use Rattle.run_laws.specs.Outcome.{Outcome, picture_acts, shown_acts, sum_acts, stop_acts, script_walk, IsScriptOutcome}

@@ -17,7 +17,7 @@ use Rattle.cert_text.specs.CertText.{cert_text, cert_lines}
 use Rattle.cert_text.specs.Laws.{IsCertificateOf, lines_read, WrittenLinesAreRead, WrittenLinesAreEnded, IsOneLine, WrittenLinesAreLines}
 use Rattle.roam_edge.specs.Shelf.{NamedFile, bytes_of}
 use Rattle.run_laws.specs.Walk.{lines_of}
-use Rattle.run_laws.specs.Words.{Making, Checking}
+use Rattle.word_laws.specs.Words.{Making, Checking}
 use Rattle.run_laws.specs.CertFile.{said_behind, cert_in}
 use Rattle.run_laws.specs.Certify.{seen_from, makes_at, IsMade, IsFaultless}
 use Rattle.run_laws.specs.Promise.{IsAcceptedCheck}

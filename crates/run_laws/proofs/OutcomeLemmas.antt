@@ -11,7 +11,6 @@ use Rattle.mesh_defs.specs.HeightField.{HeightField}
 use Rattle.mesh_defs.specs.State.{State, start_state}
 use Rattle.roam_edge.specs.Shelf.{NamedFile, bytes_of}
 use Rattle.text_laws.specs.Numbers.{number_in, signed_in}
-use Rattle.cert_text.specs.CertLine.{is_coordinate}
 use Rattle.pgm_grid.specs.declared.fault.PgmFault.{PgmFault}
 use Rattle.pgm_grid.specs.Progress.{grid_of}
 use Rattle.pgm_grid.specs.Laws.{TextsAreRead}
@@ -20,7 +19,7 @@ use Rattle.cert_text.specs.Certificate.{Certificate}
 use Rattle.roam_gen.specs.Generated.{made_grid, made_lines}
 use Rattle.run_laws.specs.declared.status.Status.TheVariants.{Done, Usage, GridRefused}
 use Rattle.run_laws.specs.Walk.{Walk, start_walk}
-use Rattle.run_laws.specs.Words.{Show, AsMeshes, AsStrips, AsLeast, AsMeasures, AsSums, is_of_engine, Scripted, Making, Target, AtError, InBudget, Job, Frames, Facts, Make, Check, Fit, Command, OnGrid, Generated, greatest_level, greatest_seed, number_word, try_command, within, least_budget, greatest_budget, budget_word, spacing_word, tolerance_word, is_prefix, in_reach, coordinate_word, camera_word, frames_command, least_command, meshes_command, make_command, check_command, error_word, target_word, fit_command, fit_words, command_of}
+use Rattle.word_laws.specs.Words.{Show, AsMeshes, AsStrips, AsLeast, AsMeasures, AsSums, is_of_engine, Scripted, Making, Target, AtError, InBudget, Job, Frames, Facts, Make, Check, Fit, Command, OnGrid, Generated, greatest_level, greatest_seed, number_word, try_command, within, least_budget, greatest_budget, is_coordinate, budget_word, spacing_word, tolerance_word, is_prefix, in_reach, coordinate_word, camera_word, frames_command, least_command, meshes_command, make_command, check_command, error_word, target_word, fit_command, fit_words, command_of}
 use Rattle.run_laws.specs.CertFile.{cert_in}
 use Rattle.run_laws.specs.Picture.{Picture, ArePictures, IsCertified}
 use Rattle.run_laws.specs.ReportText.{info_line, grid_refusal}

@@ -17,7 +17,7 @@ use Rattle.closure_laws.proofs.ClosureLemmas.{nothing_closed, IsLeastClosed-uniq
 use Rattle.closure_laws.proofs.SetListLemmas.{list_of, ascending-list_of, among-list_of}
 use Rattle.least_laws.specs.Least.{is_worse, IsLeastMesh}
 use Rattle.least_laws.proofs.LeastLemmas.{least_found, least_list-mesh}
-use Rattle.run_laws.specs.Words.{Show, AsMeshes, AsStrips, AsLeast, AsMeasures, AsSums, is_of_engine}
+use Rattle.word_laws.specs.Words.{Show, AsMeshes, AsStrips, AsLeast, AsMeasures, AsSums, is_of_engine}
 use Rattle.run_laws.specs.Picture.{Picture, IsLeastFrame, IsFrameFor, IsChangeFor, IsPicture, ArePictures, last_members, IsCertified}
 use Rattle.run_laws.specs.Laws.{FramesExist, RunsAreUnique, SetsStayClosed, AreStates}
 

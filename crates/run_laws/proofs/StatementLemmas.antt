@@ -3,7 +3,7 @@ use Rattle.std.proofs.Common.{◌≡◌, ◌≢◌, ◌⊎◌, ◌↔◌, ℕ, �
 use Rattle.roam_edge.specs.Shelf.{NamedFile}
 use Rattle.run_laws.specs.declared.status.Status.{Status}
 use Rattle.run_laws.specs.declared.status.Status.TheVariants.{Done, NoMemory, Usage, GridRefused, ScriptRefused, ReadFault, WriteFault, Rejected}
-use Rattle.run_laws.specs.Words.{command_of}
+use Rattle.word_laws.specs.Words.{command_of}
 use Rattle.run_laws.specs.Act.{Act, ReportText, IsCutShort}
 use Rattle.run_laws.specs.Cause.{StatusHasCause}
 use Rattle.run_laws.specs.Outcome.{EngineEnd, Outcome, IsOutcome}

@@ -9,7 +9,7 @@ use Rattle.run_laws.specs.Walk.{Refusal, Walk, limits_of, shown_by, after_line, 
 use Rattle.roam_gen.specs.Generated.{camera_line, edit_line, frame_lines, made_lines}
 use Rattle.run_laws.specs.Laws.{AreStates, KeepsStates, BudgetsAreTwo}
 use Rattle.mesh_defs.specs.State.{State}
-use Rattle.run_laws.specs.Words.{Show}
+use Rattle.word_laws.specs.Words.{Show}
 use Rattle.run_laws.specs.Picture.{Picture, ArePictures, last_members}
 
 -- a fold goes on

@@ -8,7 +8,7 @@ use Rattle.mesh_defs.specs.BestMesh.{IsBestMesh}
 use Rattle.mesh_defs.specs.State.{State, start_state, with_camera, priority_in}
 use Rattle.certificate_laws.specs.Certificate.{IsSound}
 use Rattle.cert_text.specs.Certificate.{Certificate}
-use Rattle.run_laws.specs.Words.{Making, Checking}
+use Rattle.word_laws.specs.Words.{Making, Checking}
 
 -- the grid seen from a camera, before any line of a script
 abbrev pub seen_from : HeightField → ℕ → ℕ → CameraAt → State

@@ -5,7 +5,7 @@ use Rattle.mesh_defs.specs.BoundingBox.{CameraAt}
 use Rattle.certificate_laws.specs.declared.reason.Reason.{Reason}
 use Rattle.certificate_laws.specs.declared.reason.Kind.TheVariants.{Want, Mate}
 use Rattle.cert_text.specs.Certificate.{Certificate}
-use Rattle.run_laws.specs.Words.{Make, Check, OnGrid, command_of}
+use Rattle.word_laws.specs.Words.{Make, Check, OnGrid, command_of}
 use Rattle.run_laws.specs.CertFile.{cert_in}
 
 abbrev pub origin : CameraAt

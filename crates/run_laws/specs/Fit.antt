@@ -11,7 +11,7 @@ use Rattle.deviation_laws.specs.PlaneHeight.{deviation_of}
 use Rattle.least_laws.specs.Least.{IsLeastMesh}
 use Rattle.fit_laws.specs.Error.{error_of}
 use Rattle.fit_laws.specs.Budget.{IsBudgetMesh}
-use Rattle.run_laws.specs.Words.{Target, AtError, InBudget}
+use Rattle.word_laws.specs.Words.{Target, AtError, InBudget}
 
 -- The tolerance of so many thousandths of a unit of height, in units of 2 ^ -n: errors are whole in these, so rounding down
 -- loses none.

@@ -18,7 +18,7 @@ use Rattle.run_laws.specs.declared.status.Status.TheVariants.{Done}
 use Rattle.tiling_laws.specs.Ancestors.{AreLeaves}
 use Rattle.strip_laws.specs.Strip.{strip_of, IsRing}
 use Rattle.least_laws.specs.Least.{IsLeastMesh}
-use Rattle.run_laws.specs.Words.{Show, AsMeshes, AsStrips, AsLeast, AsMeasures, AsSums, Scripted, Checking, Fitting, Frames, Check, Fit, OnGrid, prefix_of, command_of}
+use Rattle.word_laws.specs.Words.{Show, AsMeshes, AsStrips, AsLeast, AsMeasures, AsSums, Scripted, Checking, Fitting, Frames, Check, Fit, OnGrid, prefix_of, command_of}
 use Rattle.run_laws.specs.ReportText.{certified_line, fit_line}
 use Rattle.run_laws.specs.Certify.{checks_at}
 use Rattle.run_laws.specs.Fit.{IsBestFit, fit_text}

@@ -24,7 +24,7 @@ use Rattle.run_laws.specs.Walk.{Walk, walk_of, AreWhole}
 use Rattle.obj_write.specs.Written.{Grows}
 use Rattle.cert_text.specs.Certificate.{Certificate}
 use Rattle.cert_text.specs.CertText.{cert_text}
-use Rattle.run_laws.specs.Words.{Show, Scripted, Making, Checking, Target, Fitting, Make, OnGrid, command_of}
+use Rattle.word_laws.specs.Words.{Show, Scripted, Making, Checking, Target, Fitting, Make, OnGrid, command_of}
 use Rattle.run_laws.specs.Certify.{makes_at, IsMade}
 use Rattle.run_laws.specs.Act.{Told}
 use Rattle.run_laws.specs.Picture.{Picture, ArePictures, IsCertified, last_members}

@@ -4,7 +4,7 @@ use Rattle.std.specs.Prelude.{◌≡◌, ◌≢◌, IsTrue, List, Option}
 use Rattle.roam_edge.specs.Shelf.{NamedFile}
 use Rattle.run_laws.specs.declared.status.Status.{Status}
 use Rattle.run_laws.specs.declared.status.Status.TheVariants.{NoMemory, ReadFault}
-use Rattle.run_laws.specs.Words.{Command}
+use Rattle.word_laws.specs.Words.{Command}
 use Rattle.run_laws.specs.Act.{Told}
 use Rattle.run_laws.specs.Outcome.{Outcome, EngineEnd, IsCommandOutcome}
 use Rattle.run_laws.specs.Promise.{Seen, EndsAs, is_complete}

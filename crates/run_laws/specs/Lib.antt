@@ -1,5 +1,4 @@
 pub mod Walk
-pub mod Words
 pub mod CertFile
 pub mod Certify
 pub mod Fit

@@ -18,7 +18,7 @@ use Rattle.roam_gen.specs.Generated.{made_grid, made_lines}
 use Rattle.run_laws.specs.declared.status.Status.{Status}
 use Rattle.run_laws.specs.declared.status.Status.TheVariants.{Done, Usage, GridRefused, ScriptRefused, Rejected}
 use Rattle.run_laws.specs.Walk.{Refusal, Walk, start_walk, walk_along, walk_of}
-use Rattle.run_laws.specs.Words.{Show, AsMeshes, AsStrips, AsLeast, AsMeasures, AsSums, Scripted, Making, Checking, Fitting, Job, Frames, Facts, Make, Check, Fit, Command, OnGrid, Generated, command_of}
+use Rattle.word_laws.specs.Words.{Show, AsMeshes, AsStrips, AsLeast, AsMeasures, AsSums, Scripted, Making, Checking, Fitting, Job, Frames, Facts, Make, Check, Fit, Command, OnGrid, Generated, command_of}
 use Rattle.run_laws.specs.CertFile.{cert_in}
 use Rattle.run_laws.specs.Certify.{checks_at, IsMade, IsFirstDifference}
 use Rattle.run_laws.specs.Fit.{IsFitted, fit_text}

@@ -15,7 +15,7 @@ use Rattle.closure_laws.specs.Frame.{IsFrame}
 use Rattle.frame_steps.specs.Steps.{IsFrameRun}
 use Rattle.strip_laws.specs.Strip.{strip_of}
 use Rattle.least_laws.specs.Least.{is_worse}
-use Rattle.run_laws.specs.Words.{Show, AsMeshes, AsStrips, AsLeast, AsMeasures, AsSums}
+use Rattle.word_laws.specs.Words.{Show, AsMeshes, AsStrips, AsLeast, AsMeasures, AsSums}
 
 -- what it shows; the triangles that are split, in ascending order; the greatest priority among the leaves; the
 -- triangle that blocks, with its need, if there is one; and how many splits and merges led there

@@ -15,7 +15,7 @@ use Rattle.cert_text.specs.Certificate.{Certificate}
 use Rattle.run_laws.specs.declared.status.Status.{Status}
 use Rattle.run_laws.specs.declared.status.Status.TheVariants.{Done, NoMemory, Usage, GridRefused, ScriptRefused, ReadFault, WriteFault, Rejected}
 use Rattle.run_laws.specs.Walk.{AreWhole, HasBegun}
-use Rattle.run_laws.specs.Words.{Scripted, Checking, Job, Frames, Facts, Make, Check, Fit, Command, OnGrid, Generated, names_of, file_count, has_script, is_check, is_of_engine, command_of}
+use Rattle.word_laws.specs.Words.{Scripted, Checking, Job, Frames, Facts, Make, Check, Fit, Command, OnGrid, Generated, names_of, file_count, has_script, is_check, is_of_engine, command_of}
 use Rattle.run_laws.specs.CertFile.{cert_in, CertHasRead}
 use Rattle.run_laws.specs.Certify.{checks_at, IsFaultless}
 use Rattle.run_laws.specs.Picture.{Picture, ArePictures}

@@ -9,7 +9,7 @@ use Rattle.roam_edge.specs.Shelf.{NamedFile, bytes_of}
 use Rattle.obj_write.specs.Written.{Grows}
 use Rattle.run_laws.specs.declared.status.Status.{Status}
 use Rattle.run_laws.specs.declared.status.Status.TheVariants.{Done, NoMemory, Usage, ReadFault, WriteFault}
-use Rattle.run_laws.specs.Words.{Scripted, Checking, Fitting, command_of, file_count}
+use Rattle.word_laws.specs.Words.{Scripted, Checking, Fitting, command_of, file_count}
 use Rattle.run_laws.specs.Act.{Stands, IsCutShort}
 use Rattle.run_laws.specs.Picture.{IsCertified}
 use Rattle.run_laws.specs.Outcome.{EngineEnd, Outcome, IsOutcome}

@@ -9,6 +9,7 @@
 mod cut_short;
 mod generated;
 mod laws;
+mod maker;
 mod statement;
 mod status;
 
@@ -18,5 +19,6 @@ pub use laws::{
     certify_examples, certify_laws, fitting_laws, measure_examples, run_laws, script_examples,
     state_laws, turn_count_laws, walk_laws,
 };
+pub use maker::FrameMaker;
 pub use statement::statement_laws;
 pub use status::Status;

@@ -4,7 +4,7 @@ use Rattle.std.proofs.lemmas.Bool.{cond-false}
 use Rattle.std.proofs.lemmas.List.{take-append-drop, take_more, take-map, map-append, take_all}
 use Rattle.std.proofs.lemmas.Slice.Eq.{bytes_eq-Decides}
 use Rattle.std.specs.Option.{option_map}
-use Rattle.run_laws.specs.Words.{is_prefix, number_word, greatest_level, greatest_seed, budget_word, tolerance_word, spacing_word, coordinate_word, frames_command, least_command, meshes_command, try_command, camera_word, make_command, check_command, command_of, Command, Show, error_word, fit_command, target_word, AtError, InBudget}
+use Rattle.word_laws.specs.Words.{is_prefix, number_word, greatest_level, greatest_seed, budget_word, tolerance_word, spacing_word, coordinate_word, frames_command, least_command, meshes_command, try_command, camera_word, make_command, check_command, command_of, Command, Show, error_word, fit_command, target_word, AtError, InBudget}
 use Rattle.text_laws.specs.Numbers.{number_in, signed_in}
 use Rattle.roam_num.specs.Places.{thousandths_in}
 use Rattle.run_messages.specs.declared.wanted.Wanted.{Wanted}

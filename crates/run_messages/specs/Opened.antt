@@ -1,7 +1,7 @@
 -- The files of a command in the order in which they are opened, and what each of them is. This project's own.
 -- Words: job_roles, roles_of, entry, opened_name, opened_role.
 use Rattle.std.specs.Prelude.{ℕ, zero, suc, List, [], ◌∷◌, Option, Some, None}
-use Rattle.run_laws.specs.Words as words
+use Rattle.word_laws.specs.Words as words
 use Rattle.run_messages.specs.declared.opened.Role.{Role}
 use Rattle.run_messages.specs.declared.opened.Role.TheVariants.{Grid, Script, Certificate, Mesh}
 

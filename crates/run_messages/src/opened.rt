@@ -1,7 +1,7 @@
 //! Which file of a command was opened last.
 
 ghost use Rattle.std.specs.Prelude.{◌≡◌, [], ◌∷◌, Some, map, option_map, string_bytes};
-ghost use Rattle.run_laws.specs.Words.{command_of};
+ghost use Rattle.word_laws.specs.Words.{command_of};
 ghost use Rattle.run_words.specs.WordView.{command_seen};
 ghost use Rattle.run_messages.specs.Opened.{opened_name, opened_role, entry};
 

@@ -1,8 +1,8 @@
 //! What a word of a command may be, and what stands behind it.
 
 ghost use Rattle.std.specs.Prelude.{◌≡◌, Some, option_map, is_some};
-ghost use Rattle.run_laws.specs.Words.{number_word, error_word, coordinate_word};
-ghost use Rattle.run_laws.specs.Words.{is_prefix as is_prefix_seen};
+ghost use Rattle.word_laws.specs.Words.{number_word, error_word, coordinate_word};
+ghost use Rattle.word_laws.specs.Words.{is_prefix as is_prefix_seen};
 ghost use Rattle.run_messages.specs.Form.{start, step, first_wanted};
 ghost use Rattle.run_messages.specs.Form.{next_stage as next_seen, is_fit as is_fit_seen};
 ghost use Rattle.run_messages.specs.Form.{command_form as command_form_seen, task_form as task_form_seen};

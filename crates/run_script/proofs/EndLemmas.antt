@@ -4,7 +4,7 @@ use Rattle.roam_edge.specs.Shelf.{NamedFile, bytes_of}
 use Rattle.run_laws.specs.declared.status.Status.{Status}
 use Rattle.run_laws.specs.declared.status.Status.TheVariants as ends
 use Rattle.run_laws.specs.Walk.{Refusal, Walk, walk_of}
-use Rattle.run_laws.specs.Words.{Show}
+use Rattle.word_laws.specs.Words.{Show}
 use Rattle.run_laws.specs.Picture.{Picture, ArePictures}
 use Rattle.run_laws.specs.Act.{Act, Told, Stands, IsCutShort}
 use Rattle.run_laws.specs.Outcome.{Outcome, shown_acts, sum_acts, stop_acts, stop_status, engine_for, frames_outcome, IsFramesOutcome}

@@ -10,7 +10,7 @@ use Rattle.least_laws.specs.Least.{is_worse, IsLeastList}
 use Rattle.least_mesh.specs.declared.least.LeastNote.{LeastNote}
 use Rattle.run_laws.specs.Act.{Act, WholeMesh, ReportText, Told, Stands, IsCutShort}
 use Rattle.run_laws.specs.Walk.{Walk}
-use Rattle.run_laws.specs.Words.{Show, AsLeast}
+use Rattle.word_laws.specs.Words.{Show, AsLeast}
 use Rattle.run_laws.specs.Picture.{Picture, IsPicture, last_members}
 use Rattle.run_laws.specs.Outcome.{Outcome, picture_acts}
 use Rattle.run_script.specs.declared.least_frames.LeastFrames.{LeastFrames}

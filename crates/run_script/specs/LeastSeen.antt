@@ -10,7 +10,7 @@ use Rattle.roam_script.specs.declared.limits.Limits.{Limits}
 use Rattle.roam_script.specs.declared.limits.TheConstants.{MOST_FRAMES}
 use Rattle.run_laws.specs.Act.{Act, WholeMesh, ReportText}
 use Rattle.run_laws.specs.Walk.{Walk}
-use Rattle.run_laws.specs.Words.{Show, AsLeast}
+use Rattle.word_laws.specs.Words.{Show, AsLeast}
 use Rattle.run_laws.specs.Picture.{Picture}
 use Rattle.run_script.specs.declared.least_frames.LeastFrames.{LeastFrames}
 use Rattle.run_words.specs.ShowView.{IsPrefixLength}

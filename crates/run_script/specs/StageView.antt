@@ -3,7 +3,7 @@
 use Rattle.std.specs.Prelude.{◌≡◌, ℕ, ◌≤◌, List, length}
 use Rattle.roam_script.specs.declared.limits.TheConstants.{MOST_LINES, MOST_LINE_BYTES}
 use Rattle.run_laws.specs.Walk.{Walk}
-use Rattle.run_laws.specs.Words.{Show}
+use Rattle.word_laws.specs.Words.{Show}
 use Rattle.run_laws.specs.Picture.{Picture}
 use Rattle.run_laws.specs.Act.{Told}
 use Rattle.run_laws.specs.Step.{Place, HasCome}

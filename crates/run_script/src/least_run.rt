@@ -4,7 +4,7 @@ ghost use Rattle.std.specs.Prelude.{◌≡◌, ◌≢◌, ◌^◌, ◌≤◌, Li
 ghost use Rattle.roam_edge.specs.Shelf.{NamedFile};
 ghost use Rattle.run_laws.specs.Act.{sinks_tell};
 ghost use Rattle.run_laws.specs.Cause.{StatusHasCause};
-ghost use Rattle.run_laws.specs.Words.{OnGrid, Frames, AsLeast};
+ghost use Rattle.word_laws.specs.Words.{OnGrid, Frames, AsLeast};
 ghost use Rattle.run_laws.specs.Promise.{seen, HasEnded, OpensForStatus, CommandReadFault, CommandNoMemory};
 ghost use Rattle.run_laws.specs.Leaving.{CommandEnds};
 ghost use Rattle.run_words.specs.ShowView.{IsPrefixLength};

@@ -8,10 +8,9 @@
 
 mod least_frames;
 mod least_run;
-mod maker;
 mod script;
 mod stage;
 
 pub use least_run::run_least;
-pub use maker::FrameMaker;
+pub use run_laws::FrameMaker;
 pub use script::run_script;

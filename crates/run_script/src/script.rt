@@ -7,7 +7,7 @@ ghost use Rattle.roam_edge.specs.Sink.{Appends};
 ghost use Rattle.run_laws.specs.Cause.{StatusHasCause, StatusWritesHaveCause};
 ghost use Rattle.run_laws.specs.Promise.{seen, HasEnded};
 ghost use Rattle.run_laws.specs.Walk.{Walk};
-ghost use Rattle.run_laws.specs.Words.{Show};
+ghost use Rattle.word_laws.specs.Words.{Show};
 ghost use Rattle.run_laws.specs.Act.{Told, sinks_tell};
 ghost use Rattle.run_laws.specs.ReportText.{line_refusal};
 ghost use Rattle.run_script.specs.StageView.{IsStage, IsAt};
@@ -15,12 +15,11 @@ ghost use Rattle.run_laws.specs.Maker.{Starts, Begins, refusal, IsScriptEnd, End
 ghost use Rattle.run_laws.specs.FileStop.{StopsReading};
 ghost use Rattle.run_script.specs.Taking.{NotFailed, StopsHaveCause, TakesBytes, status_for};
 
-use crate::maker::FrameMaker;
 use crate::stage::Stage;
 use roam_edge::{Failed, MeshSink, Shelf, Sink};
 use roam_script::{Line, ScriptFault, line_laws, read_line};
 use run_files::{PIECE, line_report};
-use run_laws::{Status, state_laws};
+use run_laws::{FrameMaker, Status, state_laws};
 
 /// Why a run goes no further.
 #[derive(Clone, Copy, Debug, PartialEq, Eq)]

@@ -1,7 +1,7 @@
 -- Words that are no command, and the eight words of `certify make`.
-use Rattle.std.proofs.Common.{◌≡◌, ℕ, ◌<◌, Bool, false, if◌then◌else◌, List, [], ◌∷◌, length, get_or, map, Option, Some, None, codes, bytes_eq, refl, sym, subst, arith, ◌≤◌, true, ◌&&◌}
+use Rattle.std.proofs.Common.{◌≡◌, ℕ, ◌<◌, if◌then◌else◌, List, [], ◌∷◌, length, get_or, map, Option, None, codes, bytes_eq, refl, arith, ◌≤◌, true, ◌&&◌}
 use Rattle.std.proofs.lemmas.Bool.{cond-true}
-use Rattle.run_laws.specs.Words.{AsMeasures, Facts, OnGrid, greatest_level, greatest_seed, number_word, budget_word, spacing_word, frames_command, try_command, command_of, Command, coordinate_word, camera_word, make_command}
+use Rattle.word_laws.specs.Words.{budget_word, spacing_word, command_of, Command, coordinate_word, camera_word, make_command}
 
 -- the command that eight texts are
 abbrev pub make_of : List ℕ → List ℕ → List ℕ → List ℕ → List ℕ → List ℕ → List ℕ → List ℕ → Option Command
@@ -47,36 +47,3 @@ none-of-four f (a ∷ (b ∷ (c ∷ (d ∷ (e ∷ words))))) low high = absurd (
 
 pub none-of-many : {A : Type 0} (f : A → List ℕ) (words : List A) → 6 < length words → length words < 7 → command_of (map f words) ≡ None
 none-of-many f words many few = absurd (omega (arith, many, few))
-
--- Words of which the first is not the one of a command that has so many.
-module _ {A : Type 0} (f : A → List ℕ) (word : A) where
-  pub none-of-two : (words : List A) → length words ≡ 2 → word ≡ get_or words 0 word → bytes_eq (f word) (codes "info") ≡ false → command_of (map f words) ≡ None
-  none-of-two [] two is other = absurd (omega arith)
-  none-of-two (a ∷ []) two is other = absurd (omega arith)
-  none-of-two (a ∷ (b ∷ [])) two is other =
-      let P : A → Type 0 = λ x. command_of (f x ∷ (f b ∷ [])) ≡ None in
-      let Q : Bool → Type 0 = λ t. (if t then Some (OnGrid (f b) Facts) else None) ≡ None in
-      subst P is (subst Q (sym other) refl)
-  none-of-two (a ∷ (b ∷ (c ∷ words))) two is other = absurd (omega arith)
-
-  pub none-of-three : (words : List A) → length words ≡ 3 → word ≡ get_or words 0 word → bytes_eq (f word) (codes "try") ≡ false → command_of (map f words) ≡ None
-  none-of-three [] three is other = absurd (omega arith)
-  none-of-three (a ∷ []) three is other = absurd (omega arith)
-  none-of-three (a ∷ (b ∷ [])) three is other = absurd (omega arith)
-  none-of-three (a ∷ (b ∷ (c ∷ []))) three is other =
-      let P : A → Type 0 = λ x. command_of (f x ∷ (f b ∷ (f c ∷ []))) ≡ None in
-      let Q : Bool → Type 0 = λ t. (if t then try_command (number_word 1 greatest_level (f b)) (number_word 0 greatest_seed (f c)) else None) ≡ None in
-      subst P is (subst Q (sym other) refl)
-  none-of-three (a ∷ (b ∷ (c ∷ (d ∷ words)))) three is other = absurd (omega arith)
-
-  pub none-of-five : (words : List A) → length words ≡ 5 → word ≡ get_or words 0 word → bytes_eq (f word) (codes "measure") ≡ false → command_of (map f words) ≡ None
-  none-of-five [] five is other = absurd (omega arith)
-  none-of-five (a ∷ []) five is other = absurd (omega arith)
-  none-of-five (a ∷ (b ∷ [])) five is other = absurd (omega arith)
-  none-of-five (a ∷ (b ∷ (c ∷ []))) five is other = absurd (omega arith)
-  none-of-five (a ∷ (b ∷ (c ∷ (d ∷ [])))) five is other = absurd (omega arith)
-  none-of-five (a ∷ (b ∷ (c ∷ (d ∷ (e ∷ []))))) five is other =
-      let P : A → Type 0 = λ x. command_of (f x ∷ (f b ∷ (f c ∷ (f d ∷ (f e ∷ []))))) ≡ None in
-      let Q : Bool → Type 0 = λ t. (if t then frames_command (f b) (f c) AsMeasures (budget_word (f d)) (spacing_word (f e)) else None) ≡ None in
-      subst P is (subst Q (sym other) refl)
-  none-of-five (a ∷ (b ∷ (c ∷ (d ∷ (e ∷ (g ∷ words)))))) five is other = absurd (omega arith)

@@ -2,8 +2,8 @@
 -- Words: target_seen, IsTarget, fitting_seen, IsFitting.
 use Rattle.std.specs.Prelude.{◌≤◌}
 use Rattle.wedgie_tree.specs.declared.wedges.TheConstants.{GREATEST_SPACING}
-use Rattle.run_laws.specs.Words.{Fitting, least_budget, greatest_budget, greatest_error}
-use Rattle.run_laws.specs.Words as words
+use Rattle.word_laws.specs.Words.{Fitting, least_budget, greatest_budget, greatest_error}
+use Rattle.word_laws.specs.Words as words
 use Rattle.run_words.specs.declared.fit_words.FitWords.{FitWords}
 use Rattle.run_words.specs.declared.fit_words.Target.{Target}
 use Rattle.run_words.specs.declared.fit_words.Target.TheVariants.{AtError, InBudget}

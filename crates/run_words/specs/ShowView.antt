@@ -2,7 +2,7 @@
 -- Words: IsPrefixLength, show_seen, IsShowing.
 use Rattle.std.specs.Prelude.{ℕ, ◌<◌, ◌≤◌, List, length}
 use Rattle.roam_edge.specs.declared.mesh_sink.TheConstants.{LONGEST_PREFIX}
-use Rattle.run_laws.specs.Words.{Show, AsMeshes, AsStrips, AsMeasures}
+use Rattle.word_laws.specs.Words.{Show, AsMeshes, AsStrips, AsMeasures}
 use Rattle.run_words.specs.declared.showing.Showing.{Showing}
 use Rattle.run_words.specs.declared.showing.Showing.TheVariants.{Meshes, Strips, Measures}
 

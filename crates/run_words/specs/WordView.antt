@@ -11,7 +11,7 @@ use Rattle.run_words.specs.declared.showing.Making.TheVariants.{ByEngine, ByTole
 use Rattle.run_words.specs.ShowView.{IsPrefixLength, show_seen, IsShowing}
 use Rattle.run_words.specs.CertifyView.{making_seen, checking_seen, AreInBounds}
 use Rattle.run_words.specs.FitView.{fitting_seen, IsFitting}
-use Rattle.run_laws.specs.Words as words
+use Rattle.word_laws.specs.Words as words
 
 -- how frames are shown
 abbrev pub show_for : Making → words.Show

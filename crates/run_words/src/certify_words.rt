@@ -2,7 +2,7 @@
 
 ghost use Rattle.std.specs.Prelude.{◌≡◌, ◌≤◌, ◌^◌, ◌&&◌, IfSome, length, map, string_bytes, codes, bytes_eq, unsigned_abs};
 ghost use Rattle.std.specs.Option.{option_map};
-ghost use Rattle.run_laws.specs.Words.{budget_word, spacing_word, coordinate_word, camera_word, make_command, check_command, command_of};
+ghost use Rattle.word_laws.specs.Words.{budget_word, spacing_word, coordinate_word, camera_word, make_command, check_command, command_of};
 ghost use Rattle.run_words.specs.WordView.{command_seen, IsAccepted};
 
 use crate::words::{Command, GREATEST_BUDGET, LEAST_BUDGET, small_number};

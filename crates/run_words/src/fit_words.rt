@@ -2,7 +2,7 @@
 
 ghost use Rattle.std.specs.Prelude.{◌≡◌, ◌≤◌, if◌then◌else◌, IfSome};
 ghost use Rattle.std.specs.Option.{option_map};
-ghost use Rattle.run_laws.specs.Words.{error_word, greatest_error, target_word, fit_words};
+ghost use Rattle.word_laws.specs.Words.{error_word, greatest_error, target_word, fit_words};
 ghost use Rattle.run_words.specs.FitView.{target_seen, IsTarget};
 ghost use Rattle.run_words.specs.WordView.{command_seen, IsAccepted};
 

@@ -1,9 +1,9 @@
 //! The words of a command line.
 
-ghost use Rattle.std.specs.Prelude.{◌≡◌, ◌≤◌, if◌then◌else◌, true, map, string_bytes, IfSome, ◌<◌, ◌&&◌, ◌==◌, length};
+ghost use Rattle.std.specs.Prelude.{◌≡◌, ◌≤◌, if◌then◌else◌, true, map, string_bytes, IfSome, ◌<◌, ◌&&◌, ◌==◌, length, codes, bytes_eq};
 ghost use Rattle.std.specs.Option.{option_map};
-ghost use Rattle.run_laws.specs.Words.{command_of, frames_command, least_budget, greatest_budget, least_command, meshes_command, number_word, spacing_word, tolerance_word};
-ghost use Rattle.run_laws.specs.Words.{is_prefix as is_prefix_seen};
+ghost use Rattle.word_laws.specs.Words.{AsMeasures, Facts, OnGrid, budget_word, command_of, fit_words, frames_command, greatest_level, greatest_seed, least_budget, greatest_budget, least_command, meshes_command, number_word, spacing_word, tolerance_word, try_command};
+ghost use Rattle.word_laws.specs.Words.{is_prefix as is_prefix_seen};
 ghost use Rattle.run_words.specs.ShowView.{IsPrefixLength};
 ghost use Rattle.run_words.specs.WordView.{command_seen, show_for, IsMaking, IsAccepted};
 
@@ -79,34 +79,96 @@ fn short_command_in(words: &[String]) -> Option<Command<'_>>
     ensures accepted { IfSome result IsAccepted }
 {
     match words {
-        [word, grid] if word.as_str() == "info" => Some(Command::Info(grid.as_str())),
-        [word, n, seed] if word.as_str() == "try" => Some(Command::Try {
-            n: small_number(n.as_str(), 1, GREATEST_LEVEL)?,
-            seed: small_number(seed.as_str(), 0, GREATEST_SEED)?,
-        }),
-        [word, grid, script, budget, spacing] if word.as_str() == "measure" => frames_in(
-            grid.as_str(),
-            script.as_str(),
-            Making::ByEngine(Showing::Measures),
-            small_number(budget.as_str(), LEAST_BUDGET, GREATEST_BUDGET),
-            spacing.as_str(),
-        ),
-        [word, grid, prefix, target, number, spacing] if word.as_str() == "fit" => fit_in(
-            grid.as_str(),
-            prefix.as_str(),
-            target.as_str(),
-            number.as_str(),
-            spacing.as_str(),
-        ),
-        [word, grid, script, prefix, number, spacing] => meshes_in(
+        [word, grid] => info_in(word.as_str(), grid.as_str()),
+        [word, n, seed] => try_in(word.as_str(), n.as_str(), seed.as_str()),
+        [word, grid, script, budget, spacing] => measure_in(
             word.as_str(),
             grid.as_str(),
             script.as_str(),
-            prefix.as_str(),
+            budget.as_str(),
+            spacing.as_str(),
+        ),
+        [word, grid, name, third, number, spacing] => mesh_in(
+            word.as_str(),
+            grid.as_str(),
+            name.as_str(),
+            third.as_str(),
             number.as_str(),
             spacing.as_str(),
         ),
         _ => None,
+    }
+}
+
+/// A line on the grid, if the word asks for one.
+fn info_in<'a>(word: &str, grid: &'a str) -> Option<Command<'a>>
+    ensures value { option_map command_seen result ≡
+        (if bytes_eq word.now (codes "info") then Some (OnGrid grid.now Facts) else None) }
+    ensures accepted { IfSome result IsAccepted }
+{
+    if word == "info" {
+        Some(Command::Info(grid))
+    } else {
+        None
+    }
+}
+
+/// A generated run, if the word asks for one, and level and seed are numbers within their bounds.
+fn try_in<'a>(word: &str, n: &str, seed: &str) -> Option<Command<'a>>
+    ensures value { option_map command_seen result ≡ (if bytes_eq word.now (codes "try")
+        then try_command (number_word 1 greatest_level n.now) (number_word 0 greatest_seed seed.now) else None) }
+    ensures accepted { IfSome result IsAccepted }
+{
+    if word == "try" {
+        Some(Command::Try {
+            n: small_number(n, 1, GREATEST_LEVEL)?,
+            seed: small_number(seed, 0, GREATEST_SEED)?,
+        })
+    } else {
+        None
+    }
+}
+
+/// Measures of the frames of a script, if the word asks for them, and budget and spacing are numbers within their bounds.
+fn measure_in<'a>(
+    word: &str,
+    grid: &'a str,
+    script: &'a str,
+    budget: &str,
+    spacing: &str,
+) -> Option<Command<'a>>
+    ensures value { option_map command_seen result ≡ (if bytes_eq word.now (codes "measure")
+        then frames_command grid.now script.now AsMeasures (budget_word budget.now) (spacing_word spacing.now) else None) }
+    ensures accepted { IfSome result IsAccepted }
+{
+    if word == "measure" {
+        let making = Making::ByEngine(Showing::Measures);
+        let budget = small_number(budget, LEAST_BUDGET, GREATEST_BUDGET);
+        frames_in(grid, script, making, budget, spacing)
+    } else {
+        None
+    }
+}
+
+/// The command of six words: that fits a mesh, or one that writes a mesh for each frame.
+fn mesh_in<'a>(
+    word: &str,
+    grid: &'a str,
+    name: &'a str,
+    third: &'a str,
+    number: &str,
+    spacing: &str,
+) -> Option<Command<'a>>
+    ensures value { option_map command_seen result ≡ (if bytes_eq word.now (codes "fit")
+        then fit_words grid.now name.now third.now number.now spacing.now
+        else (if is_prefix_seen third.now
+        then meshes_command word.now grid.now name.now third.now number.now spacing.now else None)) }
+    ensures accepted { IfSome result IsAccepted }
+{
+    if word == "fit" {
+        fit_in(grid, name, third, number, spacing)
+    } else {
+        meshes_in(word, grid, name, third, number, spacing)
     }
 }
 

@@ -1,4 +1,4 @@
-use Rattle.std.proofs.Common.{◌≡◌, ◌+◌, ◌*◌, ◌<◌, ◌≤◌, ◌^◌, ℕ, All, List, length, map, take, sym, ◌∙◌, ap, subst}
+use Rattle.std.proofs.Common.{◌≡◌, ◌^◌, ℕ, All, List, length, take, sym, ◌∙◌, ap, subst}
 use Rattle.mesh_defs.specs.ClosedSet.{leaves_of}
 use Rattle.mesh_defs.specs.MeshText.{vertices_of}
 use Rattle.bintree_laws.specs.Corners.{IsInSquare}
@@ -6,7 +6,6 @@ use Rattle.edge_laws.specs.Slots.{split_set}
 use Rattle.obj_write.specs.declared.patch.VertexChange.{VertexChange}
 use Rattle.obj_write.specs.Numbers.{numbers_of}
 use Rattle.obj_write.specs.Patch.{AreChanges}
-use Rattle.frame_loop.specs.Patch.{change_of}
 use Rattle.frame_loop.proofs.PatchLemmas.{changes_within, changes_told}
 use Rattle.frame_loop.proofs.patch.list_and_mend.Goals as goal
 

@@ -1,7 +1,7 @@
 use Rattle.std.proofs.Common.{ℕ, List, map, string_bytes, option_map}
 use Rattle.run_laws.specs.Moment.{moment}
 use Rattle.run_laws.proofs.StatementLemmas.{ends-by-status, is-caused}
-use Rattle.roam_run.specs.EngineSeen.{engine_seen}
+use Rattle.run_engine.specs.EngineSeen.{engine_seen}
 use Rattle.roam_run.proofs.TopLemmas.{left-seen}
 use Rattle.roam_run.proofs.run.roam.Goals as goal
 

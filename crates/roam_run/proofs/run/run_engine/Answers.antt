@@ -1,12 +1,12 @@
 use Rattle.std.proofs.Common.{[], Err, option_map, sym, ◌∙◌, ap, subst}
-use Rattle.run_laws.specs.Words.{Show, Frames, Scripted}
+use Rattle.word_laws.specs.Words.{Show, Frames, Scripted}
 use Rattle.run_laws.specs.ReportText.{grid_refusal}
-use Rattle.roam_run.specs.EngineSeen.{engine_seen}
-use Rattle.roam_run.specs.EngineFrames.{EngineFollows}
+use Rattle.run_engine.specs.EngineSeen.{engine_seen}
+use Rattle.run_engine.specs.EngineFrames.{EngineFollows}
 use Rattle.run_laws.specs.Maker.{TellsFrames, Leaves}
 use Rattle.run_words.specs.WordView.{scripted_seen}
 use Rattle.run_laws.proofs.GridLemmas.{next_count-one, next_count-two, refused-ends, grid-fault, first_walk, first-begins, script-ends, script-fault}
-use Rattle.roam_run.proofs.ShowingLemmas.{left-some, sum-none, leaves-engine}
+use Rattle.roam_run.proofs.LeftLemmas.{left-some, sum-none, leaves-engine}
 use Rattle.roam_run.proofs.run.run_engine.Goals as goal
 
 pub returns-in-Ok-made-clause-outcome : goal.returns-in-Ok-made-clause-outcome

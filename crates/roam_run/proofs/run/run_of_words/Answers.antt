@@ -1,5 +1,5 @@
 use Rattle.std.proofs.Common.{◌≡◌, ℕ, List, map, string_bytes, None, sym}
-use Rattle.run_laws.specs.Words.{command_of}
+use Rattle.word_laws.specs.Words.{command_of}
 use Rattle.run_laws.specs.declared.status.Status.TheVariants.{Usage}
 use Rattle.roam_run.proofs.TopLemmas.{files-told, usage-ends, usage-engine, words-end, words-engine, words-left}
 use Rattle.roam_run.proofs.run.run_of_words.Goals as goal

@@ -1,5 +1,5 @@
 use Rattle.std.proofs.Common.{Err, ◌∙◌, ap}
-use Rattle.run_laws.specs.Words.{Job, Check, Checking}
+use Rattle.word_laws.specs.Words.{Job, Check, Checking}
 use Rattle.run_laws.specs.ReportText.{grid_refusal}
 use Rattle.run_words.specs.CertifyView.{checking_seen}
 use Rattle.run_check.specs.Judging.{opened_for}

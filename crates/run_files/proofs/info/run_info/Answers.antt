@@ -1,5 +1,5 @@
 use Rattle.std.proofs.Common.{Err, ◌∙◌, ap}
-use Rattle.run_laws.specs.Words.{Facts}
+use Rattle.word_laws.specs.Words.{Facts}
 use Rattle.run_laws.specs.ReportText.{info_line, grid_refusal}
 use Rattle.run_laws.proofs.GridLemmas.{next_count-one, refused-ends, facts-end, grid-fault, grid-memory}
 use Rattle.run_files.proofs.info.run_info.Goals as goal

@@ -1,5 +1,5 @@
 use Rattle.std.proofs.Common.{Err, ◌∙◌, ap}
-use Rattle.run_laws.specs.Words.{Job, Fit}
+use Rattle.word_laws.specs.Words.{Job, Fit}
 use Rattle.run_laws.specs.ReportText.{grid_refusal}
 use Rattle.run_laws.proofs.GridLemmas.{next_count-one, refused-ends, grid-fault}
 use Rattle.run_words.specs.FitView.{fitting_seen}

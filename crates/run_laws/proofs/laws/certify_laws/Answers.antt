@@ -1,6 +1,6 @@
 use Rattle.run_laws.proofs.OutcomeLemmas.{command-budget}
 use Rattle.run_laws.proofs.MadeLemmas.{made-accepted}
-use Rattle.run_laws.specs.Words.{Make}
+use Rattle.word_laws.specs.Words.{Make}
 use Rattle.run_laws.proofs.laws.certify_laws.Goals as goal
 
 pub returns : goal.returns

@@ -1,5 +1,5 @@
 use Rattle.std.proofs.Common.{[], Err, refl, sym, ◌∙◌, ap, subst}
-use Rattle.run_laws.specs.Words.{Show, Frames, Scripted}
+use Rattle.word_laws.specs.Words.{Show, Frames, Scripted}
 use Rattle.run_laws.specs.ReportText.{grid_refusal}
 use Rattle.run_laws.specs.Maker.{TellsFrames, Leaves}
 use Rattle.run_laws.proofs.GridLemmas.{next_count-one, next_count-two, refused-ends, grid-fault, first_walk, first-begins, script-ends, script-fault}

@@ -2,7 +2,7 @@ use Rattle.std.proofs.Common.{◌≡◌, ◌+◌, ◌-◌, ◌*◌, ℕ, List, S
 use Rattle.roam_edge.specs.Shelf.{NamedFile}
 use Rattle.roam_edge.specs.Fault.{next_count}
 use Rattle.run_laws.specs.Walk.{Walk}
-use Rattle.run_laws.specs.Words.{Show}
+use Rattle.word_laws.specs.Words.{Show}
 use Rattle.run_laws.specs.Act.{sinks_tell}
 use Rattle.run_laws.specs.Cause.{NoFault}
 use Rattle.run_script.specs.StageView.{IsStage}

@@ -1,6 +1,6 @@
 use Rattle.std.proofs.Common.{◌≡◌, ◌+◌, ◌*◌, ◌≤◌, ◌++◌, ℕ, List, false, take, length}
 use Rattle.run_laws.specs.Walk.{Walk}
-use Rattle.run_laws.specs.Words.{Show}
+use Rattle.word_laws.specs.Words.{Show}
 use Rattle.run_laws.specs.Act.{Told, sinks_tell}
 use Rattle.run_laws.specs.Cause.{NoFault}
 use Rattle.run_script.specs.StageView.{IsStage, IsAt}

@@ -1,6 +1,6 @@
 -- The frame is of the grid that was read, at the tolerance and the budget of the target.
 use Rattle.std.proofs.Common.{ℕ, ◌∙◌, ap}
-use Rattle.run_laws.specs.Words.{Target}
+use Rattle.word_laws.specs.Words.{Target}
 use Rattle.run_words.specs.FitView.{target_seen}
 use Rattle.run_fit.specs.FittedSeen.{tolerance_for}
 use Rattle.run_fit.proofs.FittedLemmas.{framed-fitted}

@@ -1,6 +1,0 @@
-use Rattle.roam_run.specs.SumView.{HasGone}
-use Rattle.roam_run.proofs.generated.sums_of.Given as goal
-
--- the lines so far were carried out
-abbrev pub invariant-loop-k : goal.invariant-loop-k
-invariant-loop-k l = HasGone l.n l.seed l.k l.engine l.sums

@@ -1,0 +1,15 @@
+use Rattle.run_engine.proofs.frame.show_frame.Goals as goal
+
+pub returns-in-Strips-clause-ok : goal.returns-in-Strips-clause-ok
+returns-in-Strips-clause-ok g c = rw c.in-Strips.is (c.write_strip.ensures.ok c.args.note.now)
+
+pub returns-in-Strips-clause-err : goal.returns-in-Strips-clause-err
+returns-in-Strips-clause-err g c = rw c.in-Strips.is (c.write_strip.ensures.err c.args.note.now)
+
+pub returns-in-Measures-clause-ok : goal.returns-in-Measures-clause-ok
+returns-in-Measures-clause-ok g c = rw c.in-Measures.is (c.write_measure.ensures.ok (g.M.MeshSink.meshes c.args.meshes.now)
+    (g.M.MeshSink.faults c.args.meshes.now) c.args.note.now)
+
+pub returns-in-Measures-clause-err : goal.returns-in-Measures-clause-err
+returns-in-Measures-clause-err g c = rw c.in-Measures.is (c.write_measure.ensures.err (g.M.MeshSink.meshes c.args.meshes.now)
+    (g.M.MeshSink.faults c.args.meshes.now) c.args.note.now)

@@ -1,0 +1,206 @@
+//! A frame as a strip, or as a line on how far its mesh is from the surface.
+
+ghost use Rattle.std.specs.Prelude.{ℕ, ◌≡◌, ◌*◌, ◌^◌, ◌<◌, ◌≤◌, Option, List, false, length, All, OnOk, OnErr};
+ghost use Rattle.mesh_defs.specs.Triangle.{level_of};
+ghost use Rattle.mesh_defs.specs.ClosedSet.{IsClosed, among};
+ghost use Rattle.roam_edge.specs.Fault.{HasCause};
+ghost use Rattle.roam_edge.specs.MeshSink.{Mesh};
+ghost use Rattle.roam_edge.specs.declared.mesh_sink.TheConstants.{LONGEST_PREFIX, GREATEST_NUMBER};
+ghost use Rattle.wedgie_tree.specs.declared.wedges.TheConstants.{GREATEST_SPACING};
+ghost use Rattle.obj_write.specs.Numbers.{numbers_of};
+ghost use Rattle.strip_laws.specs.Strip.{strip_of};
+ghost use Rattle.deviation_laws.specs.PlaneHeight.{deviation_of, thickest_of};
+ghost use Rattle.roam_mesh.specs.Mesh.{pool_members};
+ghost use Rattle.frame_loop.specs.declared.note.FrameNote.{FrameNote as NoteSeen};
+ghost use Rattle.run_laws.specs.Act.{sinks_tell, report_tells, Stands, IsCutShort};
+ghost use Rattle.run_laws.specs.Cause.{WritesHaveCause};
+ghost use Rattle.run_laws.specs.Turns.{left_turns, right_turns};
+ghost use Rattle.word_laws.specs.Words.{AsStrips, AsMeasures};
+ghost use Rattle.run_laws.specs.Outcome.{picture_acts};
+ghost use Rattle.run_engine.specs.NoteSeen.{picture_seen, leaves_seen};
+ghost use Rattle.run_engine.specs.ShowView.{strip_numbers, measure_numbers};
+
+use arrayvec::ArrayVec;
+use bintree_addr::Tri;
+use frame_loop::Engine;
+use mesh_measure::{deviation, thickest};
+use obj_write::{MeshView, write_mesh};
+use roam_edge::{Failed, MeshSink, Sink};
+use roam_num::push_bytes;
+use run_files::{Text, push_placed};
+use run_laws::turn_count_laws;
+use strip_order::{strip, turns};
+
+/// Writes the mesh of an engine as a strip, and then the line of the strip. The line comes only after the mesh was finished.
+///
+/// The strip is put to the front of the room, which has a place for each triangle.
+/// Cost (not proved): that of `strip`, `turns` and `write_mesh`; takes no memory.
+pub(crate) fn write_strip<M: MeshSink, R: Sink>(
+    prefix: &str,
+    engine: &Engine,
+    room: &mut [Tri],
+    meshes: &mut M,
+    report: &mut R,
+) -> Result<(), Failed>
+    requires idle { M.under_way meshes.old ≡ false }
+    requires prefix_some { 0 < length prefix.now }
+    requires prefix_short { length prefix.now ≤ LONGEST_PREFIX }
+    requires number_low { 1 ≤ engine.now.frames }
+    requires number_high { engine.now.frames ≤ GREATEST_NUMBER }
+    requires closed { IsClosed engine.now.state.grid.n (among (pool_members engine.now.mesh.pool)) }
+    requires room { length (leaves_seen engine.now) ≤ length room.old }
+    ensures ok { (note : NoteSeen) →
+        OnOk result (Stands (sinks_tell M.MeshSink R.Sink meshes.old report.old)
+        (sinks_tell M.MeshSink R.Sink meshes.new report.new)
+        (picture_acts (AsStrips prefix.now) engine.now.frames (picture_seen engine.now note))) }
+    ensures idle { OnOk result (M.under_way meshes.new ≡ false) }
+    ensures err { (note : NoteSeen) →
+        OnErr result (IsCutShort (sinks_tell M.MeshSink R.Sink meshes.old report.old)
+        (sinks_tell M.MeshSink R.Sink meshes.new report.new)
+        (picture_acts (AsStrips prefix.now) engine.now.frames (picture_seen engine.now note))) }
+    ensures faults { WritesHaveCause (M.faults meshes.old) (M.faults meshes.new)
+        (R.faults report.old) (R.faults report.new) result }
+{
+    let count = engine.view().leaves.len();
+    let order = &mut room[..count];
+    put_strip(engine, order);
+    write_order(prefix, engine, order, meshes, report)
+}
+
+/// Puts the strip of an engine's mesh into room for just as many triangles.
+fn put_strip(engine: &Engine, order: &mut [Tri])
+    requires closed { IsClosed engine.now.state.grid.n (among (pool_members engine.now.mesh.pool)) }
+    requires room { length order.old ≡ length (leaves_seen engine.now) }
+    ensures { order.new ≡ strip_of engine.now.state.grid.n (among (pool_members engine.now.mesh.pool)) }
+{
+    let _level = engine.grid().n();
+    strip(engine.view().leaves, order);
+}
+
+/// Writes the mesh of an engine with its triangles in the order of their strip, and then the line of the strip.
+fn write_order<M: MeshSink, R: Sink>(
+    prefix: &str,
+    engine: &Engine,
+    order: &[Tri],
+    meshes: &mut M,
+    report: &mut R,
+) -> Result<(), Failed>
+    requires idle { M.under_way meshes.old ≡ false }
+    requires prefix_some { 0 < length prefix.now }
+    requires prefix_short { length prefix.now ≤ LONGEST_PREFIX }
+    requires number_low { 1 ≤ engine.now.frames }
+    requires number_high { engine.now.frames ≤ GREATEST_NUMBER }
+    requires closed { IsClosed engine.now.state.grid.n (among (pool_members engine.now.mesh.pool)) }
+    requires order { order.now ≡ strip_of engine.now.state.grid.n (among (pool_members engine.now.mesh.pool)) }
+    ensures ok { (note : NoteSeen) →
+        OnOk result (Stands (sinks_tell M.MeshSink R.Sink meshes.old report.old)
+        (sinks_tell M.MeshSink R.Sink meshes.new report.new)
+        (picture_acts (AsStrips prefix.now) engine.now.frames (picture_seen engine.now note))) }
+    ensures idle { OnOk result (M.under_way meshes.new ≡ false) }
+    ensures err { (note : NoteSeen) →
+        OnErr result (IsCutShort (sinks_tell M.MeshSink R.Sink meshes.old report.old)
+        (sinks_tell M.MeshSink R.Sink meshes.new report.new)
+        (picture_acts (AsStrips prefix.now) engine.now.frames (picture_seen engine.now note))) }
+    ensures faults { WritesHaveCause (M.faults meshes.old) (M.faults meshes.new)
+        (R.faults report.old) (R.faults report.new) result }
+{
+    let line = strip_report(engine, order);
+    write_mesh(&in_order(engine, order), prefix, engine.frames(), meshes)?;
+    report.write(line.as_slice())
+}
+
+/// The mesh of an engine, with its triangles in the order of their strip.
+fn in_order<'a>(engine: &'a Engine, order: &'a [Tri]) -> MeshView<'a>
+    requires order { order.now ≡ strip_of engine.now.state.grid.n (among (pool_members engine.now.mesh.pool)) }
+    ensures leaves { result.leaves.now ≡ order.now }
+    ensures wedges { result.wedges.now ≡ engine.now.state.grid }
+    ensures planes { result.planes.now ≡ engine.now.state.view.planes }
+    ensures spacing { result.spacing ≡ engine.now.state.view.spacing }
+    ensures numbers { result.numbers.now ≡ numbers_of engine.now.state.grid.n order.now }
+    ensures levels { All (λ a. level_of a ≤ 2 * engine.now.state.grid.n) order.now }
+    ensures spacing_low { 1 ≤ result.spacing }
+    ensures spacing_high { result.spacing ≤ GREATEST_SPACING }
+{
+    let view = engine.view();
+    MeshView {
+        wedges: view.wedges,
+        leaves: order,
+        numbers: view.numbers,
+        spacing: view.spacing,
+        planes: view.planes,
+    }
+}
+
+/// The line of the strip of an engine's last frame.
+fn strip_report(engine: &Engine, order: &[Tri]) -> Text
+    requires closed { IsClosed engine.now.state.grid.n (among (pool_members engine.now.mesh.pool)) }
+    requires order { order.now ≡ strip_of engine.now.state.grid.n (among (pool_members engine.now.mesh.pool)) }
+    ensures { let n = engine.now.state.grid.n in
+        result.items ≡ strip_numbers engine.now.frames (length order.now) (left_turns n order.now) (right_turns n order.now) }
+{
+    turn_count_laws();
+    let turned = turns(order, engine.grid().n());
+    strip_text(
+        engine.frames(),
+        order.len() as u64,
+        turned.left,
+        turned.right,
+    )
+}
+
+/// The line of a strip.
+fn strip_text(number: u32, triangles: u64, left: u32, right: u32) -> Text
+    ensures { result.items ≡ strip_numbers number triangles left right }
+{
+    let mut text = ArrayVec::new();
+    push_placed(&mut text, b"strip ", u64::from(number));
+    push_placed(&mut text, b" triangles ", triangles);
+    push_placed(&mut text, b" left ", u64::from(left));
+    push_placed(&mut text, b" right ", u64::from(right));
+    push_bytes(&mut text, b"\n");
+    text
+}
+
+/// Writes the line on how far the mesh of an engine is from the surface.
+///
+/// Cost (not proved): that of `deviation`; takes no memory.
+pub(crate) fn write_measure<R: Sink>(engine: &Engine, report: &mut R) -> Result<(), Failed>
+    requires closed { IsClosed engine.now.state.grid.n (among (pool_members engine.now.mesh.pool)) }
+    ensures ok { (meshes : Option (List Mesh)) (count : ℕ) (note : NoteSeen) →
+        OnOk result (Stands (report_tells R.Sink meshes count report.old)
+        (report_tells R.Sink meshes count report.new)
+        (picture_acts AsMeasures engine.now.frames (picture_seen engine.now note))) }
+    ensures err { (meshes : Option (List Mesh)) (count : ℕ) (note : NoteSeen) →
+        OnErr result (IsCutShort (report_tells R.Sink meshes count report.old)
+        (report_tells R.Sink meshes count report.new)
+        (picture_acts AsMeasures engine.now.frames (picture_seen engine.now note))) }
+    ensures faults { HasCause (R.faults report.old) (R.faults report.new) result }
+{
+    report.write(measure_report(engine).as_slice())
+}
+
+/// The line on how far the mesh of an engine is from the surface.
+fn measure_report(engine: &Engine) -> Text
+    requires closed { IsClosed engine.now.state.grid.n (among (pool_members engine.now.mesh.pool)) }
+    ensures { let grid = engine.now.state.grid in
+        result.items ≡ measure_numbers engine.now.frames (deviation_of grid.n grid.heights (leaves_seen engine.now)) (2 ^ grid.n)
+        (thickest_of grid.n grid.heights (leaves_seen engine.now)) }
+{
+    let view = engine.view();
+    let off = deviation(view.wedges, view.leaves);
+    let thick = thickest(view.wedges, view.leaves);
+    measure_text(engine.frames(), off, 1 << engine.grid().n(), thick)
+}
+
+/// The line of a measure.
+fn measure_text(number: u32, off: u64, over: u64, thick: u32) -> Text
+    ensures { result.items ≡ measure_numbers number off over thick }
+{
+    let mut text = ArrayVec::new();
+    push_placed(&mut text, b"measure ", u64::from(number));
+    push_placed(&mut text, b" deviation ", off);
+    push_placed(&mut text, b" over ", over);
+    push_placed(&mut text, b" thickness ", u64::from(thick));
+    push_bytes(&mut text, b"\n");
+    text
+}
