@@ -10,7 +10,7 @@ ghost use Rattle.closure_laws.specs.Forcing.{IsPrepared};
 
 use crate::members::{contains, insert};
 use bintree_addr::Tri;
-use roam_edge::NoMemory;
+use roam_errors::NoMemory;
 
 /// Splits the triangle, and before it what it stands on: its parent, its mate and its mate's parent.
 ///

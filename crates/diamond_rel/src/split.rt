@@ -12,7 +12,7 @@ use crate::forcing::force;
 use crate::leaves::push_all_leaves;
 use crate::members::contains;
 use bintree_addr::Tri;
-use roam_edge::NoMemory;
+use roam_errors::NoMemory;
 use std::alloc::Global;
 use std::marker::Model;
 use tiling_laws::conformity_laws;

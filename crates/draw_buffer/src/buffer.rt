@@ -10,7 +10,7 @@ ghost use Rattle.draw_buffer.specs.Exchange.{addresses_of, IsTold, IsGiven};
 use crate::exchange::{Exchange, MOST_TRIANGLES};
 use crate::indices::Indices;
 use bintree_addr::Tri;
-use roam_edge::NoMemory;
+use roam_errors::NoMemory;
 use std::alloc::Global;
 use std::marker::Model;
 

@@ -17,4 +17,4 @@ pub use bintree_addr::Tri;
 pub use buffer::DrawBuffer;
 pub use exchange::MOST_TRIANGLES;
 pub use indices::Indices;
-pub use roam_edge::NoMemory;
+pub use roam_errors::NoMemory;

@@ -2,13 +2,13 @@
 -- This project's own words.
 use Rattle.std.specs.Prelude.{ℕ, Bool, true, false, List, [], ◌∷◌, length, drop, not, ◌==◌, ◌||◌, if◌then◌else◌, bytes_eq}
 use Rattle.std.specs.List.{list_any}
-use Rattle.roam_edge.specs.Fault.{next_count}
+use Rattle.roam_edge.specs.Fault.{next_count, late_after}
 use Rattle.roam_edge.specs.Shelf.{NamedFile, bytes_of}
 use Rattle.edge_doubles.specs.declared.shelf_call.ShelfCall.{ShelfCall}
 use Rattle.edge_doubles.specs.declared.shelf_call.ShelfCall.TheVariants.{Open, Read}
 
 -- the files, the unread bytes of the file chosen last, whether nothing is left to read, the calls
--- that are to fail, and how many calls of each kind and failures there were
+-- that are to fail, how many calls of each kind and failures there were, and whether a call came after a failure
 pub record KeptFiles : Type 0 where
   pub files : List NamedFile
   pub unread : List ℕ
@@ -17,6 +17,7 @@ pub record KeptFiles : Type 0 where
   pub opens : ℕ
   pub reads : ℕ
   pub faults : ℕ
+  pub late : Bool
 
 -- one call is the other: of the same kind, with the same number
 abbrev pub is_same : ShelfCall → ShelfCall → Bool
@@ -41,8 +42,8 @@ open_fails kept name = names kept.fails (Open (next_count kept.opens)) || not (h
 abbrev pub after_open : KeptFiles → List ℕ → KeptFiles
 after_open kept name =
     if open_fails kept name
-    then record kept { opens = next_count kept.opens; unread = []; ended = true; faults = next_count kept.faults }
-    else record kept { opens = next_count kept.opens; unread = bytes_of kept.files name; ended = false }
+    then record kept { opens = next_count kept.opens; unread = []; ended = true; faults = next_count kept.faults; late = late_after kept.late kept.faults }
+    else record kept { opens = next_count kept.opens; unread = bytes_of kept.files name; ended = false; late = late_after kept.late kept.faults }
 
 -- the next read fails: it is named
 abbrev pub read_fails : KeptFiles → Bool
@@ -52,5 +53,5 @@ read_fails kept = names kept.fails (Read (next_count kept.reads))
 abbrev pub after_read : KeptFiles → ℕ → KeptFiles
 after_read kept size =
     if read_fails kept
-    then record kept { reads = next_count kept.reads; faults = next_count kept.faults }
-    else record kept { reads = next_count kept.reads; unread = drop size kept.unread; ended = length kept.unread == 0 }
+    then record kept { reads = next_count kept.reads; faults = next_count kept.faults; late = late_after kept.late kept.faults }
+    else record kept { reads = next_count kept.reads; unread = drop size kept.unread; ended = length kept.unread == 0; late = late_after kept.late kept.faults }

@@ -64,6 +64,8 @@ impl MeshSink for CountMeshes {
 
     ghost faults = { λ _. 0 };
 
+    ghost late = { λ _. false };
+
     fn begin(&mut self, _prefix: &str, _number: u32) -> Result<(), Failed>
         requires idle { self.old.under_way ≡ false }
         requires prefix_some { 0 < length _prefix.now }

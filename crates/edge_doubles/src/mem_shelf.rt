@@ -1,7 +1,7 @@
 //! A shelf of files in memory.
 
 ghost use Rattle.std.specs.Prelude.{◌≡◌, ◌<◌, ◌≤◌, ℕ, [], ◌∷◌, ◌++◌, Some, true, false, IfOk, OnOk, OnErr, is_err, length, min};
-ghost use Rattle.roam_edge.specs.Fault.{HasCause, next_count};
+ghost use Rattle.roam_edge.specs.Fault.{HasCause, late_after, next_count};
 ghost use Rattle.roam_edge.specs.Shelf.{Opens, Reads, Ends};
 ghost use Rattle.edge_doubles.specs.MemShelf.{open_fails, after_open, read_fails, after_read};
 
@@ -27,6 +27,7 @@ pub struct MemShelf {
     opens: u64,
     reads: u64,
     faults: u64,
+    late: bool,
 }
 
 impl Model for MemShelf {
@@ -44,6 +45,7 @@ impl Model for MemShelf {
       opens = s.opens;
       reads = s.reads;
       faults = s.faults;
+      late = s.late;
     } };
 
     ghost invariant = { λ s. IsPlace s.files.items s.chosen s.taken };
@@ -60,6 +62,7 @@ impl MemShelf {
           opens = 0;
           reads = 0;
           faults = 0;
+          late = false;
         }) }
     {
         Ok(MemShelf {
@@ -72,6 +75,7 @@ impl MemShelf {
             opens: 0,
             reads: 0,
             faults: 0,
+            late: false,
         })
     }
 
@@ -102,6 +106,8 @@ impl Shelf for MemShelf {
 
     ghost faults = { λ s. s.faults };
 
+    ghost late = { λ s. s.late };
+
     fn open_named(&mut self, name: &str) -> Result<(), Failed>
         ensures fails { is_err result ≡ open_fails self.old name.now }
         ensures after { self.new ≡ after_open self.old name.now }
@@ -111,7 +117,9 @@ impl Shelf for MemShelf {
         ensures count { self.new.opens ≡ next_count self.old.opens }
         ensures others { Some self.new.files ≡ Some self.old.files }
         ensures faults { HasCause self.old.faults self.new.faults result }
+        ensures late { self.new.late ≡ late_after self.old.late self.old.faults }
     {
+        self.late = self.late || self.faults > 0;
         self.opens = self.opens.saturating_add(1);
         self.chosen = None;
         self.taken = 0;
@@ -142,7 +150,9 @@ impl Shelf for MemShelf {
         ensures count { self.new.opens ≡ self.old.opens }
         ensures others { Some self.new.files ≡ Some self.old.files }
         ensures faults { HasCause self.old.faults self.new.faults result }
+        ensures late { self.new.late ≡ late_after self.old.late self.old.faults }
     {
+        self.late = self.late || self.faults > 0;
         self.reads = self.reads.saturating_add(1);
         if is_named(self.fails.as_slice(), ShelfCall::Read(self.reads)) {
             self.faults = self.faults.saturating_add(1);

@@ -13,7 +13,7 @@ use address_flags::end;
 use fit_certificate_laws::{FitCert, Off, Target};
 use fit_mesh::Fit;
 use pgm_grid::Grid;
-use roam_edge::NoMemory;
+use roam_errors::NoMemory;
 use std::alloc::Global;
 
 /// A sound certificate of the best mesh for an error or a budget: the mesh of `Fit::frame` of `fit_mesh`.

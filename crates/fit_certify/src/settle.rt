@@ -17,7 +17,7 @@ use bintree_addr::Tri;
 use fit_certificate_laws::Off;
 use mesh_measure::point_above;
 use pgm_grid::Grid;
-use roam_edge::NoMemory;
+use roam_errors::NoMemory;
 use std::alloc::Global;
 
 /// Splits each leaf that is off by more than the tolerance, with what that forces, until none is. Answers the reasons.

@@ -13,7 +13,7 @@ use bintree_addr::Tri;
 use fit_certificate_laws::{FitCert, Reject, Target, Verdict};
 use fit_mesh::worst_error;
 use pgm_grid::Grid;
-use roam_edge::NoMemory;
+use roam_errors::NoMemory;
 use std::alloc::Global;
 
 /// The verdict on a certificate: that it is sound, or the first test that fails.

@@ -18,7 +18,7 @@ use bintree_addr::Tri;
 use closure_laws::base_mesh;
 use obj_write::number_vertices;
 use pgm_grid::{Grid, side_for};
-use roam_edge::NoMemory;
+use roam_errors::NoMemory;
 use std::alloc::Global;
 use std::collections::BinaryHeap;
 use std::marker::Model;

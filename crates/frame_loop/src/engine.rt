@@ -23,7 +23,7 @@ use bintree_addr::Tri;
 use cull_marks::Planes;
 use obj_write::{MeshView, VertexChange, VertexTable};
 use pgm_grid::Grid;
-use roam_edge::NoMemory;
+use roam_errors::NoMemory;
 use roam_mesh::Mesh;
 use std::alloc::Global;
 use std::marker::Model;

@@ -3,7 +3,7 @@
 ghost use Rattle.std.specs.Prelude.{◌≤◌};
 
 use pgm_grid::{Grid, PgmFault, PgmReader};
-use roam_edge::NoMemory;
+use roam_errors::NoMemory;
 use std::alloc::{AllocError, Global};
 use std::test::Fail;
 

@@ -3,7 +3,7 @@
 ghost use Rattle.std.specs.Prelude.{◌^◌, ◌≤◌};
 
 use pgm_raster::{RasterFault, RasterForm, RasterReader};
-use roam_edge::NoMemory;
+use roam_errors::NoMemory;
 use std::alloc::Global;
 use std::test::Fail;
 

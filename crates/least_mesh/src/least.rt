@@ -21,7 +21,7 @@ use least_laws::least_laws;
 use obj_write::number_vertices;
 use pgm_grid::side_for;
 use plain_mesh::falling_laws;
-use roam_edge::NoMemory;
+use roam_errors::NoMemory;
 use std::alloc::Global;
 use std::marker::Model;
 use view_priority::{Camera, Meter};

@@ -12,4 +12,4 @@ mod queue;
 pub use bintree_addr::{Rank, Slot};
 pub use diamond::chief;
 pub use queue::MergeQueue;
-pub use roam_edge::NoMemory;
+pub use roam_errors::NoMemory;

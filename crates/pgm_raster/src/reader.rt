@@ -11,7 +11,7 @@ use crate::form::RasterForm;
 use crate::part::{Digits, Limits, Part};
 use crate::plain::{end_digits, plain_within};
 use crate::raw::{bytes_after, words_after, words_after_half};
-use roam_edge::NoMemory;
+use roam_errors::NoMemory;
 use std::alloc::Global;
 use std::marker::Model;
 

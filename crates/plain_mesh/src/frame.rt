@@ -15,7 +15,7 @@ use bintree_addr::Blocked;
 use closure_laws::frame_laws;
 use cull_marks::Planes;
 use diamond_rel::Split;
-use roam_edge::NoMemory;
+use roam_errors::NoMemory;
 use std::alloc::Global;
 use view_priority::Camera;
 use wedgie_tree::Wedges;

@@ -8,7 +8,7 @@ ghost use Rattle.plain_mesh.specs.Ranks.{IsPicked, IsRanked, positives_below};
 
 use bintree_addr::{Rank, Tri, level_laws, rank_laws};
 use cull_marks::Planes;
-use roam_edge::NoMemory;
+use roam_errors::NoMemory;
 use std::alloc::Global;
 use view_priority::{Camera, Meter, rank};
 use wedgie_tree::Wedges;

@@ -16,7 +16,7 @@ use cert_text::Cert;
 use certificate_laws::{certificate_laws, reason_laws};
 use cull_marks::Planes;
 use plain_mesh::{falling_laws, plain_frame};
-use roam_edge::NoMemory;
+use roam_errors::NoMemory;
 use std::alloc::Global;
 use view_priority::Camera;
 use wedgie_tree::Wedges;

@@ -14,7 +14,7 @@ use address_flags::{end, flag, is_set};
 use bintree_addr::Tri;
 use certificate_laws::{Kind, Reason};
 use plain_mesh::falling_laws;
-use roam_edge::NoMemory;
+use roam_errors::NoMemory;
 use std::alloc::Global;
 
 /// Reasons for a mesh with this worst: one fewer than the budget, or all that there are.

@@ -20,7 +20,7 @@ use bintree_addr::Tri;
 use cert_text::Cert;
 use certificate_laws::{Reason, Reject, Verdict};
 use cull_marks::Planes;
-use roam_edge::NoMemory;
+use roam_errors::NoMemory;
 use std::alloc::Global;
 use wedgie_tree::Wedges;
 

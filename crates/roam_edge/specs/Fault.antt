@@ -1,6 +1,6 @@
--- Counts of calls and of faults, and that a call fails only where its object counted a fault.
+-- Counts of calls and of faults, that a call fails only where its object counted a fault, and whether a call came after a fault.
 -- A count is a number of 64 bits that stands still at its greatest value. This project's own words.
-use Rattle.std.specs.Prelude.{◌≡◌, ℕ, ◌+◌, ◌-◌, ◌^◌, ◌≤◌, min, Result, OnOk, OnErr}
+use Rattle.std.specs.Prelude.{◌≡◌, ℕ, ◌+◌, ◌-◌, ◌^◌, ◌≤◌, min, nat_lt, Bool, false, ◌||◌, Result, OnOk, OnErr}
 
 -- the count after one more
 abbrev pub next_count : ℕ → ℕ
@@ -15,3 +15,15 @@ pub record HasCause {T E : Type 0} (before now : ℕ) (answer : Result T E) : Ty
   pub later : before ≤ now
   pub ok : OnOk answer (now ≡ before)
   pub failed : OnErr answer (Rose before now)
+
+-- a call has failed: the count of faults is above 0, and stays so
+abbrev pub has_failed : ℕ → Bool
+has_failed faults = nat_lt 0 faults
+
+-- whether a call came after one that had failed, once one more has been made
+abbrev pub late_after : Bool → ℕ → Bool
+late_after late faults = late || has_failed faults
+
+-- no call comes after one that failed, unless one did so before, or had failed by then
+abbrev pub IsInTime : Bool → ℕ → Bool → Type 0
+IsInTime late faults now = late ≡ false → faults ≡ 0 → now ≡ false

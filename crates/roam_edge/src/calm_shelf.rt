@@ -88,6 +88,8 @@ impl<'a> Shelf for CalmShelf<'a> {
 
     ghost faults = { λ _. 0 };
 
+    ghost late = { λ _. false };
+
     fn open_named(&mut self, name: &str) -> Result<(), Failed>
         ensures ok { IsOk result }
         ensures opened { Opens (Some self.old.files) (Some self.old.unread) (Some self.new.unread)

@@ -2,7 +2,7 @@
 
 ghost use Rattle.std.specs.Prelude.{◌≡◌, None, true, false, OnErr, is_some, is_err};
 ghost use Rattle.std.specs.Io.KnownBytes.{Keeps};
-ghost use Rattle.roam_edge.specs.Fault.{HasCause};
+ghost use Rattle.roam_edge.specs.Fault.{HasCause, late_after};
 ghost use Rattle.roam_edge.specs.MeshSink.{Writes, Finishes};
 ghost use Rattle.roam_edge.specs.Sink.{Appends};
 ghost use Rattle.roam_edge.specs.RealFile.{of_open};
@@ -23,6 +23,7 @@ pub struct FileMeshes<'r, R: Files> {
     rt: &'r R,
     file: Option<R::File>,
     faults: u64,
+    late: bool,
 }
 
 impl<'r, R: Files> FileMeshes<'r, R> {
@@ -30,11 +31,13 @@ impl<'r, R: Files> FileMeshes<'r, R> {
     pub fn new(rt: &'r R) -> FileMeshes<'r, R>
         ensures under_way { ⟦<FileMeshes<'r, R> as MeshSink>⟧.under_way result ≡ false }
         ensures faults { ⟦<FileMeshes<'r, R> as MeshSink>⟧.faults result ≡ 0 }
+        ensures late { ⟦<FileMeshes<'r, R> as MeshSink>⟧.late result ≡ false }
     {
         FileMeshes {
             rt,
             file: None,
             faults: 0,
+            late: false,
         }
     }
 }
@@ -48,7 +51,10 @@ impl<'r, R: Files> MeshSink for FileMeshes<'r, R> {
 
     ghost faults = { λ s. s.faults };
 
+    ghost late = { λ s. s.late };
+
     fn begin(&mut self, prefix: &str, number: u32) -> Result<(), Failed> {
+        self.late = self.late || self.faults > 0;
         let name = mesh_name(prefix, number);
         match fs::create(self.rt, name.as_str()) {
             Ok(file) => {
@@ -69,7 +75,9 @@ impl<'r, R: Files> MeshSink for FileMeshes<'r, R> {
         ensures mesh { Writes None None piece.now result }
         ensures under_way { is_some self.new.file ≡ is_some self.old.file }
         ensures faults { HasCause self.old.faults self.new.faults result }
+        ensures late { self.new.late ≡ late_after self.old.late self.old.faults }
     {
+        self.late = self.late || self.faults > 0;
         let Some(file) = &mut self.file else {
             unreachable!()
         };
@@ -83,7 +91,9 @@ impl<'r, R: Files> MeshSink for FileMeshes<'r, R> {
         ensures mesh { Finishes None None result }
         ensures under_way { is_some self.new.file ≡ is_err result }
         ensures faults { HasCause self.old.faults self.new.faults result }
+        ensures late { self.new.late ≡ late_after self.old.late self.old.faults }
     {
+        self.late = self.late || self.faults > 0;
         let Some(file) = &mut self.file else {
             unreachable!()
         };

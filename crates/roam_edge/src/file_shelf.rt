@@ -1,7 +1,7 @@
 //! A shelf over real files.
 
 ghost use Rattle.std.specs.Prelude.{◌≡◌, ◌<◌, ◌≤◌, ℕ, None, true, false, IfOk, is_err, is_none, length};
-ghost use Rattle.roam_edge.specs.Fault.{HasCause, next_count};
+ghost use Rattle.roam_edge.specs.Fault.{HasCause, late_after, next_count};
 ghost use Rattle.roam_edge.specs.Shelf.{Opens, Reads, Ends};
 ghost use Rattle.roam_edge.specs.RealFile.{TakesNext, of_open};
 
@@ -19,6 +19,7 @@ pub struct FileShelf<'r, R: Files> {
     file: Option<R::File>,
     opens: u64,
     faults: u64,
+    late: bool,
 }
 
 impl<'r, R: Files> FileShelf<'r, R> {
@@ -27,12 +28,14 @@ impl<'r, R: Files> FileShelf<'r, R> {
         ensures opens { ⟦<FileShelf<'r, R> as Shelf>⟧.opens result ≡ 0 }
         ensures ended { ⟦<FileShelf<'r, R> as Shelf>⟧.ended result ≡ true }
         ensures faults { ⟦<FileShelf<'r, R> as Shelf>⟧.faults result ≡ 0 }
+        ensures late { ⟦<FileShelf<'r, R> as Shelf>⟧.late result ≡ false }
     {
         FileShelf {
             rt,
             file: None,
             opens: 0,
             faults: 0,
+            late: false,
         }
     }
 }
@@ -50,7 +53,10 @@ impl<'r, R: Files> Shelf for FileShelf<'r, R> {
 
     ghost faults = { λ s. s.faults };
 
+    ghost late = { λ s. s.late };
+
     fn open_named(&mut self, name: &str) -> Result<(), Failed> {
+        self.late = self.late || self.faults > 0;
         self.opens = self.opens.saturating_add(1);
         match fs::open(self.rt, name) {
             Ok(file) => {
@@ -75,7 +81,9 @@ impl<'r, R: Files> Shelf for FileShelf<'r, R> {
         ensures ends { Ends (is_none self.old.file) (is_none self.new.file) result }
         ensures count { self.new.opens ≡ self.old.opens }
         ensures faults { HasCause self.old.faults self.new.faults result }
+        ensures late { self.new.late ≡ late_after self.old.late self.old.faults }
     {
+        self.late = self.late || self.faults > 0;
         let Some(file) = &mut self.file else {
             unreachable!()
         };

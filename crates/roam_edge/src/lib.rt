@@ -9,7 +9,6 @@
 #![tactic(auto)]
 
 mod calm_shelf;
-mod failures;
 mod file_meshes;
 mod file_shelf;
 mod mem_meshes;
@@ -23,7 +22,6 @@ mod sink;
 mod std_sink;
 
 pub use calm_shelf::CalmShelf;
-pub use failures::{Failed, NoMemory};
 pub use file_meshes::FileMeshes;
 pub use file_shelf::FileShelf;
 pub use mem_meshes::MemMeshes;
@@ -33,3 +31,4 @@ pub use mesh_sink::{GREATEST_NUMBER, LONGEST_PREFIX, MeshSink};
 pub use shelf::Shelf;
 pub use sink::Sink;
 pub use std_sink::StdSink;
+pub use roam_errors::{Failed, NoMemory};

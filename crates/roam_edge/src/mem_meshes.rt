@@ -1,7 +1,7 @@
 //! A sink of meshes in memory.
 
 ghost use Rattle.std.specs.Prelude.{◌≡◌, ◌^◌, ◌<◌, ◌≤◌, ℕ, [], Some, None, true, false, IfOk, is_ok, is_err, is_some, length, option_map, slice_get};
-ghost use Rattle.roam_edge.specs.Fault.{HasCause};
+ghost use Rattle.roam_edge.specs.Fault.{HasCause, late_after};
 ghost use Rattle.roam_edge.specs.MeshSink.{Begins, Writes, Finishes};
 ghost use Rattle.roam_edge.specs.declared.mesh_sink.TheConstants.{LONGEST_PREFIX, GREATEST_NUMBER};
 ghost use Rattle.roam_edge.specs.MemMeshes.{all_meshes, begin_fails, after_begin, write_fails, after_write, finish_fails, after_finish};
@@ -29,6 +29,7 @@ pub struct MemMeshes {
     writes: u64,
     finishes: u64,
     faults: u64,
+    late: bool,
 }
 
 impl Model for MemMeshes {
@@ -48,6 +49,7 @@ impl Model for MemMeshes {
       writes = s.writes;
       finishes = s.finishes;
       faults = s.faults;
+      late = s.late;
     } };
 
     ghost invariant = { λ s. record {
@@ -80,6 +82,7 @@ impl MemMeshes {
           writes = 0;
           finishes = 0;
           faults = 0;
+          late = false;
         }) }
     {
         Ok(MemMeshes {
@@ -93,6 +96,7 @@ impl MemMeshes {
             writes: 0,
             finishes: 0,
             faults: 0,
+            late: false,
         })
     }
 
@@ -178,6 +182,8 @@ impl MeshSink for MemMeshes {
 
     ghost faults = { λ s. s.faults };
 
+    ghost late = { λ s. s.late };
+
     fn begin(&mut self, prefix: &str, number: u32) -> Result<(), Failed>
         requires idle { is_some self.old.current ≡ false }
         requires prefix_some { 0 < length prefix.now }
@@ -190,7 +196,9 @@ impl MeshSink for MemMeshes {
             prefix.now number result }
         ensures under_way { is_some self.new.current ≡ is_ok result }
         ensures faults { HasCause self.old.faults self.new.faults result }
+        ensures late { self.new.late ≡ late_after self.old.late self.old.faults }
     {
+        self.late = self.late || self.faults > 0;
         self.begins = self.begins.saturating_add(1);
         let call = MeshCall::Begin(self.begins);
         if is_named(self.fails.as_slice(), call) || self.mesh_room == 0 {
@@ -216,7 +224,9 @@ impl MeshSink for MemMeshes {
             piece.now result }
         ensures under_way { is_some self.new.current ≡ is_some self.old.current }
         ensures faults { HasCause self.old.faults self.new.faults result }
+        ensures late { self.new.late ≡ late_after self.old.late self.old.faults }
     {
+        self.late = self.late || self.faults > 0;
         self.writes = self.writes.saturating_add(1);
         let call = MeshCall::Write(self.writes);
         let size = piece.len() as u64;
@@ -240,7 +250,9 @@ impl MeshSink for MemMeshes {
         ensures mesh { Finishes (Some (all_meshes self.old)) (Some (all_meshes self.new)) result }
         ensures under_way { is_some self.new.current ≡ is_err result }
         ensures faults { HasCause self.old.faults self.new.faults result }
+        ensures late { self.new.late ≡ late_after self.old.late self.old.faults }
     {
+        self.late = self.late || self.faults > 0;
         self.finishes = self.finishes.saturating_add(1);
         let call = MeshCall::Finish(self.finishes);
         if is_named(self.fails.as_slice(), call) {

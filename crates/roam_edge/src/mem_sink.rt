@@ -1,7 +1,7 @@
 //! A sink of bytes in memory.
 
-ghost use Rattle.std.specs.Prelude.{◌≡◌, ◌^◌, ◌≤◌, ℕ, [], Some, IfOk, is_err};
-ghost use Rattle.roam_edge.specs.Fault.{HasCause};
+ghost use Rattle.std.specs.Prelude.{◌≡◌, ◌^◌, ◌≤◌, ℕ, [], Some, false, IfOk, is_err};
+ghost use Rattle.roam_edge.specs.Fault.{HasCause, late_after};
 ghost use Rattle.roam_edge.specs.Sink.{Appends};
 ghost use Rattle.roam_edge.specs.MemSink.{write_fails, after_write};
 
@@ -20,6 +20,7 @@ pub struct MemSink {
     fails: Vec<u64>,
     writes: u64,
     faults: u64,
+    late: bool,
 }
 
 impl Model for MemSink {
@@ -34,6 +35,7 @@ impl Model for MemSink {
       fails = s.fails.items;
       writes = s.writes;
       faults = s.faults;
+      late = s.late;
     } };
 
     ghost invariant = { λ s. s.room + vec_len s.kept ≤ vec_capacity s.kept };
@@ -44,7 +46,7 @@ impl MemSink {
     pub fn new(alloc: Global, fails: &[u64], bytes: u64) -> Result<MemSink, NoMemory>
         requires { bytes ≤ 2 ^ 32 }
         ensures { IfOk result (λ sink. sink
-            ≡ record { contents = []; room = bytes; fails = fails.now; writes = 0; faults = 0 }) }
+            ≡ record { contents = []; room = bytes; fails = fails.now; writes = 0; faults = 0; late = false }) }
     {
         Ok(MemSink {
             kept: Vec::with_capacity(alloc, bytes as usize)?,
@@ -52,6 +54,7 @@ impl MemSink {
             fails: Vec::from_slice(alloc, fails)?,
             writes: 0,
             faults: 0,
+            late: false,
         })
     }
 
@@ -68,12 +71,16 @@ impl Sink for MemSink {
 
     ghost faults = { λ s. s.faults };
 
+    ghost late = { λ s. s.late };
+
     fn write(&mut self, piece: &[u8]) -> Result<(), Failed>
         ensures fails { is_err result ≡ write_fails self.old piece.now }
         ensures after { self.new ≡ after_write self.old piece.now }
         ensures bytes { Appends (Some self.old.contents) (Some self.new.contents) piece.now result }
         ensures faults { HasCause self.old.faults self.new.faults result }
+        ensures late { self.new.late ≡ late_after self.old.late self.old.faults }
     {
+        self.late = self.late || self.faults > 0;
         let number = self.writes.saturating_add(1);
         let size = piece.len() as u64;
         self.writes = number;

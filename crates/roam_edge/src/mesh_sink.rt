@@ -1,7 +1,7 @@
 //! Where meshes go to.
 
 ghost use Rattle.std.specs.Prelude.{◌≡◌, ◌<◌, ◌≤◌, ℕ, List, Option, Bool, true, false, is_ok, is_err, length};
-ghost use Rattle.roam_edge.specs.Fault.{HasCause};
+ghost use Rattle.roam_edge.specs.Fault.{HasCause, late_after};
 ghost use Rattle.roam_edge.specs.MeshSink.{Mesh, Begins, Writes, Finishes};
 ghost use Rattle.roam_edge.specs.declared.mesh_sink.TheConstants.{LONGEST_PREFIX, GREATEST_NUMBER};
 
@@ -24,6 +24,9 @@ pub trait MeshSink {
     // How often the outside failed.
     ghost faults: { Self → ℕ };
 
+    // Whether a call was made after one had failed.
+    ghost late: { Self → Bool };
+
     /// Begins a mesh: its file is named by the prefix and the number.
     fn begin(&mut self, prefix: &str, number: u32) -> Result<(), Failed>
         requires idle { under_way self.old ≡ false }
@@ -33,19 +36,22 @@ pub trait MeshSink {
         requires number_high { number ≤ GREATEST_NUMBER }
         ensures mesh { Begins (meshes self.old) (meshes self.new) prefix.now number result }
         ensures under_way { under_way self.new ≡ is_ok result }
-        ensures faults { HasCause (faults self.old) (faults self.new) result };
+        ensures faults { HasCause (faults self.old) (faults self.new) result }
+        ensures late { late self.new ≡ late_after (late self.old) (faults self.old) };
 
     /// Appends a piece to the mesh that is under way.
     fn write(&mut self, piece: &[u8]) -> Result<(), Failed>
         requires { under_way self.old ≡ true }
         ensures mesh { Writes (meshes self.old) (meshes self.new) piece.now result }
         ensures under_way { under_way self.new ≡ under_way self.old }
-        ensures faults { HasCause (faults self.old) (faults self.new) result };
+        ensures faults { HasCause (faults self.old) (faults self.new) result }
+        ensures late { late self.new ≡ late_after (late self.old) (faults self.old) };
 
     /// Finishes the mesh that is under way.
     fn finish(&mut self) -> Result<(), Failed>
         requires { under_way self.old ≡ true }
         ensures mesh { Finishes (meshes self.old) (meshes self.new) result }
         ensures under_way { under_way self.new ≡ is_err result }
-        ensures faults { HasCause (faults self.old) (faults self.new) result };
+        ensures faults { HasCause (faults self.old) (faults self.new) result }
+        ensures late { late self.new ≡ late_after (late self.old) (faults self.old) };
 }

@@ -1,7 +1,7 @@
 //! Where files are read from.
 
 ghost use Rattle.std.specs.Prelude.{◌≡◌, ◌<◌, ◌≤◌, ℕ, List, Option, Bool, false, IfOk, is_err, length};
-ghost use Rattle.roam_edge.specs.Fault.{HasCause, next_count};
+ghost use Rattle.roam_edge.specs.Fault.{HasCause, next_count, late_after};
 ghost use Rattle.roam_edge.specs.Shelf.{NamedFile, Opens, Reads, Ends};
 
 use crate::Failed;
@@ -23,6 +23,9 @@ pub trait Shelf {
     // How often the outside failed.
     ghost faults: { Self → ℕ };
 
+    // Whether a call was made after one had failed.
+    ghost late: { Self → Bool };
+
     /// Chooses the first file of this name, and leaves all its bytes unread.
     ///
     /// Whether a name that is not there is a file without bytes or a failure is the shelf's choice.
@@ -31,7 +34,8 @@ pub trait Shelf {
         ensures ends { ended self.new ≡ is_err result }
         ensures count { opens self.new ≡ next_count (opens self.old) }
         ensures others { files self.new ≡ files self.old }
-        ensures faults { HasCause (faults self.old) (faults self.new) result };
+        ensures faults { HasCause (faults self.old) (faults self.new) result }
+        ensures late { late self.new ≡ late_after (late self.old) (faults self.old) };
 
     /// Takes the next unread bytes into the front of the buffer, and answers how many.
     ///
@@ -44,5 +48,6 @@ pub trait Shelf {
         ensures ends { Ends (ended self.old) (ended self.new) result }
         ensures count { opens self.new ≡ opens self.old }
         ensures others { files self.new ≡ files self.old }
-        ensures faults { HasCause (faults self.old) (faults self.new) result };
+        ensures faults { HasCause (faults self.old) (faults self.new) result }
+        ensures late { late self.new ≡ late_after (late self.old) (faults self.old) };
 }

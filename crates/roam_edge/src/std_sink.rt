@@ -1,6 +1,6 @@
 //! A sink over a writer of std.
 
-ghost use Rattle.std.specs.Prelude.{◌≡◌, ◌<◌, ◌≤◌, ℕ, IfOk, length};
+ghost use Rattle.std.specs.Prelude.{◌≡◌, ◌<◌, ◌≤◌, ℕ, false, IfOk, length};
 ghost use Rattle.roam_edge.specs.Fault.{HasCause};
 ghost use Rattle.roam_edge.specs.Sink.{Appends, AppendsSome};
 
@@ -12,6 +12,7 @@ use std::io::Write;
 pub struct StdSink<W: Write> {
     writer: W,
     faults: u64,
+    late: bool,
 }
 
 impl<W: Write> StdSink<W> {
@@ -19,8 +20,13 @@ impl<W: Write> StdSink<W> {
     pub fn new(writer: W) -> StdSink<W>
         ensures contents { ⟦<StdSink<W> as Sink>⟧.contents result ≡ W.contents writer }
         ensures faults { ⟦<StdSink<W> as Sink>⟧.faults result ≡ 0 }
+        ensures late { ⟦<StdSink<W> as Sink>⟧.late result ≡ false }
     {
-        StdSink { writer, faults: 0 }
+        StdSink {
+            writer,
+            faults: 0,
+            late: false,
+        }
     }
 }
 
@@ -29,7 +35,10 @@ impl<W: Write> Sink for StdSink<W> {
 
     ghost faults = { λ s. s.faults };
 
+    ghost late = { λ s. s.late };
+
     fn write(&mut self, piece: &[u8]) -> Result<(), Failed> {
+        self.late = self.late || self.faults > 0;
         write_all(&mut self.writer, &mut self.faults, piece)
     }
 }

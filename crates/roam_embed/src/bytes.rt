@@ -1,7 +1,7 @@
 //! Bytes in memory, as many as there is room for.
 
 ghost use Rattle.std.specs.Prelude.{◌≡◌, [], Some};
-ghost use Rattle.roam_edge.specs.Fault.{HasCause};
+ghost use Rattle.roam_edge.specs.Fault.{HasCause, late_after};
 ghost use Rattle.roam_edge.specs.Sink.{Appends};
 
 use roam_edge::{Failed, Sink};
@@ -12,6 +12,7 @@ use std::alloc::Global;
 pub(crate) struct Bytes {
     pub(crate) kept: Vec<u8>,
     faults: u64,
+    late: bool,
 }
 
 impl Bytes {
@@ -22,6 +23,7 @@ impl Bytes {
         Bytes {
             kept: Vec::new(alloc),
             faults: 0,
+            late: false,
         }
     }
 }
@@ -31,10 +33,14 @@ impl Sink for Bytes {
 
     ghost faults = { λ s. s.faults };
 
+    ghost late = { λ s. s.late };
+
     fn write(&mut self, piece: &[u8]) -> Result<(), Failed>
         ensures bytes { Appends (Some self.old.kept.items) (Some self.new.kept.items) piece.now result }
         ensures faults { HasCause self.old.faults self.new.faults result }
+        ensures late { self.new.late ≡ late_after self.old.late self.old.faults }
     {
+        self.late = self.late || self.faults > 0;
         match self.kept.extend_from_slice(piece) {
             Ok(()) => Ok(()),
             Err(_) => {

@@ -10,7 +10,7 @@ ghost use Rattle.roam_mesh.specs.Log.{noted, noted_all, parents_of, diamond_of};
 
 use crate::parts::Parts;
 use bintree_addr::{Slot, Tri};
-use roam_edge::NoMemory;
+use roam_errors::NoMemory;
 use std::alloc::Global;
 use std::marker::Model;
 use triangle_pool::Born;

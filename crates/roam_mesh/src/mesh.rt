@@ -20,7 +20,7 @@ use crate::queued::QueuedParts;
 use bintree_addr::{Slot, Tri};
 use closure_laws::frame_laws;
 use deferred_loop::{Gauge, Steps, advance};
-use roam_edge::NoMemory;
+use roam_errors::NoMemory;
 use std::alloc::Global;
 use std::marker::Model;
 use triangle_pool::Pool;

@@ -11,7 +11,7 @@ use crate::entry::Entry;
 use bintree_addr::Slot;
 use lazy_priority::Lazy;
 use merge_queue::MergeQueue;
-use roam_edge::NoMemory;
+use roam_errors::NoMemory;
 use split_queue::SplitQueue;
 use std::alloc::Global;
 use std::marker::Model;

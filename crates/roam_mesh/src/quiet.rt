@@ -13,7 +13,7 @@ use crate::log::ChangeLog;
 use crate::parts::Parts;
 use crate::queued::QueuedParts;
 use bintree_addr::{Slot, Tri};
-use roam_edge::NoMemory;
+use roam_errors::NoMemory;
 use std::alloc::Global;
 use triangle_pool::Pool;
 

@@ -27,6 +27,7 @@ impl<F: Shelf> WatchedShelf<F> {
         ensures opens { ⟦<WatchedShelf<F> as Shelf>⟧.opens result ≡ 0 }
         ensures ended { ⟦<WatchedShelf<F> as Shelf>⟧.ended result ≡ F.ended shelf }
         ensures faults { ⟦<WatchedShelf<F> as Shelf>⟧.faults result ≡ F.faults shelf }
+        ensures late { ⟦<WatchedShelf<F> as Shelf>⟧.late result ≡ F.late shelf }
     {
         WatchedShelf {
             shelf,
@@ -64,6 +65,8 @@ impl<F: Shelf> Shelf for WatchedShelf<F> {
     ghost ended = { λ s. F.ended s.shelf };
 
     ghost faults = { λ s. F.faults s.shelf };
+
+    ghost late = { λ s. F.late s.shelf };
 
     fn open_named(&mut self, name: &str) -> Result<(), Failed> {
         self.opens = self.opens.saturating_add(1);
@@ -106,6 +109,7 @@ impl<S: Sink> WatchedSink<S> {
     pub fn new(sink: S) -> WatchedSink<S>
         ensures contents { ⟦<WatchedSink<S> as Sink>⟧.contents result ≡ S.contents sink }
         ensures faults { ⟦<WatchedSink<S> as Sink>⟧.faults result ≡ S.faults sink }
+        ensures late { ⟦<WatchedSink<S> as Sink>⟧.late result ≡ S.late sink }
     {
         WatchedSink {
             sink,
@@ -124,6 +128,8 @@ impl<S: Sink> Sink for WatchedSink<S> {
     ghost contents = { λ s. S.contents s.sink };
 
     ghost faults = { λ s. S.faults s.sink };
+
+    ghost late = { λ s. S.late s.sink };
 
     fn write(&mut self, piece: &[u8]) -> Result<(), Failed> {
         if !piece.is_empty() {

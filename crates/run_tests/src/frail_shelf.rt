@@ -16,6 +16,7 @@ pub(crate) struct FrailShelf<'a> {
     opens: u64,
     ended: bool,
     faults: u64,
+    late: bool,
 }
 
 impl<'a> FrailShelf<'a> {
@@ -34,6 +35,7 @@ impl<'a> FrailShelf<'a> {
             opens: 0,
             ended: true,
             faults: 0,
+            late: false,
         }
     }
 
@@ -56,7 +58,10 @@ impl<'a> Shelf for FrailShelf<'a> {
 
     ghost faults = { λ s. s.faults };
 
+    ghost late = { λ s. s.late };
+
     fn open_named(&mut self, name: &str) -> Result<(), Failed> {
+        self.late = self.late || self.faults > 0;
         self.opens = self.opens.saturating_add(1);
         self.calls = self.calls.saturating_add(1);
         if self.calls == self.fails {
@@ -70,6 +75,7 @@ impl<'a> Shelf for FrailShelf<'a> {
     }
 
     fn read(&mut self, buf: &mut [u8]) -> Result<usize, Failed> {
+        self.late = self.late || self.faults > 0;
         self.calls = self.calls.saturating_add(1);
         if self.calls == self.fails {
             self.faults = self.faults.saturating_add(1);

@@ -32,7 +32,7 @@ impl<'a> LineFeeds<'a> {
 }
 
 impl<'a> Shelf for LineFeeds<'a> {
-    ghost use Rattle.std.specs.Prelude.{None};
+    ghost use Rattle.std.specs.Prelude.{None, false};
 
     ghost files = { λ _. None };
 
@@ -43,6 +43,8 @@ impl<'a> Shelf for LineFeeds<'a> {
     ghost ended = { λ s. s.ended };
 
     ghost faults = { λ _. 0 };
+
+    ghost late = { λ _. false };
 
     fn open_named(&mut self, name: &str) -> Result<(), Failed> {
         let is_grid = name == "g";

@@ -16,6 +16,7 @@ pub(crate) struct Dripping<'a> {
     pub(crate) opens: u64,
     pub(crate) faults: u64,
     pub(crate) ended: bool,
+    pub(crate) late: bool,
 }
 
 impl<'a> Dripping<'a> {
@@ -31,6 +32,7 @@ impl<'a> Dripping<'a> {
             opens: 0,
             faults: 0,
             ended: false,
+            late: false,
         }
     }
 }
@@ -46,7 +48,10 @@ impl<'a> Shelf for Dripping<'a> {
 
     ghost faults = { λ s. s.faults };
 
+    ghost late = { λ s. s.late };
+
     fn open_named(&mut self, _name: &str) -> Result<(), Failed> {
+        self.late = self.late || self.faults > 0;
         self.unread = &[];
         self.opens = self.opens.saturating_add(1);
         self.faults = self.faults.saturating_add(1);
@@ -55,6 +60,7 @@ impl<'a> Shelf for Dripping<'a> {
     }
 
     fn read(&mut self, buf: &mut [u8]) -> Result<usize, Failed> {
+        self.late = self.late || self.faults > 0;
         self.reads = self.reads.saturating_add(1);
         if self.reads == self.fails {
             self.faults = self.faults.saturating_add(1);

@@ -47,13 +47,15 @@ impl Pieces {
 }
 
 impl MeshSink for Pieces {
-    ghost use Rattle.std.specs.Prelude.{None};
+    ghost use Rattle.std.specs.Prelude.{None, false};
 
     ghost meshes = { λ s. None };
 
     ghost under_way = { λ s. s.is_under_way };
 
     ghost faults = { λ s. 0 };
+
+    ghost late = { λ s. false };
 
     fn begin(&mut self, _prefix: &str, _number: u32) -> Result<(), Failed> {
         self.is_under_way = true;

@@ -9,7 +9,7 @@ ghost use Rattle.edge_laws.specs.Slots.{address_at, has_children, IsLive};
 use crate::forest::{NOWHERE, Node, address};
 use crate::links::{merge_border, merge_diamond, split_border, split_diamond};
 use bintree_addr::Tri;
-use roam_edge::NoMemory;
+use roam_errors::NoMemory;
 use std::alloc::Global;
 use std::marker::Model;
 

@@ -17,7 +17,7 @@ use crate::free::FreePairs;
 use crate::nodes::Nodes;
 use arrayvec::ArrayVec;
 use bintree_addr::{Slot, Tri};
-use roam_edge::NoMemory;
+use roam_errors::NoMemory;
 use std::alloc::Global;
 use std::marker::Model;
 

@@ -18,7 +18,7 @@ use crate::table::{fill, levels, mend, places};
 use crate::wedge::Wedge;
 use bintree_addr::{Corners, Cuboid, Tri, level_laws};
 use pgm_grid::Grid;
-use roam_edge::NoMemory;
+use roam_errors::NoMemory;
 use std::alloc::Global;
 use std::marker::Model;
 
