@@ -3,7 +3,7 @@
 ghost use Rattle.std.specs.Prelude.{◌≡◌, ◌+◌, ◌≤◌, ◌++◌, ◌∷◌, [], ℕ, List, Option, length, codes, OnOk, OnErr};
 ghost use Rattle.arrayvec.specs.ArrayVec.{array_vec_len};
 ghost use Rattle.certificate_laws.specs.declared.reason.Kind.{Kind};
-ghost use Rattle.roam_edge.specs.Fault.{HasCause};
+ghost use Rattle.roam_edge.specs.Fault.{HasCause, IsInTime};
 ghost use Rattle.roam_edge.specs.Sink.{Appends};
 ghost use Rattle.cert_text.specs.CertText.{number_text, kind_text, address_text, line_text, ended};
 ghost use Rattle.cert_text.specs.Page.{IsPut, IsCutShort};
@@ -32,6 +32,7 @@ pub(crate) fn put_line<S: Sink>(page: &mut Page, line: CertLine, out: &mut S) ->
     ensures err { OnErr result ((before : Option (List ℕ)) (text : List ℕ) →
         IsPut before (S.contents out.old) page.old.items text → IsCutShort before (S.contents out.new) text) }
     ensures faults { HasCause (S.faults out.old) (S.faults out.new) result }
+    ensures in_time { IsInTime (S.late out.old) (S.faults out.old) (S.late out.new) }
 {
     make_room(page, out)?;
     push_line(page, line);
@@ -46,6 +47,7 @@ fn make_room<S: Sink>(page: &mut Page, out: &mut S) -> Result<(), Failed>
     ensures err { OnErr result ((before : Option (List ℕ)) (text : List ℕ) →
         IsPut before (S.contents out.old) page.old.items text → IsCutShort before (S.contents out.new) text) }
     ensures faults { HasCause (S.faults out.old) (S.faults out.new) result }
+    ensures in_time { IsInTime (S.late out.old) (S.faults out.old) (S.late out.new) }
 {
     if page.len() + LONGEST_LINE <= PAGE_ROOM {
         return Ok(());
@@ -60,6 +62,7 @@ pub(crate) fn put_rest<S: Sink>(page: &Page, out: &mut S) -> Result<(), Failed>
     ensures bytes { (before : Option (List ℕ)) (text : List ℕ) → IsPut before (S.contents out.old) page.now.items text →
         Appends before (S.contents out.new) text result }
     ensures faults { HasCause (S.faults out.old) (S.faults out.new) result }
+    ensures in_time { IsInTime (S.late out.old) (S.faults out.old) (S.late out.new) }
 {
     if page.is_empty() {
         return Ok(());

@@ -2,7 +2,7 @@
 
 ghost use Rattle.std.specs.Prelude.{◌≡◌, ◌++◌, ℕ, List, Option, OnOk, OnErr};
 ghost use Rattle.std.specs.List.{flat_map};
-ghost use Rattle.roam_edge.specs.Fault.{HasCause};
+ghost use Rattle.roam_edge.specs.Fault.{HasCause, IsInTime};
 ghost use Rattle.roam_edge.specs.Sink.{Appends};
 ghost use Rattle.cert_text.specs.CertText.{leaf_text, reason_text, cert_text};
 ghost use Rattle.cert_text.specs.Page.{IsPut, IsCutShort};
@@ -21,6 +21,7 @@ use roam_edge::{Failed, Sink};
 pub fn write_cert<S: Sink>(cert: &Cert, out: &mut S) -> Result<(), Failed>
     ensures bytes { Appends (S.contents out.old) (S.contents out.new) (cert_text cert.now) result }
     ensures faults { HasCause (S.faults out.old) (S.faults out.new) result }
+    ensures in_time { IsInTime (S.late out.old) (S.faults out.old) (S.late out.new) }
 {
     let mut page = ArrayVec::new();
     put_line(&mut page, CertLine::CameraLine(cert.camera()), out)?;
@@ -38,6 +39,7 @@ fn put_leaves<S: Sink>(page: &mut Page, leaves: &[Tri], out: &mut S) -> Result<(
         IsPut before (S.contents out.old) page.old.items text →
         IsCutShort before (S.contents out.new) (text ++ flat_map leaf_text leaves.now)) }
     ensures faults { HasCause (S.faults out.old) (S.faults out.new) result }
+    ensures in_time { IsInTime (S.late out.old) (S.faults out.old) (S.late out.new) }
 {
     for leaf in leaves {
         put_line(page, CertLine::LeafLine(*leaf), out)?;
@@ -54,6 +56,7 @@ fn put_reasons<S: Sink>(page: &mut Page, reasons: &[Reason], out: &mut S) -> Res
         IsPut before (S.contents out.old) page.old.items text →
         IsCutShort before (S.contents out.new) (text ++ flat_map reason_text reasons.now)) }
     ensures faults { HasCause (S.faults out.old) (S.faults out.new) result }
+    ensures in_time { IsInTime (S.late out.old) (S.faults out.old) (S.late out.new) }
 {
     for reason in reasons {
         put_line(page, CertLine::ReasonLine(*reason), out)?;

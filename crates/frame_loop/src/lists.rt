@@ -6,7 +6,7 @@ ghost use Rattle.mesh_defs.specs.declared.level.TheConstants.{GREATEST_LEVEL};
 
 use bintree_addr::{Point, Tri};
 use obj_write::{VertexChange, VertexTable};
-use roam_edge::NoMemory;
+use roam_errors::NoMemory;
 use std::alloc::Global;
 
 /// Numbers are mended where at most one in so many of the leaves that there is room for was split or merged: past that to make them

@@ -4,7 +4,7 @@ ghost use Rattle.std.specs.Prelude.{◌≡◌, ℕ, ◌+◌, ◌*◌, ◌^◌, �
 ghost use Rattle.mesh_defs.specs.HeightField.{side_of};
 ghost use Rattle.mesh_defs.specs.Triangle.{level_of};
 ghost use Rattle.mesh_defs.specs.MeshText.{mesh_text};
-ghost use Rattle.roam_edge.specs.Fault.{HasCause, Rose};
+ghost use Rattle.roam_edge.specs.Fault.{HasCause, Rose, IsInTime};
 ghost use Rattle.mesh_defs.specs.declared.level.TheConstants.{GREATEST_LEVEL};
 ghost use Rattle.roam_edge.specs.Told.{StaysTold};
 ghost use Rattle.wedgie_tree.specs.declared.wedges.TheConstants.{GREATEST_SPACING};
@@ -65,6 +65,7 @@ pub fn compare<F: Shelf>(
     ensures told { StaysTold (F.rest shelf.old) (F.rest shelf.new) }
     ensures files { F.files shelf.new ≡ F.files shelf.old }
     ensures opens { F.opens shelf.new ≡ F.opens shelf.old }
+    ensures in_time { IsInTime (F.late shelf.old) (F.faults shelf.old) (F.late shelf.new) }
 {
     let n = w.grid().n();
     let Ok((mut window, mut numbers)) = room(alloc, n) else {
@@ -115,6 +116,7 @@ fn compare_lines<F: Shelf>(
     ensures files { F.files shelf.new ≡ F.files shelf.old }
     ensures opens { F.opens shelf.new ≡ F.opens shelf.old }
     ensures faults { HasCause (F.faults shelf.old) (F.faults shelf.new) result }
+    ensures in_time { IsInTime (F.late shelf.old) (F.faults shelf.old) (F.late shelf.new) }
 {
     let mut piece: ArrayVec<u8, LONGEST_PIECE> = ArrayVec::new();
     let mut at = 0;

@@ -1,7 +1,7 @@
 //! Comparing a piece of the text with the next bytes of a file.
 
 ghost use Rattle.std.specs.Prelude.{◌≡◌, None, false, IfOk, OnErr};
-ghost use Rattle.roam_edge.specs.Fault.{HasCause};
+ghost use Rattle.roam_edge.specs.Fault.{HasCause, IsInTime};
 ghost use Rattle.roam_edge.specs.Told.{StaysTold};
 ghost use Rattle.mesh_compare.specs.Differs.{Matches, IsCutShort, left_of};
 
@@ -25,6 +25,7 @@ pub(crate) fn match_piece<F: Shelf>(
     ensures files { F.files shelf.new ≡ F.files shelf.old }
     ensures opens { F.opens shelf.new ≡ F.opens shelf.old }
     ensures faults { HasCause (F.faults shelf.old) (F.faults shelf.new) result }
+    ensures in_time { IsInTime (F.late shelf.old) (F.faults shelf.old) (F.late shelf.new) }
 {
     for (i, byte) in piece.iter().enumerate() {
         match window.next(shelf)? {

@@ -1,7 +1,7 @@
 //! A window on a file: bytes that were read of it, and not yet compared.
 
 ghost use Rattle.std.specs.Prelude.{◌≡◌, ℕ, ◌+◌, ◌<◌, ◌≤◌, ◌∷◌, [], List, Some, None, true, false, ◌↔◌, IfOk, OnErr, MatchOption, is_none};
-ghost use Rattle.roam_edge.specs.Fault.{HasCause};
+ghost use Rattle.roam_edge.specs.Fault.{HasCause, IsInTime};
 ghost use Rattle.roam_edge.specs.Told.{StaysTold};
 ghost use Rattle.mesh_compare.specs.Differs.{Gives, left_of};
 
@@ -55,6 +55,7 @@ impl Window {
         ensures files { F.files shelf.new ≡ F.files shelf.old }
         ensures opens { F.opens shelf.new ≡ F.opens shelf.old }
         ensures faults { HasCause (F.faults shelf.old) (F.faults shelf.new) result }
+        ensures in_time { IsInTime (F.late shelf.old) (F.faults shelf.old) (F.late shelf.new) }
     {
         if let Some(byte) = self.pop() {
             return Ok(Some(byte));
@@ -90,6 +91,7 @@ impl Window {
         ensures files { F.files shelf.new ≡ F.files shelf.old }
         ensures opens { F.opens shelf.new ≡ F.opens shelf.old }
         ensures faults { HasCause (F.faults shelf.old) (F.faults shelf.new) result }
+        ensures in_time { IsInTime (F.late shelf.old) (F.faults shelf.old) (F.late shelf.new) }
     {
         let count = shelf.read(&mut self.bytes)?;
         self.start = 0;

@@ -2,7 +2,7 @@
 
 ghost use Rattle.std.specs.Prelude.{◌≡◌, ◌+◌, ◌*◌, ◌<◌, ◌≤◌, ◌++◌, ◌∷◌, [], List, Some, true, false, All, length, OnOk, OnErr};
 ghost use Rattle.mesh_defs.specs.Triangle.{level_of};
-ghost use Rattle.roam_edge.specs.Fault.{HasCause};
+ghost use Rattle.roam_edge.specs.Fault.{HasCause, IsInTime};
 ghost use Rattle.roam_edge.specs.MeshSink.{Mesh};
 ghost use Rattle.roam_edge.specs.declared.mesh_sink.TheConstants.{LONGEST_PREFIX, GREATEST_NUMBER};
 ghost use Rattle.wedgie_tree.specs.declared.wedges.TheConstants.{GREATEST_SPACING};
@@ -64,6 +64,7 @@ pub fn write_mesh<M: MeshSink>(
     ensures begun { OnErr result (M.under_way out.new ≡ true → GrowsByPart (M.meshes out.old) (M.meshes out.new)
         prefix.now number (view_text view.now)) }
     ensures faults { HasCause (M.faults out.old) (M.faults out.new) result }
+    ensures in_time { IsInTime (M.late out.old) (M.faults out.old) (M.late out.new) }
 {
     out.begin(prefix, number)?;
     let mut page = Page::new();
@@ -86,6 +87,7 @@ fn write_lines<M: MeshSink>(
         (page.old ++ view_text view.now)) }
     ensures under_way { M.under_way out.new ≡ true }
     ensures faults { HasCause (M.faults out.old) (M.faults out.new) result }
+    ensures in_time { IsInTime (M.late out.old) (M.faults out.old) (M.late out.new) }
 {
     let mut lines = MeshLines::new(*view);
     make_room(page, out)?;

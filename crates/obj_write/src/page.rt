@@ -1,7 +1,7 @@
 //! A page of text on the stack, which is handed to the sink when it is full.
 
 ghost use Rattle.std.specs.Prelude.{◌≡◌, ◌+◌, ◌≤◌, ◌++◌, [], true, length, OnOk, OnErr};
-ghost use Rattle.roam_edge.specs.Fault.{HasCause};
+ghost use Rattle.roam_edge.specs.Fault.{HasCause, IsInTime};
 ghost use Rattle.roam_edge.specs.MeshSink.{Writes};
 ghost use Rattle.obj_write.specs.Field.{line_of};
 ghost use Rattle.obj_write.specs.Page.{Passed, Broken};
@@ -98,6 +98,7 @@ pub(crate) fn make_room<M: MeshSink>(page: &mut Page<PAGE_ROOM>, out: &mut M) ->
     ensures err { OnErr result (Broken (M.meshes out.old) (M.meshes out.new) page.old) }
     ensures under_way { M.under_way out.new ≡ true }
     ensures faults { HasCause (M.faults out.old) (M.faults out.new) result }
+    ensures in_time { IsInTime (M.late out.old) (M.faults out.old) (M.late out.new) }
 {
     if page.len() + LONGEST_PIECE <= PAGE_ROOM {
         return Ok(());
@@ -113,6 +114,7 @@ pub(crate) fn write_rest<M: MeshSink>(page: &Page<PAGE_ROOM>, out: &mut M) -> Re
     ensures mesh { Writes (M.meshes out.old) (M.meshes out.new) page.now result }
     ensures under_way { M.under_way out.new ≡ true }
     ensures faults { HasCause (M.faults out.old) (M.faults out.new) result }
+    ensures in_time { IsInTime (M.late out.old) (M.faults out.old) (M.late out.new) }
 {
     if page.len() == 0 {
         Ok(())

@@ -4,7 +4,7 @@ ghost use Rattle.std.specs.Prelude.{◌≡◌, ◌+◌, ◌≤◌, ◌++◌, ◌
 ghost use Rattle.std.specs.List.{flat_map};
 ghost use Rattle.std.specs.Fmt.{signed_decimal};
 ghost use Rattle.arrayvec.specs.ArrayVec.{array_vec_len};
-ghost use Rattle.roam_edge.specs.Fault.{HasCause};
+ghost use Rattle.roam_edge.specs.Fault.{HasCause, IsInTime};
 ghost use Rattle.roam_edge.specs.Sink.{Appends};
 ghost use Rattle.mesh_defs.specs.HeightField.{side_of};
 ghost use Rattle.mesh_defs.specs.declared.level.TheConstants.{GREATEST_LEVEL};
@@ -34,6 +34,7 @@ pub fn write_script<S: Sink>(n: u32, seed: u32, out: &mut S) -> Result<(), Faile
     requires n_high { n ≤ GREATEST_LEVEL }
     ensures bytes { Appends (S.contents out.old) (S.contents out.new) (script_text n seed) result }
     ensures faults { HasCause (S.faults out.old) (S.faults out.new) result }
+    ensures in_time { IsInTime (S.late out.old) (S.faults out.old) (S.late out.new) }
 {
     for i in 1..LINES + 1 {
         out.write(bytes_of(gen_line(n, seed, i)).as_slice())?;
@@ -90,6 +91,7 @@ pub fn write_grid<S: Sink>(n: u32, seed: u32, out: &mut S) -> Result<(), Failed>
     requires n_high { n ≤ GREATEST_LEVEL }
     ensures bytes { Appends (S.contents out.old) (S.contents out.new) (grid_text n seed) result }
     ensures faults { HasCause (S.faults out.old) (S.faults out.new) result }
+    ensures in_time { IsInTime (S.late out.old) (S.faults out.old) (S.late out.new) }
 {
     out.write(header_bytes(n).as_slice())?;
     let mut room = [0u16; LONGEST_SIDE];
@@ -104,6 +106,7 @@ fn write_rows<S: Sink>(n: u32, seed: u32, row: &mut [u16], out: &mut S) -> Resul
     ensures bytes { Appends (S.contents out.old) (S.contents out.new)
         (flat_map two_bytes (made_grid n seed).heights) result }
     ensures faults { HasCause (S.faults out.old) (S.faults out.new) result }
+    ensures in_time { IsInTime (S.late out.old) (S.faults out.old) (S.late out.new) }
 {
     let last = last_of(n);
     for above in 0..last + 1 {

@@ -3,7 +3,7 @@
 ghost use Rattle.std.specs.Prelude.{◌≡◌, ◌+◌, ◌≤◌, ◌++◌, length, decimal};
 ghost use Rattle.std.specs.Fmt.{signed_decimal};
 ghost use Rattle.arrayvec.specs.ArrayVec.{array_vec_len};
-ghost use Rattle.roam_edge.specs.Fault.{HasCause};
+ghost use Rattle.roam_edge.specs.Fault.{HasCause, IsInTime};
 ghost use Rattle.roam_edge.specs.Sink.{Appends};
 ghost use Rattle.roam_num.specs.declared.writing.TheConstants.{LONGEST_TEXT};
 
@@ -31,6 +31,7 @@ pub fn dec(v: i64) -> ArrayVec<u8, LONGEST_TEXT>
 pub fn put_dec<S: Sink>(sink: &mut S, v: i64) -> Result<(), Failed>
     ensures bytes { Appends (S.contents sink.old) (S.contents sink.new) (signed_decimal v) result }
     ensures faults { HasCause (S.faults sink.old) (S.faults sink.new) result }
+    ensures in_time { IsInTime (S.late sink.old) (S.faults sink.old) (S.late sink.new) }
 {
     sink.write(dec(v).as_slice())
 }

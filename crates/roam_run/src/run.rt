@@ -1,6 +1,7 @@
 //! The top call: a run from words to meshes and a report.
 
 ghost use Rattle.std.specs.Prelude.{◌≡◌, ◌≢◌, ◌-◌, ◌^◌, ◌<◌, ◌≤◌, ◌⊎◌, ◌↔◌, ◌&&◌, ℕ, List, Option, map, option_map, [], ◌∷◌, Some, None, All, IsTrue, IsSome, is_some, false, if◌then◌else◌, string_bytes};
+ghost use Rattle.roam_edge.specs.Fault.{IsInTime};
 ghost use Rattle.mesh_defs.specs.HeightField.{HeightField};
 ghost use Rattle.mesh_defs.specs.declared.level.TheConstants.{GREATEST_LEVEL};
 ghost use Rattle.roam_edge.specs.MeshSink.{Mesh};
@@ -193,6 +194,9 @@ fn run_of_words<F: Shelf, M: MeshSink, R: Sink>(
         HasEnded (seen (F.files shelf.new) (F.rest shelf.new) (F.opens shelf.new) (F.ended shelf.new)) }
     ensures files { F.files shelf.new ≡ F.files shelf.old }
     ensures idle { result.status ≢ Status.WriteFault → M.under_way meshes.new ≡ false }
+    ensures shelf_in_time { IsInTime (F.late shelf.old) (F.faults shelf.old) (F.late shelf.new) }
+    ensures meshes_in_time { IsInTime (M.late meshes.old) (M.faults meshes.old) (M.late meshes.new) }
+    ensures report_in_time { IsInTime (R.late report.old) (R.faults report.old) (R.late report.new) }
 {
     run_laws();
     match command_in(words) {
@@ -244,6 +248,9 @@ fn run_command<F: Shelf, M: MeshSink, R: Sink>(
         HasEnded (seen (F.files shelf.new) (F.rest shelf.new) (F.opens shelf.new) (F.ended shelf.new)) }
     ensures files { F.files shelf.new ≡ F.files shelf.old }
     ensures idle { result.status ≢ Status.WriteFault → M.under_way meshes.new ≡ false }
+    ensures shelf_in_time { IsInTime (F.late shelf.old) (F.faults shelf.old) (F.late shelf.new) }
+    ensures meshes_in_time { IsInTime (M.late meshes.old) (M.faults meshes.old) (M.late meshes.new) }
+    ensures report_in_time { IsInTime (R.late report.old) (R.faults report.old) (R.late report.new) }
 {
     match command {
         Command::Frames(words) => run_frames(alloc, words, shelf, meshes, report),
@@ -296,6 +303,9 @@ fn run_frames<F: Shelf, M: MeshSink, R: Sink>(
         HasEnded (seen (F.files shelf.new) (F.rest shelf.new) (F.opens shelf.new) (F.ended shelf.new)) }
     ensures files { F.files shelf.new ≡ F.files shelf.old }
     ensures idle { result.status ≢ Status.WriteFault → M.under_way meshes.new ≡ false }
+    ensures shelf_in_time { IsInTime (F.late shelf.old) (F.faults shelf.old) (F.late shelf.new) }
+    ensures meshes_in_time { IsInTime (M.late meshes.old) (M.faults meshes.old) (M.late meshes.new) }
+    ensures report_in_time { IsInTime (R.late report.old) (R.faults report.old) (R.late report.new) }
 {
     match command.making {
         Making::ByEngine(showing) => run_engine(alloc, command, showing, shelf, meshes, report),
@@ -349,6 +359,9 @@ fn run_engine<F: Shelf, M: MeshSink, R: Sink>(
         HasEnded (seen (F.files shelf.new) (F.rest shelf.new) (F.opens shelf.new) (F.ended shelf.new)) }
     ensures files { F.files shelf.new ≡ F.files shelf.old }
     ensures idle { result.status ≢ Status.WriteFault → M.under_way meshes.new ≡ false }
+    ensures shelf_in_time { IsInTime (F.late shelf.old) (F.faults shelf.old) (F.late shelf.new) }
+    ensures meshes_in_time { IsInTime (M.late meshes.old) (M.faults meshes.old) (M.late meshes.new) }
+    ensures report_in_time { IsInTime (R.late report.old) (R.faults report.old) (R.late report.new) }
 {
     state_laws();
     match read_grid(alloc, command.grid, shelf) {
@@ -390,6 +403,7 @@ fn run_try<R: Sink>(alloc: Global, n: u32, seed: u32, report: &mut R) -> Run
         × (result.status ≢ Status.Rejected) }
     ensures faults { (shelf meshes : ℕ) → StatusHasCause shelf shelf meshes meshes
         (R.faults report.old) (R.faults report.new) result.status }
+    ensures in_time { IsInTime (R.late report.old) (R.faults report.old) (R.late report.new) }
 {
     match sums_of(alloc, n, seed) {
         Ok((sums, engine)) => {

@@ -2,7 +2,7 @@
 
 ghost use Rattle.std.specs.Prelude.{ℕ, ◌≡◌, ◌≢◌, ◌+◌, ◌^◌, ◌≤◌, ◌⊎◌, List, Option, All, IfOk, None, Some, Err};
 ghost use Rattle.mesh_defs.specs.Triangle.{IsAddress};
-ghost use Rattle.roam_edge.specs.Fault.{Rose, next_count};
+ghost use Rattle.roam_edge.specs.Fault.{Rose, next_count, IsInTime};
 ghost use Rattle.roam_edge.specs.MeshSink.{Mesh};
 ghost use Rattle.roam_edge.specs.Shelf.{NamedFile, bytes_of};
 ghost use Rattle.mesh_compare.specs.Differs.{first_difference};
@@ -73,6 +73,8 @@ pub fn run_check<F: Shelf, R: Sink>(
     ensures files { F.files shelf.new ≡ F.files shelf.old }
     ensures done { result ≡ Status.Done →
         HasEnded (seen (F.files shelf.new) (F.rest shelf.new) (F.opens shelf.new) (F.ended shelf.new)) }
+    ensures shelf_in_time { IsInTime (F.late shelf.old) (F.faults shelf.old) (F.late shelf.new) }
+    ensures report_in_time { IsInTime (R.late report.old) (R.faults report.old) (R.late report.new) }
 {
     match read_grid(alloc, words.grid, shelf) {
         Ok(grid) => match Wedges::build(alloc, grid) {
@@ -119,6 +121,7 @@ fn judge<F: Shelf>(
     ensures files { F.files shelf.new ≡ F.files shelf.old }
     ensures failed { result ≡ Err CheckStop.Failed → Rose (F.faults shelf.old) (F.faults shelf.new) }
     ensures no_fault { result ≢ Err CheckStop.Failed → F.faults shelf.new ≡ F.faults shelf.old }
+    ensures in_time { IsInTime (F.late shelf.old) (F.faults shelf.old) (F.late shelf.new) }
 {
     match read_cert(alloc, wedges.grid().n(), words.certificate, shelf) {
         Ok(cert) => judge_cert(alloc, wedges, &cert, words, shelf),
@@ -157,6 +160,7 @@ fn judge_cert<F: Shelf>(
     ensures files { F.files shelf.new ≡ F.files shelf.old }
     ensures failed { result ≡ Err CheckStop.Failed → Rose (F.faults shelf.old) (F.faults shelf.new) }
     ensures no_fault { result ≢ Err CheckStop.Failed → F.faults shelf.new ≡ F.faults shelf.old }
+    ensures in_time { IsInTime (F.late shelf.old) (F.faults shelf.old) (F.late shelf.new) }
 {
     difference_laws();
     match check(alloc, wedges, cert, words.spacing, words.budget) {
@@ -199,6 +203,7 @@ fn difference<F: Shelf>(
     ensures files { F.files shelf.new ≡ F.files shelf.old }
     ensures failed { result ≡ Err CheckStop.Failed → Rose (F.faults shelf.old) (F.faults shelf.new) }
     ensures no_fault { result ≢ Err CheckStop.Failed → F.faults shelf.new ≡ F.faults shelf.old }
+    ensures in_time { IsInTime (F.late shelf.old) (F.faults shelf.old) (F.late shelf.new) }
 {
     let Ok(()) = shelf.open_named(words.mesh) else {
         return Err(CheckStop::Failed);

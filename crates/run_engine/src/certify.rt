@@ -1,6 +1,7 @@
 //! The command `certify make`: the certificate of a best mesh.
 
 ghost use Rattle.std.specs.Prelude.{◌≡◌, ◌≢◌, ◌+◌, ◌^◌, ◌≤◌, ◌⊎◌, ℕ, List, Option, None, IfOk};
+ghost use Rattle.roam_edge.specs.Fault.{IsInTime};
 ghost use Rattle.mesh_defs.specs.Priority.{worst_of};
 ghost use Rattle.mesh_defs.specs.BestMesh.{IsBestMesh};
 ghost use Rattle.mesh_defs.specs.State.{priority_in};
@@ -64,6 +65,8 @@ pub fn run_make<F: Shelf, R: Sink>(
     ensures files { F.files shelf.new ≡ F.files shelf.old }
     ensures done { result ≡ Status.Done →
         HasEnded (seen (F.files shelf.new) (F.rest shelf.new) (F.opens shelf.new) (F.ended shelf.new)) }
+    ensures shelf_in_time { IsInTime (F.late shelf.old) (F.faults shelf.old) (F.late shelf.new) }
+    ensures report_in_time { IsInTime (R.late report.old) (R.faults report.old) (R.late report.new) }
 {
     match read_grid(alloc, words.grid, shelf) {
         Ok(grid) => match certificate_of(alloc, grid, words) {
@@ -128,6 +131,7 @@ fn end_with_cert<R: Sink>(cert: &Cert, report: &mut R) -> Status
         (text_outcome (cert_text cert.now) Status.Done files) result }
     ensures status { (result ≡ Status.Done) ⊎ (result ≡ Status.WriteFault) }
     ensures faults { (count : ℕ) → StatusWritesHaveCause count count (R.faults report.old) (R.faults report.new) result }
+    ensures in_time { IsInTime (R.late report.old) (R.faults report.old) (R.late report.new) }
 {
     match write_cert(cert, report) {
         Ok(()) => Status::Done,

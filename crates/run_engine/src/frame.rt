@@ -1,6 +1,7 @@
 //! A frame: its mesh, and then its line of the report.
 
 ghost use Rattle.std.specs.Prelude.{◌≡◌, true, ◌<◌, ◌≤◌, false, length, OnOk, OnErr};
+ghost use Rattle.roam_edge.specs.Fault.{IsInTime};
 ghost use Rattle.roam_edge.specs.declared.mesh_sink.TheConstants.{LONGEST_PREFIX, GREATEST_NUMBER};
 ghost use Rattle.run_laws.specs.Act.{sinks_tell, Stands, IsCutShort};
 ghost use Rattle.run_laws.specs.Cause.{WritesHaveCause};
@@ -45,6 +46,8 @@ pub(crate) fn show_frame<M: MeshSink, R: Sink>(
         (picture_acts (show_seen showing.entry) engine.now.frames (picture_seen engine.now note.now))) }
     ensures faults { WritesHaveCause (M.faults meshes.old) (M.faults meshes.new)
         (R.faults report.old) (R.faults report.new) result }
+    ensures meshes_in_time { IsInTime (M.late meshes.old) (M.faults meshes.old) (M.late meshes.new) }
+    ensures report_in_time { IsInTime (R.late report.old) (R.faults report.old) (R.late report.new) }
 {
     match showing {
         Showing::Meshes(prefix) => write_frame(prefix, engine, note, meshes, report),
@@ -76,6 +79,8 @@ fn write_frame<M: MeshSink, R: Sink>(
         (picture_acts (AsMeshes prefix.now) engine.now.frames (picture_seen engine.now note.now))) }
     ensures faults { WritesHaveCause (M.faults meshes.old) (M.faults meshes.new)
         (R.faults report.old) (R.faults report.new) result }
+    ensures meshes_in_time { IsInTime (M.late meshes.old) (M.faults meshes.old) (M.late meshes.new) }
+    ensures report_in_time { IsInTime (R.late report.old) (R.faults report.old) (R.late report.new) }
 {
     write_mesh(&engine.view(), prefix, engine.frames(), meshes)?;
     report.write(frame_report(engine, note).as_slice())

@@ -3,7 +3,7 @@
 ghost use Rattle.std.specs.Prelude.{ℕ, ◌≡◌, ◌*◌, ◌^◌, ◌<◌, ◌≤◌, Option, List, false, length, All, OnOk, OnErr};
 ghost use Rattle.mesh_defs.specs.Triangle.{level_of};
 ghost use Rattle.mesh_defs.specs.ClosedSet.{IsClosed, among};
-ghost use Rattle.roam_edge.specs.Fault.{HasCause};
+ghost use Rattle.roam_edge.specs.Fault.{HasCause, IsInTime};
 ghost use Rattle.roam_edge.specs.MeshSink.{Mesh};
 ghost use Rattle.roam_edge.specs.declared.mesh_sink.TheConstants.{LONGEST_PREFIX, GREATEST_NUMBER};
 ghost use Rattle.wedgie_tree.specs.declared.wedges.TheConstants.{GREATEST_SPACING};
@@ -60,6 +60,8 @@ pub(crate) fn write_strip<M: MeshSink, R: Sink>(
         (picture_acts (AsStrips prefix.now) engine.now.frames (picture_seen engine.now note))) }
     ensures faults { WritesHaveCause (M.faults meshes.old) (M.faults meshes.new)
         (R.faults report.old) (R.faults report.new) result }
+    ensures meshes_in_time { IsInTime (M.late meshes.old) (M.faults meshes.old) (M.late meshes.new) }
+    ensures report_in_time { IsInTime (R.late report.old) (R.faults report.old) (R.late report.new) }
 {
     let count = engine.view().leaves.len();
     let order = &mut room[..count];
@@ -103,6 +105,8 @@ fn write_order<M: MeshSink, R: Sink>(
         (picture_acts (AsStrips prefix.now) engine.now.frames (picture_seen engine.now note))) }
     ensures faults { WritesHaveCause (M.faults meshes.old) (M.faults meshes.new)
         (R.faults report.old) (R.faults report.new) result }
+    ensures meshes_in_time { IsInTime (M.late meshes.old) (M.faults meshes.old) (M.late meshes.new) }
+    ensures report_in_time { IsInTime (R.late report.old) (R.faults report.old) (R.late report.new) }
 {
     let line = strip_report(engine, order);
     write_mesh(&in_order(engine, order), prefix, engine.frames(), meshes)?;
@@ -175,6 +179,7 @@ pub(crate) fn write_measure<R: Sink>(engine: &Engine, report: &mut R) -> Result<
         (report_tells R.Sink meshes count report.new)
         (picture_acts AsMeasures engine.now.frames (picture_seen engine.now note))) }
     ensures faults { HasCause (R.faults report.old) (R.faults report.new) result }
+    ensures in_time { IsInTime (R.late report.old) (R.faults report.old) (R.late report.new) }
 {
     report.write(measure_report(engine).as_slice())
 }

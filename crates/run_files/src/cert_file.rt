@@ -3,7 +3,7 @@
 ghost use Rattle.std.specs.Prelude.{◌≡◌, ◌≢◌, ◌+◌, ◌*◌, ◌≤◌, ◌++◌, ◌∷◌, [], ℕ, List, All, IfOk, OnOk, Some, None, Ok, Err, length};
 ghost use Rattle.mesh_defs.specs.Triangle.{IsAddress};
 ghost use Rattle.mesh_defs.specs.declared.level.TheConstants.{GREATEST_LEVEL};
-ghost use Rattle.roam_edge.specs.Fault.{Rose, next_count};
+ghost use Rattle.roam_edge.specs.Fault.{Rose, next_count, IsInTime};
 ghost use Rattle.roam_edge.specs.Shelf.{NamedFile, bytes_of};
 ghost use Rattle.cert_text.specs.CertReader.{cert_line_in, nothing_read};
 ghost use Rattle.run_laws.specs.CertFile.{HasCertCome, CertHasRead, cert_of, cert_in};
@@ -171,6 +171,7 @@ pub fn read_cert<F: Shelf>(
     ensures opens { F.opens shelf.new ≡ next_count (F.opens shelf.old) }
     ensures failed { result ≡ Err CertStop.Failed → Rose (F.faults shelf.old) (F.faults shelf.new) }
     ensures no_fault { result ≢ Err CertStop.Failed → F.faults shelf.new ≡ F.faults shelf.old }
+    ensures in_time { IsInTime (F.late shelf.old) (F.faults shelf.old) (F.late shelf.new) }
 {
     let Ok(()) = shelf.open_named(name) else {
         return Err(CertStop::Failed);

@@ -1,7 +1,7 @@
 //! A grid, read from a shelf.
 
 ghost use Rattle.std.specs.Prelude.{◌≡◌, ◌≢◌, List, [], OnOk, IfOk, IfErr, Some, Ok, Err};
-ghost use Rattle.roam_edge.specs.Fault.{Rose, next_count};
+ghost use Rattle.roam_edge.specs.Fault.{Rose, next_count, IsInTime};
 ghost use Rattle.roam_edge.specs.Shelf.{NamedFile, bytes_of};
 ghost use Rattle.pgm_grid.specs.declared.fault.PgmFault.{PgmFault as Fault};
 ghost use Rattle.pgm_grid.specs.Progress.{grid_of, resume};
@@ -49,6 +49,7 @@ pub fn read_grid<F: Shelf>(alloc: Global, name: &str, shelf: &mut F) -> Result<G
     ensures opens { F.opens shelf.new ≡ next_count (F.opens shelf.old) }
     ensures failed { result ≡ Err GridStop.Failed → Rose (F.faults shelf.old) (F.faults shelf.new) }
     ensures no_fault { result ≢ Err GridStop.Failed → F.faults shelf.new ≡ F.faults shelf.old }
+    ensures in_time { IsInTime (F.late shelf.old) (F.faults shelf.old) (F.late shelf.new) }
 {
     let Ok(()) = shelf.open_named(name) else {
         return Err(GridStop::Failed);

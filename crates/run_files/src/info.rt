@@ -1,6 +1,7 @@
 //! The command `info`, and its line.
 
 ghost use Rattle.std.specs.Prelude.{ℕ, ◌≡◌, ◌≢◌, ◌+◌, ◌^◌, ◌<◌, ◌≤◌, List, Option, None, Some, max, length};
+ghost use Rattle.roam_edge.specs.Fault.{IsInTime};
 ghost use Rattle.mesh_defs.specs.BoundingBox.{least, greatest};
 ghost use Rattle.mesh_defs.specs.Thickness.{thickness_of};
 ghost use Rattle.roam_edge.specs.MeshSink.{Mesh};
@@ -61,6 +62,8 @@ pub fn run_info<F: Shelf, R: Sink>(
     ensures files { F.files shelf.new ≡ F.files shelf.old }
     ensures done { result ≡ Status.Done →
         HasEnded (seen (F.files shelf.new) (F.rest shelf.new) (F.opens shelf.new) (F.ended shelf.new)) }
+    ensures shelf_in_time { IsInTime (F.late shelf.old) (F.faults shelf.old) (F.late shelf.new) }
+    ensures report_in_time { IsInTime (R.late report.old) (R.faults report.old) (R.late report.new) }
 {
     match read_grid(alloc, name, shelf) {
         Ok(grid) => match Wedges::build(alloc, grid) {

@@ -1,6 +1,7 @@
 //! The command `fit`.
 
 ghost use Rattle.std.specs.Prelude.{◌≡◌, ◌≢◌, ◌+◌, ◌^◌, ◌<◌, ◌≤◌, List, None, Some, false, OnOk, OnErr};
+ghost use Rattle.roam_edge.specs.Fault.{IsInTime};
 ghost use Rattle.roam_edge.specs.Shelf.{NamedFile};
 ghost use Rattle.run_laws.specs.Act.{sinks_tell, Stands, IsCutShort};
 ghost use Rattle.run_laws.specs.Cause.{StatusHasCause, WritesHaveCause};
@@ -61,6 +62,9 @@ pub fn run_fit<F: Shelf, M: MeshSink, R: Sink>(
     ensures done { result ≡ Status.Done →
         HasEnded (seen (F.files shelf.new) (F.rest shelf.new) (F.opens shelf.new) (F.ended shelf.new)) }
     ensures idle { result ≢ Status.WriteFault → M.under_way meshes.new ≡ false }
+    ensures shelf_in_time { IsInTime (F.late shelf.old) (F.faults shelf.old) (F.late shelf.new) }
+    ensures meshes_in_time { IsInTime (M.late meshes.old) (M.faults meshes.old) (M.late meshes.new) }
+    ensures report_in_time { IsInTime (R.late report.old) (R.faults report.old) (R.late report.new) }
 {
     match read_grid(alloc, words.grid, shelf) {
         Ok(grid) => match Fitted::make(alloc, grid, words.target) {
@@ -99,6 +103,8 @@ fn show<M: MeshSink, R: Sink>(
         (fitted_acts (fitting_seen words.now) fitted.now)) }
     ensures faults { WritesHaveCause (M.faults meshes.old) (M.faults meshes.new)
         (R.faults report.old) (R.faults report.new) result }
+    ensures meshes_in_time { IsInTime (M.late meshes.old) (M.faults meshes.old) (M.late meshes.new) }
+    ensures report_in_time { IsInTime (R.late report.old) (R.faults report.old) (R.late report.new) }
 {
     let view = MeshView {
         wedges: &fitted.wedges,

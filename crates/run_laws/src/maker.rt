@@ -1,6 +1,7 @@
 //! What makes the frames of a script, and shows them.
 
 ghost use Rattle.std.specs.Prelude.{◌≡◌, ◌≢◌, ◌+◌, ◌<◌, ◌≤◌, ℕ, List, false, OnOk};
+ghost use Rattle.roam_edge.specs.Fault.{IsInTime};
 ghost use Rattle.mesh_defs.specs.declared.level.TheConstants.{GREATEST_LEVEL};
 ghost use Rattle.roam_script.specs.declared.limits.Limits.{Limits as LimitsSeen};
 ghost use Rattle.roam_script.specs.declared.limits.TheConstants.{MOST_LINES};
@@ -60,5 +61,7 @@ pub trait FrameMaker {
         ensures ready { (lines : ℕ) → is_ready self.old lines → is_ready self.new (lines + 1) }
         ensures idle { OnOk result (M.under_way meshes.new ≡ false) }
         ensures faults { WritesHaveCause (M.faults meshes.old) (M.faults meshes.new)
-            (R.faults report.old) (R.faults report.new) result };
+            (R.faults report.old) (R.faults report.new) result }
+        ensures meshes_in_time { IsInTime (M.late meshes.old) (M.faults meshes.old) (M.late meshes.new) }
+        ensures report_in_time { IsInTime (R.late report.old) (R.faults report.old) (R.late report.new) };
 }

@@ -1,6 +1,7 @@
 //! The least meshes of a tolerance.
 
 ghost use Rattle.std.specs.Prelude.{◌≡◌, ◌≢◌, ◌+◌, ◌<◌, ◌≤◌, IfOk, false, [], length, OnOk, OnErr};
+ghost use Rattle.roam_edge.specs.Fault.{IsInTime};
 ghost use Rattle.mesh_defs.specs.Priority.{worst_of};
 ghost use Rattle.mesh_defs.specs.State.{start_state, priority_in};
 ghost use Rattle.roam_edge.specs.declared.mesh_sink.TheConstants.{LONGEST_PREFIX, GREATEST_NUMBER};
@@ -159,6 +160,8 @@ impl<'a> LeastFrames<'a> {
             (sinks_tell M.MeshSink R.Sink meshes.new report.new) (least_acts self.now note.now)) }
         ensures faults { WritesHaveCause (M.faults meshes.old) (M.faults meshes.new)
             (R.faults report.old) (R.faults report.new) result }
+        ensures meshes_in_time { IsInTime (M.late meshes.old) (M.faults meshes.old) (M.late meshes.new) }
+        ensures report_in_time { IsInTime (R.late report.old) (R.faults report.old) (R.late report.new) }
     {
         let view = MeshView {
             wedges: &self.wedges,
@@ -199,7 +202,9 @@ impl<'a> FrameMaker for LeastFrames<'a> {
         &mut self,
         meshes: &mut M,
         report: &mut R,
-    ) -> Result<(), Failed> {
+    ) -> Result<(), Failed> 
+        ensures meshes_in_time { IsInTime (M.late meshes.old) (M.faults meshes.old) (M.late meshes.new) }
+        ensures report_in_time { IsInTime (R.late report.old) (R.faults report.old) (R.late report.new) }{
         let note = self.make_mesh();
         self.show(&note, meshes, report)
     }

@@ -1,6 +1,7 @@
 //! The command `least`: the frames of a script as least meshes of a tolerance.
 
 ghost use Rattle.std.specs.Prelude.{◌≡◌, ◌≢◌, ◌^◌, ◌≤◌, List, None, Some, false};
+ghost use Rattle.roam_edge.specs.Fault.{IsInTime};
 ghost use Rattle.roam_edge.specs.Shelf.{NamedFile};
 ghost use Rattle.run_laws.specs.Act.{sinks_tell};
 ghost use Rattle.run_laws.specs.Cause.{StatusHasCause};
@@ -63,6 +64,9 @@ pub fn run_least<F: Shelf, M: MeshSink, R: Sink>(
         HasEnded (seen (F.files shelf.new) (F.rest shelf.new) (F.opens shelf.new) (F.ended shelf.new)) }
     ensures files { F.files shelf.new ≡ F.files shelf.old }
     ensures idle { result ≢ Status.WriteFault → M.under_way meshes.new ≡ false }
+    ensures shelf_in_time { IsInTime (F.late shelf.old) (F.faults shelf.old) (F.late shelf.new) }
+    ensures meshes_in_time { IsInTime (M.late meshes.old) (M.faults meshes.old) (M.late meshes.new) }
+    ensures report_in_time { IsInTime (R.late report.old) (R.faults report.old) (R.late report.new) }
 {
     state_laws();
     match read_grid(alloc, command.grid, shelf) {

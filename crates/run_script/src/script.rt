@@ -1,7 +1,7 @@
 //! A script, carried out as its bytes come.
 
 ghost use Rattle.std.specs.Prelude.{◌≡◌, ◌≢◌, ◌+◌, ◌*◌, ◌≤◌, ◌⊎◌, ℕ, List, ◌∷◌, [], ◌++◌, Some, Err, false, length, OnOk};
-ghost use Rattle.roam_edge.specs.Fault.{HasCause, next_count};
+ghost use Rattle.roam_edge.specs.Fault.{HasCause, next_count, IsInTime};
 ghost use Rattle.roam_edge.specs.Shelf.{NamedFile, bytes_of};
 ghost use Rattle.roam_edge.specs.Sink.{Appends};
 ghost use Rattle.run_laws.specs.Cause.{StatusHasCause, StatusWritesHaveCause};
@@ -35,6 +35,7 @@ fn refuse<R: Sink>(number: u32, fault: ScriptFault, report: &mut R) -> Result<()
     ensures bytes { Appends (R.contents report.old) (R.contents report.new)
         (line_refusal (refusal number fault)) result }
     ensures faults { HasCause (R.faults report.old) (R.faults report.new) result }
+    ensures in_time { IsInTime (R.late report.old) (R.faults report.old) (R.late report.new) }
 {
     report.write(line_report(number, fault).as_slice())
 }
@@ -62,6 +63,8 @@ fn take_line<K: FrameMaker, M: MeshSink, R: Sink>(
     ensures idle { NotFailed result → M.under_way meshes.new ≡ false }
     ensures faults { StopsHaveCause (M.faults meshes.old) (M.faults meshes.new)
         (R.faults report.old) (R.faults report.new) result }
+    ensures meshes_in_time { IsInTime (M.late meshes.old) (M.faults meshes.old) (M.late meshes.new) }
+    ensures report_in_time { IsInTime (R.late report.old) (R.faults report.old) (R.late report.new) }
 {
     state_laws();
     line_laws();
@@ -110,6 +113,8 @@ fn take_byte<K: FrameMaker, M: MeshSink, R: Sink>(
     ensures idle { NotFailed result → M.under_way meshes.new ≡ false }
     ensures faults { StopsHaveCause (M.faults meshes.old) (M.faults meshes.new)
         (R.faults report.old) (R.faults report.new) result }
+    ensures meshes_in_time { IsInTime (M.late meshes.old) (M.faults meshes.old) (M.late meshes.new) }
+    ensures report_in_time { IsInTime (R.late report.old) (R.faults report.old) (R.late report.new) }
 {
     if byte == b'\n' {
         return take_line(frames, stage, meshes, report);
@@ -150,6 +155,8 @@ fn take_piece<K: FrameMaker, M: MeshSink, R: Sink>(
     ensures idle { NotFailed result → M.under_way meshes.new ≡ false }
     ensures faults { StopsHaveCause (M.faults meshes.old) (M.faults meshes.new)
         (R.faults report.old) (R.faults report.new) result }
+    ensures meshes_in_time { IsInTime (M.late meshes.old) (M.faults meshes.old) (M.late meshes.new) }
+    ensures report_in_time { IsInTime (R.late report.old) (R.faults report.old) (R.late report.new) }
 {
     for byte in piece {
         take_byte(frames, stage, *byte, meshes, report)?;
@@ -186,6 +193,8 @@ fn end_script<K: FrameMaker, M: MeshSink, R: Sink>(
     ensures idle { result ≢ Status.WriteFault → M.under_way meshes.new ≡ false }
     ensures faults { StatusWritesHaveCause (M.faults meshes.old) (M.faults meshes.new)
         (R.faults report.old) (R.faults report.new) result }
+    ensures meshes_in_time { IsInTime (M.late meshes.old) (M.faults meshes.old) (M.late meshes.new) }
+    ensures report_in_time { IsInTime (R.late report.old) (R.faults report.old) (R.late report.new) }
 {
     if stage.part.is_empty() {
         return Status::Done;
@@ -224,6 +233,9 @@ pub fn run_script<K: FrameMaker, F: Shelf, M: MeshSink, R: Sink>(
     ensures idle { result ≢ Status.WriteFault → M.under_way meshes.new ≡ false }
     ensures faults { StatusHasCause (F.faults shelf.old) (F.faults shelf.new) (M.faults meshes.old)
         (M.faults meshes.new) (R.faults report.old) (R.faults report.new) result }
+    ensures shelf_in_time { IsInTime (F.late shelf.old) (F.faults shelf.old) (F.late shelf.new) }
+    ensures meshes_in_time { IsInTime (M.late meshes.old) (M.faults meshes.old) (M.late meshes.new) }
+    ensures report_in_time { IsInTime (R.late report.old) (R.faults report.old) (R.late report.new) }
 {
     let Ok(()) = shelf.open_named(name) else {
         return Status::ReadFault;
