@@ -9,7 +9,7 @@ use Rattle.cert_text.proofs.PageLemmas.{put-more, cut-longer, texts-cut, texts-n
 use Rattle.cert_text.proofs.writing.put_leaves.Goals as goal
 
 pub loop-leaf-init : goal.loop-leaf-init
-loop-leaf-init g c = record { put = λ before text put. put-more before _ _ _ text [] (sym (append-nil c.args.page.now.items)) put; calm = refl }
+loop-leaf-init g c = record { put = λ before text put. put-more before _ _ _ text [] (sym (append-nil c.args.page.now.items)) put; calm = refl; in_time = λ late calm. late }
 
 pub loop-leaf-preserved : goal.loop-leaf-preserved
 loop-leaf-preserved g c =
@@ -20,6 +20,7 @@ loop-leaf-preserved g c =
           (c.in_ok-put_line.ensures.ok before (text ++ flat_map leaf_text (take c.loop-leaf.leaf-index c.args.leaves.now))
           (c.loop-leaf.invariant.put before text put));
       calm = c.in_ok-put_line.ensures.faults.ok ∙ c.loop-leaf.invariant.calm;
+      in_time = λ late calm. c.in_ok-put_line.ensures.in_time (c.loop-leaf.invariant.in_time late calm) (c.loop-leaf.invariant.calm ∙ calm);
     }
 
 pub returns-in_err-put_line-clause-err : goal.returns-in_err-put_line-clause-err

@@ -48,6 +48,7 @@ lines-preserved g c =
       files = search rules;
       opens = search rules;
       calm = search rules;
+      in_time = search rules;
     }
 
 pub returns-in-Some-2-clause-place : goal.returns-in-Some-2-clause-place

@@ -1,4 +1,5 @@
 use Rattle.std.proofs.Common.{◌≡◌, ◌+◌, ◌*◌, ◌≤◌, [], false}
+use Rattle.roam_edge.specs.Fault.{IsInTime}
 use Rattle.obj_write.specs.declared.lines.TheConstants.{LONGEST_PIECE}
 use Rattle.roam_edge.specs.Told.{StaysTold}
 use Rattle.mesh_compare.specs.Differs.{Agrees, left_of}
@@ -16,6 +17,7 @@ invariant-lines g l = record {
   files : g.F.Shelf.files l.shelf ≡ g.F.Shelf.files l.fn.shelf;
   opens : g.F.Shelf.opens l.shelf ≡ g.F.Shelf.opens l.fn.shelf;
   calm : g.F.Shelf.faults l.shelf ≡ g.F.Shelf.faults l.fn.shelf;
+  in_time : IsInTime (g.F.Shelf.late l.fn.shelf) (g.F.Shelf.faults l.fn.shelf) (g.F.Shelf.late l.shelf);
 }
 
 abbrev pub decreases-lines : goal.decreases-lines

@@ -1,4 +1,5 @@
 use Rattle.std.proofs.Common.{◌≡◌, take, false}
+use Rattle.roam_edge.specs.Fault.{IsInTime}
 use Rattle.roam_edge.specs.Told.{StaysTold}
 use Rattle.mesh_compare.specs.Differs.{HasFront, left_of}
 use Rattle.mesh_compare.proofs.piece.match_piece.Given as goal
@@ -12,4 +13,5 @@ invariant-loop-i g l = record {
   files : g.F.Shelf.files l.shelf ≡ g.F.Shelf.files l.fn.shelf;
   opens : g.F.Shelf.opens l.shelf ≡ g.F.Shelf.opens l.fn.shelf;
   calm : g.F.Shelf.faults l.shelf ≡ g.F.Shelf.faults l.fn.shelf;
+  in_time : IsInTime (g.F.Shelf.late l.fn.shelf) (g.F.Shelf.faults l.fn.shelf) (g.F.Shelf.late l.shelf);
 }

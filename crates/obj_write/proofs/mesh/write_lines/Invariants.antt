@@ -1,4 +1,5 @@
 use Rattle.std.proofs.Common.{◌≡◌, ◌+◌, ◌≤◌, ◌++◌, true, length}
+use Rattle.roam_edge.specs.Fault.{IsInTime}
 use Rattle.obj_write.specs.Page.{Passed}
 use Rattle.obj_write.specs.MeshView.{view_text}
 use Rattle.obj_write.specs.declared.page.TheConstants.{PAGE_ROOM}
@@ -13,6 +14,7 @@ invariant-lines g l = record {
   room : length l.page + LONGEST_PIECE ≤ PAGE_ROOM;
   passed : Passed (g.M.MeshSink.meshes l.fn.out) (g.M.MeshSink.meshes l.out) l.fn.page (l.page ++ l.lines.text)
       (view_text l.view);
+  in_time : IsInTime (g.M.MeshSink.late l.fn.out) (g.M.MeshSink.faults l.fn.out) (g.M.MeshSink.late l.out);
 }
 
 abbrev pub decreases-lines : goal.decreases-lines

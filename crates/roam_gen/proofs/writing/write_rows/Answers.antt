@@ -53,6 +53,7 @@ loop-above-preserved g c =
           (wrote-more before (g.S.Sink.contents c.loop-above.out) now (samples_from n c.args.seed 0 (above * side_of n)) piece _
           c.loop-above.invariant.written c.in_ok-write.ensures.bytes);
       calm = c.in_ok-write.ensures.faults.ok ∙ c.loop-above.invariant.calm;
+      in_time = λ late calm. rw (c.in_ok-write.ensures.late, c.loop-above.invariant.in_time late calm, c.loop-above.invariant.calm ∙ calm) refl;
     }
 
 pub returns-clause-bytes : goal.returns-clause-bytes

@@ -34,6 +34,7 @@ loop-i-preserved g c =
           (subst (Wrote before now) (sym text) (wrote-more before (g.S.Sink.contents c.loop-i.out) now (flat_map line_text (take k lines)) c.as_slice.result.now _
           c.loop-i.invariant.written c.in_ok-write.ensures.bytes));
       calm = c.in_ok-write.ensures.faults.ok ∙ c.loop-i.invariant.calm;
+      in_time = λ late calm. rw (c.in_ok-write.ensures.late, c.loop-i.invariant.in_time late calm, c.loop-i.invariant.calm ∙ calm) refl;
     }
 
 pub returns-clause-bytes : goal.returns-clause-bytes

@@ -35,6 +35,7 @@ pieces-preserved g c = record {
   files = search rules;
   opens = search rules;
   faults = search rules;
+  in_time = search rules;
 }
 
 pub returns-in_err-take_piece-clause-bad_line : goal.returns-in_err-take_piece-clause-bad_line

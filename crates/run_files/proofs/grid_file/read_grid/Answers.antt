@@ -15,6 +15,7 @@ pieces-init g c = record {
   files = search rules;
   opens = search rules;
   faults = search rules;
+  in_time = search rules;
 }
 
 pub returns-in-Err-clause-refused : goal.returns-in-Err-clause-refused
@@ -35,6 +36,7 @@ pieces-preserved g c = record {
   files = search rules;
   opens = search rules;
   faults = search rules;
+  in_time = search rules;
 }
 
 pub returns-in-Err-clause-no_memory : goal.returns-in-Err-clause-no_memory

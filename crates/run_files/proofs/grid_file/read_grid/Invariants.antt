@@ -1,5 +1,5 @@
 use Rattle.std.proofs.Common.{◌≡◌, ◌-◌, ◌^◌, ◌≤◌, false}
-use Rattle.roam_edge.specs.Fault.{next_count}
+use Rattle.roam_edge.specs.Fault.{next_count, IsInTime}
 use Rattle.pgm_grid.specs.declared.fault.PgmFault.{PgmFault}
 use Rattle.pgm_grid.specs.Progress.{taken, IsSettled}
 use Rattle.run_files.proofs.ReadingLemmas.{IsReading}
@@ -15,6 +15,7 @@ invariant-pieces g l = record {
   files : g.F.Shelf.files l.shelf ≡ g.F.Shelf.files l.fn.shelf;
   opens : g.F.Shelf.opens l.shelf ≡ next_count (g.F.Shelf.opens l.fn.shelf);
   faults : g.F.Shelf.faults l.shelf ≡ g.F.Shelf.faults l.fn.shelf;
+  in_time : IsInTime (g.F.Shelf.late l.fn.shelf) (g.F.Shelf.faults l.fn.shelf) (g.F.Shelf.late l.shelf);
 }
 
 abbrev pub decreases-pieces : goal.decreases-pieces

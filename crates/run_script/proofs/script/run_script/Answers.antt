@@ -31,6 +31,9 @@ pieces-init g c = record {
   files = search rules;
   opens = search rules;
   shelf_faults = search rules;
+  shelf_in_time = search rules;
+  meshes_in_time = search rules;
+  report_in_time = search rules;
 }
 
 pub returns-in_default-read-clause-read_fault : goal.returns-in_default-read-clause-read_fault
@@ -96,4 +99,7 @@ pieces-preserved g c = record {
   files = search rules;
   opens = search rules;
   shelf_faults = search rules;
+  shelf_in_time = search rules;
+  meshes_in_time = search rules;
+  report_in_time = search rules;
 }

@@ -1,6 +1,6 @@
 use Rattle.std.proofs.Common.{◌≡◌, ◌+◌, ◌-◌, ◌*◌, ℕ, List, Some, false, length}
 use Rattle.roam_edge.specs.Shelf.{NamedFile}
-use Rattle.roam_edge.specs.Fault.{next_count}
+use Rattle.roam_edge.specs.Fault.{next_count, IsInTime}
 use Rattle.run_laws.specs.Walk.{Walk}
 use Rattle.word_laws.specs.Words.{Show}
 use Rattle.run_laws.specs.Act.{sinks_tell}
@@ -26,6 +26,9 @@ invariant-pieces g l = record {
   files : g.F.Shelf.files l.shelf ≡ g.F.Shelf.files l.fn.shelf;
   opens : g.F.Shelf.opens l.shelf ≡ next_count (g.F.Shelf.opens l.fn.shelf);
   shelf_faults : g.F.Shelf.faults l.shelf ≡ g.F.Shelf.faults l.fn.shelf;
+  shelf_in_time : IsInTime (g.F.Shelf.late l.fn.shelf) (g.F.Shelf.faults l.fn.shelf) (g.F.Shelf.late l.shelf);
+  meshes_in_time : IsInTime (g.M.MeshSink.late l.fn.meshes) (g.M.MeshSink.faults l.fn.meshes) (g.M.MeshSink.late l.meshes);
+  report_in_time : IsInTime (g.R.Sink.late l.fn.report) (g.R.Sink.faults l.fn.report) (g.R.Sink.late l.report);
 }
 
 -- each byte makes a line longer, or is the last of an accepted line

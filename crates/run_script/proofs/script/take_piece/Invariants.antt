@@ -1,4 +1,5 @@
 use Rattle.std.proofs.Common.{◌≡◌, ◌+◌, ◌*◌, ◌≤◌, ◌++◌, ℕ, List, false, take, length}
+use Rattle.roam_edge.specs.Fault.{IsInTime}
 use Rattle.run_laws.specs.Walk.{Walk}
 use Rattle.word_laws.specs.Words.{Show}
 use Rattle.run_laws.specs.Act.{Told, sinks_tell}
@@ -20,4 +21,6 @@ invariant-loop-byte g l = record {
   longer : 201 * l.fn.stage.lines + length l.fn.stage.part.items + l.byte-index ≤ 201 * l.stage.lines + length l.stage.part.items;
   idle : g.M.MeshSink.under_way l.meshes ≡ false;
   faults : NoFault (g.M.MeshSink.faults l.fn.meshes) (g.M.MeshSink.faults l.meshes) (g.R.Sink.faults l.fn.report) (g.R.Sink.faults l.report);
+  meshes_in_time : IsInTime (g.M.MeshSink.late l.fn.meshes) (g.M.MeshSink.faults l.fn.meshes) (g.M.MeshSink.late l.meshes);
+  report_in_time : IsInTime (g.R.Sink.late l.fn.report) (g.R.Sink.faults l.fn.report) (g.R.Sink.late l.report);
 }
