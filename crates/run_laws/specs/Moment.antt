@@ -7,12 +7,16 @@ use Rattle.roam_edge.specs.declared.sink.Sink as reporting
 use Rattle.run_laws.specs.Act.{Told, sinks_tell}
 use Rattle.run_laws.specs.Promise.{Seen, seen}
 
--- what the shelf tells, what the two sinks tell, whether a mesh is begun and not finished, and how often the shelf has failed
+-- what the shelf tells, what the two sinks tell, whether a mesh is begun and not finished, how often the shelf has failed, and
+-- whether a call of each of the three came after one that had failed
 pub record Moment : Type 0 where
   pub shelf : Seen
   pub sinks : Told
   pub under_way : Bool
   pub shelf_faults : ℕ
+  pub shelf_late : Bool
+  pub mesh_late : Bool
+  pub report_late : Bool
 
 -- the moment of a shelf, a sink of meshes and a report, by what each of them tells
 abbrev pub moment : {F M R : Type 0} → reading.Ghosts F → showing.Ghosts M → reporting.Ghosts R
@@ -22,4 +26,7 @@ moment f m r files meshes report = record {
   sinks = sinks_tell m r meshes report;
   under_way = m.under_way meshes;
   shelf_faults = f.faults files;
+  shelf_late = f.late files;
+  mesh_late = m.late meshes;
+  report_late = r.late report;
 }

@@ -6,6 +6,7 @@ use Rattle.std.specs.Prelude.{◌≡◌, ◌≢◌, ◌⊎◌, ◌↔◌, ℕ, �
 use Rattle.mesh_defs.specs.HeightField.{HeightField}
 use Rattle.roam_edge.specs.MeshSink.{Mesh}
 use Rattle.roam_edge.specs.Shelf.{NamedFile, bytes_of}
+use Rattle.roam_edge.specs.Fault.{IsInTime}
 use Rattle.obj_write.specs.Written.{Grows}
 use Rattle.run_laws.specs.declared.status.Status.{Status}
 use Rattle.run_laws.specs.declared.status.Status.TheVariants.{Done, NoMemory, Usage, ReadFault, WriteFault}
@@ -73,8 +74,8 @@ pub record EndsByStatus (before now : Moment) (words : List (List ℕ)) (status 
       → LeavesAtNoMemory before.sinks now.sinks before.shelf now.shelf words
 
 -- How the outside and the engine are left, also where the shelf tells no files: it tells what it told, no mesh is under way but
--- after WriteFault, files were opened as often as the status says, with Done the last one was read to its end, and an engine is left
--- where one made the frames and all lines were carried out.
+-- after WriteFault, files were opened as often as the status says, with Done the last one was read to its end, an engine is left
+-- where one made the frames and all lines were carried out, and none of the three was called again once a call of it had failed.
 pub record LeavesOutside (before now : Moment) (words : List (List ℕ)) (status : Status) (left : Option EngineEnd) : Type 0 where
   pub files : now.shelf.files ≡ before.shelf.files
   pub idle : status ≢ WriteFault → now.under_way ≡ false
@@ -82,6 +83,9 @@ pub record LeavesOutside (before now : Moment) (words : List (List ℕ)) (status
       OpensForStatus before.shelf.opens now.shelf.opens (file_count (command_of words)) status
   pub read_out : status ≡ Done → 0 < file_count (command_of words) → HasEnded now.shelf
   pub engine : IsSome left ↔ IsTrue (leaves_engine (command_of words) status)
+  pub shelf_in_time : IsInTime before.shelf_late before.shelf_faults now.shelf_late
+  pub meshes_in_time : IsInTime before.mesh_late before.sinks.mesh_faults now.mesh_late
+  pub report_in_time : IsInTime before.report_late before.sinks.report_faults now.report_late
 
 -- The causes.
 
