@@ -20,8 +20,8 @@ use Rattle.run_laws.specs.Moment.{Moment}
 
 -- The meshes.
 
--- Each mesh that is finished is a best one, whatever the status: of a script that of the state at its frame line, of a fit that of
--- its error or its budget.
+-- Each mesh that is finished is the right one, whatever the status: of a script the best of the budget, or the least of the tolerance,
+-- at its frame line; of a fit that of its error or its budget. (Where files and meshes are told.)
 pub record KeepsBestMeshes (before now : Moment) (words : List (List ℕ)) (status : Status) : Type 0 where
   pub of_script : (files : List NamedFile) (all : List Mesh) (s : Scripted) (grid : HeightField)
       → before.shelf.files ≡ Some files → before.sinks.meshes ≡ Some all → IsRunOf words files s grid
@@ -30,14 +30,14 @@ pub record KeepsBestMeshes (before now : Moment) (words : List (List ℕ)) (stat
       → before.shelf.files ≡ Some files → before.sinks.meshes ≡ Some all → IsFitRunOf words files f grid
       → KeepsFitMesh f grid before.sinks now.sinks all status
 
--- where a check is done, the report got a line by which its mesh is certified, and such a mesh is optimal
+-- where `certify check` is done, the report got the line that its mesh is certified, and such a mesh is a best one
 abbrev pub CertifiesMesh : Moment → Moment → List (List ℕ) → Status → Type 0
 CertifiesMesh before now words status =
     (files : List NamedFile) (c : Checking) (grid : HeightField) → before.shelf.files ≡ Some files
     → IsCheckOf words files c grid → status ≡ Done → (line : List ℕ)
     × Grows before.sinks.report now.sinks.report line × IsCertifiedMesh c grid (bytes_of files c.mesh) line
 
--- what the frames of an engine tell of blocking is a certificate
+-- what each frame of an engine tells of blocking proves that its mesh is a best one
 abbrev pub TellsCertificates : List (List ℕ) → Type 0
 TellsCertificates words = (files : List NamedFile) (end : Outcome) → IsTrue (is_some end.engine)
     → IsOutcome words files end → All IsCertified end.pictures
@@ -62,7 +62,7 @@ pub record IsCutOff (before now : Moment) (words : List (List ℕ)) (files : Lis
   pub opened : now.shelf.opens ≡ before.shelf.opens + end.opened
 
 -- With Done, Usage and the refusals all of an outcome was done, and with WriteFault it was cut off. With ReadFault what the run had
--- done by then stands, and with NoMemory nothing was done.
+-- done by then stands, and with NoMemory nothing was written.
 pub record EndsByStatus (before now : Moment) (words : List (List ℕ)) (status : Status) (left : Option EngineEnd) : Type 0 where
   pub complete : IsTrue (is_complete status) → (files : List NamedFile)
       → AreFiles before.shelf.files words files → DoesAll before now words files status left
@@ -73,7 +73,7 @@ pub record EndsByStatus (before now : Moment) (words : List (List ℕ)) (status 
   pub no_memory : status ≡ NoMemory
       → LeavesAtNoMemory before.sinks now.sinks before.shelf now.shelf words
 
--- How the outside and the engine are left, also where the shelf tells no files: it tells what it told, no mesh is under way but
+-- How the outside and the engine are left, also where nothing is told: the shelf's files are as before, no mesh is under way but
 -- after WriteFault, files were opened as often as the status says, with Done the last one was read to its end, an engine is left
 -- where one made the frames and all lines were carried out, and none of the three was called again once a call of it had failed.
 pub record LeavesOutside (before now : Moment) (words : List (List ℕ)) (status : Status) (left : Option EngineEnd) : Type 0 where

@@ -1,5 +1,6 @@
 use Rattle.std.proofs.Common.{◌≡◌, ℕ, ◌+◌, ◌-◌, ◌*◌, ◌^◌, length, sym, ap, ◌∙◌, subst, arith}
 use Rattle.std.specs.List.{flat_map}
+use Rattle.std.proofs.lemmas.Bool.{le-ltb}
 use Rattle.std.proofs.lemmas.Result.{err_from_is_err_and}
 use Rattle.mesh_defs.specs.HeightField.{side_of}
 use Rattle.text_laws.specs.Words.{two_bytes}
@@ -53,7 +54,8 @@ loop-above-preserved g c =
           (wrote-more before (g.S.Sink.contents c.loop-above.out) now (samples_from n c.args.seed 0 (above * side_of n)) piece _
           c.loop-above.invariant.written c.in_ok-write.ensures.bytes);
       calm = c.in_ok-write.ensures.faults.ok ∙ c.loop-above.invariant.calm;
-      in_time = λ late calm. rw (c.in_ok-write.ensures.late, c.loop-above.invariant.in_time late calm, c.loop-above.invariant.calm ∙ calm) refl;
+      in_time = λ late calm. rw (c.in_ok-write.ensures.late, c.loop-above.invariant.in_time late calm, c.loop-above.invariant.calm ∙ calm)
+          (le-ltb 0 0 (omega arith));
     }
 
 pub returns-clause-bytes : goal.returns-clause-bytes

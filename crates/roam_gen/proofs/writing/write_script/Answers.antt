@@ -1,6 +1,7 @@
 use Rattle.std.proofs.Common.{◌≡◌, ℕ, ◌+◌, ◌-◌, take, drop, suc, sym, ◌∙◌, subst, arith, ap, length}
 use Rattle.std.specs.List.{flat_map}
 use Rattle.std.proofs.lemmas.List.{take_all}
+use Rattle.std.proofs.lemmas.Bool.{le-ltb}
 use Rattle.std.proofs.lemmas.Result.{err_from_is_err_and}
 use Rattle.roam_gen.specs.Generated.{made_lines}
 use Rattle.roam_gen.specs.Written.{line_text, script_text}
@@ -34,7 +35,8 @@ loop-i-preserved g c =
           (subst (Wrote before now) (sym text) (wrote-more before (g.S.Sink.contents c.loop-i.out) now (flat_map line_text (take k lines)) c.as_slice.result.now _
           c.loop-i.invariant.written c.in_ok-write.ensures.bytes));
       calm = c.in_ok-write.ensures.faults.ok ∙ c.loop-i.invariant.calm;
-      in_time = λ late calm. rw (c.in_ok-write.ensures.late, c.loop-i.invariant.in_time late calm, c.loop-i.invariant.calm ∙ calm) refl;
+      in_time = λ late calm. rw (c.in_ok-write.ensures.late, c.loop-i.invariant.in_time late calm, c.loop-i.invariant.calm ∙ calm)
+          (le-ltb 0 0 (omega arith));
     }
 
 pub returns-clause-bytes : goal.returns-clause-bytes
