@@ -1,2 +1,4 @@
 pub mod FitLine
 pub mod FitCertReader
+pub mod FitCertText
+pub mod Laws

@@ -1,7 +1,8 @@
 -- Certificates of fitted meshes: reasons that replay the refinement of a mesh, each a triangle that every mesh that is off by
 -- less has split.
 -- The definition is this project's own; forced splits are those of Duchaineau et al., "ROAMing Terrain", 1997.
--- Words: FitCertificate, IsOff, IsReason, LeadsTo, IsFitted, IsFor, IsWithin, IsEnough, IsSound, IsFirstBad, IsRejected, IsVerdict.
+-- Words: FitCertificate, IsOff, IsReason, LeadsTo, IsFitted, IsFor, IsWithin, IsEnough, IsSound, IsFirstBad, IsRejected, IsVerdict,
+-- IsVerdictOf.
 use Rattle.std.specs.Prelude.{◌≡◌, ℕ, ◌+◌, ◌-◌, ◌^◌, ◌<◌, ◌≤◌, ◌⊎◌, Bool, true, false, List, [], ◌∷◌, ◌++◌, length, Contains}
 use Rattle.mesh_defs.specs.Triangle.{IsSplittable}
 use Rattle.mesh_defs.specs.BoundingBox.{point, holds_point}
@@ -109,3 +110,9 @@ abbrev pub IsVerdict : ℕ → List ℕ → Target → FitCertificate → Verdic
 IsVerdict n heights goal cert (Certified triangles deviation) =
     (mesh : List ℕ) × IsSound n heights goal cert mesh × (triangles ≡ length mesh) × (deviation ≡ deviation_of n heights mesh)
 IsVerdict n heights goal cert (Rejected why) = IsRejected n heights goal cert why
+
+-- the same, with the triangles of the mesh, where it is sound
+abbrev pub IsVerdictOf : ℕ → List ℕ → Target → FitCertificate → Verdict → List ℕ → Type 0
+IsVerdictOf n heights goal cert (Certified triangles deviation) mesh =
+    IsSound n heights goal cert mesh × (triangles ≡ length mesh) × (deviation ≡ deviation_of n heights mesh)
+IsVerdictOf n heights goal cert (Rejected why) mesh = IsRejected n heights goal cert why

@@ -9,13 +9,15 @@ ghost use Rattle.fit_laws.specs.Error.{error_of};
 ghost use Rattle.fit_laws.specs.Budget.{IsBudgetMesh};
 ghost use Rattle.fit_certificate_laws.specs.declared.reason.Target.{Target};
 ghost use Rattle.fit_certificate_laws.specs.declared.reason.Verdict.{Verdict};
-ghost use Rattle.fit_certificate_laws.specs.Certificate.{FitCertificate, IsSound, IsVerdict};
+ghost use Rattle.fit_certificate_laws.specs.Certificate.{FitCertificate, IsSound, IsVerdict, IsVerdictOf};
+ghost use Rattle.fit_certificate_laws.specs.Making.{IsPossible};
 
 /// A certificate is sound only for the best mesh of its target, whoever made the two.
 ///
 /// `least` the mesh is the fewest triangles for the tolerance of the certificate, whatever the target; `error` so it is for
 /// the tolerance of the target; `budget` no conforming list within the budget has a lower greatest error. `order` the mesh
-/// stands depth first, and `certified` no checker that is exact says anything else of a sound certificate.
+/// stands depth first, and `certified` no checker that is exact says anything else of a sound certificate. `verdict` each
+/// certificate has a verdict, `one_verdict` and no other; `some` each target that is possible has a sound certificate.
 pub fn fit_certificate_laws()
     ensures least { (n : ℕ) (heights : List ℕ) (target : Target) (cert : FitCertificate) (mesh : List ℕ) →
         IsSound n heights target cert mesh →
@@ -32,4 +34,11 @@ pub fn fit_certificate_laws()
         (verdict : Verdict) →
         IsSound n heights target cert mesh → IsVerdict n heights target cert verdict →
         verdict ≡ Verdict.Certified (length mesh) (deviation_of n heights mesh) }
+    ensures verdict { (n : ℕ) (heights : List ℕ) (target : Target) (cert : FitCertificate) →
+        (verdict : Verdict) × (mesh : List ℕ) × IsVerdictOf n heights target cert verdict mesh }
+    ensures one_verdict { (n : ℕ) (heights : List ℕ) (target : Target) (cert : FitCertificate)
+        (verdict other : Verdict) →
+        IsVerdict n heights target cert verdict → IsVerdict n heights target cert other → verdict ≡ other }
+    ensures some { (n : ℕ) (heights : List ℕ) (target : Target) → IsPossible target →
+        (cert : FitCertificate) × (mesh : List ℕ) × IsSound n heights target cert mesh }
 {}

@@ -1,3 +1,3 @@
 pub mod ReplayLemmas
 pub mod SettleLemmas
-pub mod MakeLemmas
+pub mod MeshLemmas

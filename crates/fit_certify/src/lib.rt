@@ -8,10 +8,12 @@
 
 mod force;
 mod making;
+mod mesh;
 mod replay;
 mod settle;
 mod verdict;
 
 pub use fit_certificate_laws::{FitCert, MOST_REASONS, Off, Reject, Target, Verdict};
 pub use making::make;
+pub use mesh::mesh_of;
 pub use verdict::check;

@@ -6,7 +6,7 @@ ghost use Rattle.least_laws.specs.Sweep.{is_flagged};
 ghost use Rattle.fit_laws.specs.Error.{error_of};
 ghost use Rattle.fit_certificate_laws.specs.Certificate.{LeadsTo, IsSound};
 ghost use Rattle.fit_certificate_laws.specs.declared.limits.TheConstants.{MOST_REASONS};
-ghost use Rattle.fit_certify.specs.Making.{IsPossible, IsBestTolerance, IsBelow};
+ghost use Rattle.fit_certificate_laws.specs.Making.{IsPossible, IsBestTolerance, IsBelow};
 
 use crate::settle::settle;
 use address_flags::end;

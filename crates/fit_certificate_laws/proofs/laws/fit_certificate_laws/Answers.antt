@@ -1,6 +1,8 @@
 -- Each clause is a lemma.
 use Rattle.fit_certificate_laws.proofs.SoundLemmas.{sound-least, sound-error, sound-budget, sound-order}
 use Rattle.fit_certificate_laws.proofs.VerdictLemmas.{sound-certified}
+use Rattle.fit_certificate_laws.proofs.DecisionLemmas.{verdict_found, verdict_one}
+use Rattle.fit_certificate_laws.proofs.FoundLemmas.{sound_found}
 use Rattle.fit_certificate_laws.proofs.laws.fit_certificate_laws.Goals as goal
 
 pub returns-clause-least : goal.returns-clause-least
@@ -17,3 +19,12 @@ returns-clause-order c = sound-order
 
 pub returns-clause-certified : goal.returns-clause-certified
 returns-clause-certified c n heights target cert mesh verdict sound is = sound-certified n heights target cert mesh sound verdict is
+
+pub returns-clause-verdict : goal.returns-clause-verdict
+returns-clause-verdict c = verdict_found
+
+pub returns-clause-one_verdict : goal.returns-clause-one_verdict
+returns-clause-one_verdict c = verdict_one
+
+pub returns-clause-some : goal.returns-clause-some
+returns-clause-some c = sound_found

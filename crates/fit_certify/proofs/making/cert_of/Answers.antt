@@ -6,7 +6,7 @@ use Rattle.least_laws.specs.Sweep.{is_flagged}
 use Rattle.fit_laws.proofs.FitLemmas.{closed-same}
 use Rattle.fit_certificate_laws.specs.Certificate.{FitCertificate, IsFitted, IsSound}
 use Rattle.fit_certificate_laws.proofs.LeadLemmas.{leads-closed, leads-same}
-use Rattle.fit_certify.proofs.MakeLemmas.{made-sound}
+use Rattle.fit_certificate_laws.proofs.MakeLemmas.{made-sound}
 use Rattle.fit_certify.proofs.making.cert_of.Goals as goal
 
 pub settle-requires-clause-closed : goal.settle-requires-clause-closed

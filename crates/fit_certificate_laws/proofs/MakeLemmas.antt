@@ -11,7 +11,7 @@ use Rattle.fit_certificate_laws.specs.declared.reason.Target.TheVariants.{Error,
 use Rattle.fit_certificate_laws.specs.Certificate.{FitCertificate, LeadsTo, IsFitted, IsFor, IsWithin, IsEnough, IsSound}
 use Rattle.fit_certificate_laws.proofs.LeadLemmas.{leads-closed}
 use Rattle.fit_certificate_laws.proofs.SoundLemmas.{fitted-closed, fitted-least}
-use Rattle.fit_certify.specs.Making.{IsBestTolerance, IsBelow}
+use Rattle.fit_certificate_laws.specs.Making.{IsBestTolerance, IsBelow}
 
 module _ (n : ℕ) (heights : List ℕ) (cert : FitCertificate) (has over : ℕ → Bool) (fitted : IsFitted n heights cert has)
     (beyond : LeadsTo n heights (cert.tolerance - 1) has cert.beyond over) where

@@ -1,0 +1,11 @@
+-- What a sink has got of a text that is put through a page. This project's own words.
+use Rattle.std.specs.Prelude.{◌≡◌, ℕ, List, ◌++◌, Option, Some}
+use Rattle.roam_edge.specs.Told.{IsPrefix}
+
+-- the text was put since the sink told `before`: it has got all of it but for what the page holds
+pub record IsPut (before now : Option (List ℕ)) (page text : List ℕ) : Type 0 where
+  pub holds : (all : List ℕ) → before ≡ Some all → (front : List ℕ) × (now ≡ Some (all ++ front)) × (text ≡ front ++ page)
+
+-- since the sink told `before`, it has got a prefix of this text
+pub record IsCutShort (before now : Option (List ℕ)) (text : List ℕ) : Type 0 where
+  pub holds : (all : List ℕ) → before ≡ Some all → (front : List ℕ) × IsPrefix front text × (now ≡ Some (all ++ front))
