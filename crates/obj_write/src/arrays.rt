@@ -33,8 +33,8 @@ pub fn write_positions(view: &MeshView<'_>, out: &mut [u32])
 {
     let numbers = view.numbers;
     let mut at = 0;
-    for k in 0..numbers.len() {
-        if numbers[k] == 0 {
+    for k in 0..numbers.places() {
+        if numbers.number_at(k) == 0 {
             continue;
         }
         write_position(view, k, out, at);
@@ -130,5 +130,5 @@ fn vertex_at(view: &MeshView<'_>, vertex: Point) -> u32
     ensures { result ≡ vertex_place (vertices_of view.now.wedges.now.n view.now.leaves.now) vertex }
 {
     let place = place(view.wedges.grid().n(), vertex);
-    view.numbers[place] - 1
+    view.numbers.number_at(place) - 1
 }

@@ -17,13 +17,13 @@ loop-k-init c =
       rest = refl;
     }
 
-pub loop-k-preserved-then-numbers-k-eq0 : goal.loop-k-preserved-then-numbers-k-eq0
-loop-k-preserved-then-numbers-k-eq0 c =
+pub loop-k-preserved-then-number_at-eq0 : goal.loop-k-preserved-then-number_at-eq0
+loop-k-preserved-then-number_at-eq0 c =
     let v = c.args.view.now in
     let n = v.wedges.now.n in
     let long = ap length c.requires.numbers ∙ length-numbers n v.leaves.now in
-    let below : c.loop-k.k < side_of n * side_of n = let test = c.loop-k-test.true in omega arith in
-    let none = vertices_from-skip n v.leaves.now c.loop-k.k below (sym (ap (λ xs. get_or xs c.loop-k.k 0) c.requires.numbers) ∙ c.if-numbers-k-eq0.true) in
+    let below : c.loop-k.k < side_of n * side_of n = let test = c.loop-k-test.true in let size = c.places-k-end.ensures in omega arith in
+    let none = vertices_from-skip n v.leaves.now c.loop-k.k below (sym (ap (λ xs. get_or xs c.loop-k.k 0) c.requires.numbers) ∙ (sym c.number_at.ensures ∙ c.if-number_at-eq0.true)) in
     record {
       room = let e = ap length none in let before = c.loop-k.invariant.room in omega arith;
       so_far = ap (λ vs. take c.loop-k.at c.loop-k.out ++ flat_map (position_of n v.wedges.now.heights v.spacing) vs) (sym none) ∙ c.loop-k.invariant.so_far;
@@ -34,16 +34,16 @@ pub write_position-requires-clause-below : goal.write_position-requires-clause-b
 write_position-requires-clause-below c =
     let v = c.args.view.now in
     let long = ap length c.requires.numbers ∙ length-numbers v.wedges.now.n v.leaves.now in
-    let test = c.loop-k-test.true in omega arith
+    let test = c.loop-k-test.true in let size = c.places-k-end.ensures in omega arith
 
 pub write_position-requires-clause-room : goal.write_position-requires-clause-room
 write_position-requires-clause-room c =
     let v = c.args.view.now in
     let n = v.wedges.now.n in
     let long = ap length c.requires.numbers ∙ length-numbers n v.leaves.now in
-    let below : c.loop-k.k < side_of n * side_of n = let test = c.loop-k-test.true in omega arith in
+    let below : c.loop-k.k < side_of n * side_of n = let test = c.loop-k-test.true in let size = c.places-k-end.ensures in omega arith in
     let one = ap length (vertices_from-step n v.leaves.now c.loop-k.k below
-    (λ none. c.if-numbers-k-eq0.false (ap (λ xs. get_or xs c.loop-k.k 0) c.requires.numbers ∙ none))) in
+    (λ none. c.if-number_at-eq0.false (c.number_at.ensures ∙ ap (λ xs. get_or xs c.loop-k.k 0) c.requires.numbers ∙ none))) in
     let before = c.loop-k.invariant.room in let same = c.loop-k.auto.out in let room = c.requires.room in
     omega arith
 
@@ -53,9 +53,9 @@ loop-k-preserved c =
     let n = v.wedges.now.n in
     let at = c.loop-k.at in let was = c.loop-k.out in
     let long = ap length c.requires.numbers ∙ length-numbers n v.leaves.now in
-    let below : c.loop-k.k < side_of n * side_of n = let test = c.loop-k-test.true in omega arith in
+    let below : c.loop-k.k < side_of n * side_of n = let test = c.loop-k-test.true in let size = c.places-k-end.ensures in omega arith in
     let one = vertices_from-step n v.leaves.now c.loop-k.k below
-    (λ none. c.if-numbers-k-eq0.false (ap (λ xs. get_or xs c.loop-k.k 0) c.requires.numbers ∙ none)) in
+    (λ none. c.if-number_at-eq0.false (c.number_at.ensures ∙ ap (λ xs. get_or xs c.loop-k.k 0) c.requires.numbers ∙ none)) in
     let count = ap length one in
     let before = c.loop-k.invariant.room in
     let room : at + 3 ≤ length was = let same = c.loop-k.auto.out in let all = c.requires.room in omega arith in
@@ -74,7 +74,7 @@ returns c =
     let v = c.args.view.now in
     let n = v.wedges.now.n in
     let long = ap length c.requires.numbers ∙ length-numbers n v.leaves.now in
-    let beyond : side_of n * side_of n ≤ c.loop-k.k = let test = c.loop-k-test.false in omega arith in
+    let beyond : side_of n * side_of n ≤ c.loop-k.k = let test = c.loop-k-test.false in let size = c.places-k-end.ensures in omega arith in
     let none = vertices_from-end n v.leaves.now c.loop-k.k beyond in
     let count = ap length none in
     let before = c.loop-k.invariant.room in
