@@ -20,7 +20,7 @@ use crate::grow::grow;
 use crate::settle::settle;
 use address_flags::{end, list_leaves};
 use bintree_addr::Tri;
-use obj_write::number_vertices;
+use obj_write::VertexTable;
 use pgm_grid::Grid;
 use std::collections::BinaryHeap;
 
@@ -67,7 +67,7 @@ pub fn find_mesh(
     heap: &mut BinaryHeap<(u32, u32)>,
     flags: &mut [bool],
     room: &mut [Tri],
-    numbers: &mut [u32],
+    numbers: &mut VertexTable,
 ) -> Counts
     requires some { 2 ≤ budget }
     requires capacity { budget < 2 ^ (2 * grid.now.n + 1) → 2 * budget ≤ heap_capacity heap.old }
@@ -87,6 +87,7 @@ pub fn find_mesh(
     ensures triangles { result.triangles ≡ length (take result.triangles room.new) }
     ensures vertices { result.vertices ≡ length (vertices_of grid.now.n (take result.triangles room.new)) }
     ensures numbers { numbers.new ≡ numbers_of grid.now.n (take result.triangles room.new) }
+    ensures places { length numbers.new ≡ length numbers.old }
     ensures within { result.triangles ≤ budget }
     ensures listed { result.triangles ≤ length room.new }
 {
@@ -94,7 +95,7 @@ pub fn find_mesh(
     find(grid, tolerance, budget, heap, flags, room);
     let triangles = list_leaves(flags, n, room);
     let leaves = &room[..triangles];
-    let vertices = number_vertices(leaves, n, numbers);
+    let vertices = numbers.number(leaves, n);
     Counts {
         triangles,
         vertices,

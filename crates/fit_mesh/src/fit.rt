@@ -16,8 +16,8 @@ use crate::find::find_mesh;
 use address_flags::{end, list_leaves};
 use bintree_addr::Tri;
 use closure_laws::base_mesh;
-use obj_write::number_vertices;
-use pgm_grid::{Grid, side_for};
+use obj_write::VertexTable;
+use pgm_grid::Grid;
 use roam_errors::NoMemory;
 use std::alloc::Global;
 use std::collections::BinaryHeap;
@@ -37,7 +37,7 @@ pub struct Fit {
     /// Room for all finest triangles; the first `count` are the mesh.
     room: Vec<Tri>,
     count: usize,
-    numbers: Vec<u32>,
+    numbers: VertexTable,
     /// Room for the leaves that wait for a split.
     heap: BinaryHeap<(u32, u32)>,
 }
@@ -51,7 +51,7 @@ impl Model for Fit {
 
     ghost view = { λ f. record { n = f.n; budget = f.budget; leaves = take f.count f.room.items } };
 
-    ghost invariant = { λ f. IsKept f.n f.budget f.flags.items f.room.items f.count f.numbers.items
+    ghost invariant = { λ f. IsKept f.n f.budget f.flags.items f.room.items f.count f.numbers
         (heap_capacity f.heap) };
 }
 
@@ -82,8 +82,8 @@ impl Fit {
         let flags = vec![in alloc; false; end(n) as usize]?;
         let mut room = vec![in alloc; Tri::LOWER; end(n) as usize]?;
         let count = list_leaves(&flags, n, &mut room);
-        let mut numbers = vec![in alloc; 0; side_for(n) * side_for(n)]?;
-        number_vertices(&room[..count], n, &mut numbers);
+        let mut numbers = VertexTable::new(alloc, n)?;
+        numbers.number(&room[..count], n);
         let heap = BinaryHeap::with_capacity(alloc, waiting_room(n, budget))?;
         Ok(Fit {
             n,
@@ -104,7 +104,7 @@ impl Fit {
     /// With a tolerance of 0 it is the mesh of the budget with the least error; with a budget that is no
     /// bound, the mesh of the fewest triangles for the tolerance.
     /// Cost (not proved): the error of each triangle that is split, and of its children; for a budget a few
-    /// steps for each doubling of the number of leaves that wait; the cost of `number_vertices`.
+    /// steps for each doubling of the number of leaves that wait; the cost of `VertexTable::number`.
     pub fn frame(&mut self, grid: &Grid, tolerance: u32) -> FitNote
         requires grid { grid.now.n ≡ self.old.n }
         ensures n { self.new.n ≡ self.old.n }
@@ -157,8 +157,8 @@ impl Fit {
         &self.room[..self.count]
     }
 
-    /// The numbers of the vertices of the mesh, as `number_vertices` of `obj_write` gives them.
-    pub fn numbers(&self) -> &[u32]
+    /// The numbers of the vertices of the mesh.
+    pub fn numbers(&self) -> &VertexTable
         ensures value { result.now ≡ numbers_of self.now.n self.now.leaves }
     {
         &self.numbers

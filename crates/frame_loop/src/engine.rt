@@ -243,7 +243,7 @@ impl Engine {
         MeshView {
             wedges: &self.outlook.wedges,
             leaves: &self.leaves[..self.leaf_count as usize],
-            numbers: self.numbers.numbers(),
+            numbers: &self.numbers,
             spacing: self.outlook.spacing,
             planes: &self.outlook.planes,
         }

@@ -18,8 +18,7 @@ use bintree_addr::{Tri, level_laws};
 use closure_laws::base_mesh;
 use cull_marks::Planes;
 use least_laws::least_laws;
-use obj_write::number_vertices;
-use pgm_grid::side_for;
+use obj_write::VertexTable;
 use plain_mesh::falling_laws;
 use roam_errors::NoMemory;
 use std::alloc::Global;
@@ -39,7 +38,7 @@ pub struct Least {
     /// Room for all finest triangles; the first `count` are the mesh.
     room: Vec<Tri>,
     count: usize,
-    numbers: Vec<u32>,
+    numbers: VertexTable,
 }
 
 impl Model for Least {
@@ -50,7 +49,7 @@ impl Model for Least {
 
     ghost view = { λ l. record { n = l.n; leaves = take l.count l.room.items } };
 
-    ghost invariant = { λ l. IsKept l.n l.flags.items l.room.items l.count l.numbers.items };
+    ghost invariant = { λ l. IsKept l.n l.flags.items l.room.items l.count l.numbers };
 }
 
 /// What a frame tells of its mesh.
@@ -76,8 +75,8 @@ impl Least {
         let flags = vec![in alloc; false; end(n) as usize]?;
         let mut room = vec![in alloc; Tri::LOWER; end(n) as usize]?;
         let count = list_leaves(&flags, n, &mut room);
-        let mut numbers = vec![in alloc; 0; side_for(n) * side_for(n)]?;
-        number_vertices(&room[..count], n, &mut numbers);
+        let mut numbers = VertexTable::new(alloc, n)?;
+        numbers.number(&room[..count], n);
         Ok(Least {
             n,
             flags,
@@ -90,7 +89,7 @@ impl Least {
     /// The least mesh for a tolerance becomes the mesh. Takes no memory.
     ///
     /// Cost (not proved): two passes over the splittable addresses; a priority for each child of what is worse
-    /// than the tolerance, and one for each triangle of the mesh; the cost of `number_vertices`.
+    /// than the tolerance, and one for each triangle of the mesh; the cost of `VertexTable::number`.
     pub fn frame(
         &mut self,
         w: &Wedges,
@@ -137,7 +136,7 @@ impl Least {
         sweep(&mut self.flags, self.n);
         self.count = list_leaves(&self.flags, self.n, &mut self.room);
         let leaves = &self.room[..self.count];
-        let vertices = number_vertices(leaves, self.n, &mut self.numbers);
+        let vertices = self.numbers.number(leaves, self.n);
         let worst = worst_leaf(leaves, w, camera, spacing, planes, meter);
         LeastNote {
             triangles: self.count as u32,
@@ -154,8 +153,8 @@ impl Least {
         &self.room[..self.count]
     }
 
-    /// The numbers of the vertices of the mesh, as `number_vertices` of `obj_write` gives them.
-    pub fn numbers(&self) -> &[u32]
+    /// The numbers of the vertices of the mesh.
+    pub fn numbers(&self) -> &VertexTable
         ensures value { result.now ≡ numbers_of self.now.n self.now.leaves }
     {
         &self.numbers

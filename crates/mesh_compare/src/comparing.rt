@@ -16,8 +16,7 @@ use crate::window::Window;
 use arrayvec::ArrayVec;
 use cert_text::Cert;
 use cull_marks::Planes;
-use obj_write::{LONGEST_PIECE, MeshLines, MeshView, number_vertices};
-use pgm_grid::side_for;
+use obj_write::{LONGEST_PIECE, MeshLines, MeshView, VertexTable};
 use roam_edge::{Failed, NoMemory, Shelf};
 use std::alloc::Global;
 use thiserror::Error;
@@ -38,7 +37,7 @@ pub enum CompareFault {
 ///
 /// The answer is the first place, counted from 0, where they differ or where only one goes on, and none where they
 /// are equal. The file is read in pieces of 64 KiB at most, to its end or to the end of the piece with that place.
-/// Cost (not proved): that of `number_vertices`, and a few steps a byte; 64 KiB, and four bytes for each grid point.
+/// Cost (not proved): that of `VertexTable::number`, and a few steps a byte; 64 KiB, and a little more than four bytes for each grid point.
 pub fn compare<F: Shelf>(
     alloc: Global,
     w: &Wedges,
@@ -71,7 +70,7 @@ pub fn compare<F: Shelf>(
     let Ok((mut window, mut numbers)) = room(alloc, n) else {
         return Err(CompareFault::NoMemory);
     };
-    number_vertices(cert.leaves(), n, &mut numbers);
+    numbers.number(cert.leaves(), n);
     let planes = Planes::none();
     let lines = MeshLines::new(MeshView {
         wedges: w,
@@ -87,14 +86,14 @@ pub fn compare<F: Shelf>(
 }
 
 /// A window on a file, and a number for each grid point.
-fn room(alloc: Global, n: u32) -> Result<(Window, Vec<u32>), NoMemory>
+fn room(alloc: Global, n: u32) -> Result<(Window, VertexTable), NoMemory>
     requires in_grid { (1 ≤ n) × (n ≤ GREATEST_LEVEL) }
     ensures window { IfOk result (λ r. r.0 ≡ []) }
-    ensures numbers { IfOk result (λ r. length r.1.items ≡ side_of n * side_of n) }
-    ensures few { IfOk result (λ r. length r.1.items < 2 ^ 31) }
+    ensures numbers { IfOk result (λ r. length r.1 ≡ side_of n * side_of n) }
+    ensures few { IfOk result (λ r. length r.1 < 2 ^ 31) }
 {
     let window = Window::new(alloc)?;
-    let numbers = vec![in alloc; 0; side_for(n) * side_for(n)]?;
+    let numbers = VertexTable::new(alloc, n)?;
     Ok((window, numbers))
 }
 

@@ -1,5 +1,5 @@
 -- Numbers written into an array, three at a time; the vertices of a mesh from a place on.
-use Rattle.std.proofs.Common.{◌≡◌, ℕ, suc, ◌+◌, ◌-◌, ◌*◌, ◌<◌, ◌≤◌, Bool, cond, List, [], ◌∷◌, ◌++◌, length, map, filter, get_or, take, drop, sym, ◌∙◌, ap, arith, append_assoc}
+use Rattle.std.proofs.Common.{◌≡◌, ℕ, zero, suc, ◌+◌, ◌-◌, ◌*◌, ◌<◌, ◌≤◌, Bool, cond, List, [], ◌∷◌, ◌++◌, length, map, filter, get_or, take, drop, sym, ◌∙◌, ap, arith, append_assoc}
 use Rattle.std.specs.List.{range_with_len}
 use Rattle.std.proofs.Math.Seq.{take-append_seam, drop-append_seam}
 use Rattle.std.proofs.lemmas.List.{drop-drop, length-take-le, length-append, append-nil, take-append-drop}
@@ -7,6 +7,7 @@ use Rattle.mesh_defs.specs.declared.point.Point.{Point}
 use Rattle.mesh_defs.specs.HeightField.{side_of}
 use Rattle.mesh_defs.specs.MeshText.{vertices_of}
 use Rattle.obj_write.specs.Numbers.{numbers_of}
+use Rattle.obj_write.specs.Scan.{IsClear}
 use Rattle.obj_write.specs.VertexMarks.{place_point, is_vertex}
 use Rattle.obj_write.proofs.NumberLemmas.{vertices-placed, no-vertex, some-vertex}
 
@@ -75,6 +76,23 @@ vertices_from-step n triangles k below some_there =
     let size : ℕ = side_of n * side_of n in
     let more : size - k ≡ suc (size - (k + 1)) = omega arith in
     ap (kept_at n triangles k) more ∙ ap (kept_if n triangles k (size - (k + 1))) (some-vertex n triangles k below some_there)
+
+-- at so many places without a number
+vertices_from-clear : (n : ℕ) (triangles numbers : List ℕ) → numbers ≡ numbers_of n triangles → (k m : ℕ) → k + m ≤ side_of n * side_of n
+    → ((i : ℕ) → k ≤ i → i < k + m → get_or numbers i 0 ≡ 0) → vertices_from n triangles k ≡ vertices_from n triangles (k + m)
+vertices_from-clear n triangles numbers are k zero within clear = let same : k ≡ k + 0 = omega arith in ap (vertices_from n triangles) same
+vertices_from-clear n triangles numbers are k (suc m) within clear =
+    let next : k + m + 1 ≡ k + suc m = omega arith in
+    vertices_from-clear n triangles numbers are k m (omega arith) (λ i low high. clear i low (omega arith))
+    ∙ vertices_from-skip n triangles (k + m) (omega arith) (sym (ap (λ xs. get_or xs (k + m) 0) are) ∙ clear (k + m) (omega arith) (omega arith))
+    ∙ ap (vertices_from n triangles) next
+
+-- from one place to another, where no number stands between
+pub vertices_from-passed : (n : ℕ) (triangles numbers : List ℕ) → numbers ≡ numbers_of n triangles → (k j : ℕ) → k ≤ j → j ≤ side_of n * side_of n
+    → IsClear numbers k j → vertices_from n triangles k ≡ vertices_from n triangles j
+vertices_from-passed n triangles numbers are k j later within clear =
+    let there : k + (j - k) ≡ j = omega arith in
+    vertices_from-clear n triangles numbers are k (j - k) (omega arith) (λ i low high. clear i low (omega arith)) ∙ ap (vertices_from n triangles) there
 
 -- behind the last place
 pub vertices_from-end : (n : ℕ) (triangles : List ℕ) (k : ℕ) → side_of n * side_of n ≤ k → vertices_from n triangles k ≡ []

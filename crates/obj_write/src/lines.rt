@@ -16,7 +16,6 @@ use crate::faces::{Face, LEVELS, base_of, first_faces, half_face, make_known};
 use crate::mesh::MeshView;
 use crate::page::Page;
 use crate::row::{Row, first_row, put_vertex};
-use crate::scan::first_numbered;
 use arrayvec::ArrayVec;
 use bintree_addr::Tri;
 use mesh_defs::Mark;
@@ -93,7 +92,7 @@ impl<'a> MeshLines<'a> {
     /// Appends the next line to a text that has room for the longest, a face line with the group line before it.
     ///
     /// The answer is whether there was one. Takes no memory.
-    /// Cost (not proved): for the vertices a step a place altogether; for a triangle a step a level and a plane.
+    /// Cost (not proved): for the vertices altogether that of `VertexTable::first_from`; for a triangle a step a level and a plane.
     pub fn push_next<const ROOM: usize>(&mut self, page: &mut ArrayVec<u8, ROOM>) -> bool
         requires room { array_vec_len page.old + LONGEST_PIECE ≤ ROOM }
         ensures text { page.new.items ++ self.new.text ≡ page.old.items ++ self.old.text }
@@ -116,8 +115,8 @@ impl<'a> MeshLines<'a> {
         ensures fewer { result ≡ true → self.new.most < self.old.most }
         ensures ended { result ≡ false → (self.old.text ≡ []) × (self.new.text ≡ []) }
     {
-        self.place = first_numbered(self.view.numbers, self.place);
-        if self.place < self.view.numbers.len() {
+        self.place = self.view.numbers.first_from(self.place);
+        if self.place < self.view.numbers.places() {
             put_vertex(&self.view, &mut self.row, self.place, page);
             self.place += 1;
             return true;

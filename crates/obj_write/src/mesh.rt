@@ -13,6 +13,7 @@ ghost use Rattle.obj_write.specs.MeshView.{view_text, IsView};
 
 use crate::lines::MeshLines;
 use crate::page::{PAGE_ROOM, Page, make_room, write_rest};
+use crate::table::VertexTable;
 use bintree_addr::Tri;
 use cull_marks::Planes;
 use roam_edge::{Failed, MeshSink};
@@ -25,8 +26,8 @@ pub struct MeshView<'a> {
     pub wedges: &'a Wedges,
     /// The triangles, in the order of their faces.
     pub leaves: &'a [Tri],
-    /// The numbers of their vertices, as `number_vertices` gives them.
-    pub numbers: &'a [u32],
+    /// The numbers of their vertices, as `VertexTable::number` gives them.
+    pub numbers: &'a VertexTable,
     /// How many world units a grid step has.
     pub spacing: u32,
     /// The view planes in force.
@@ -37,7 +38,8 @@ pub struct MeshView<'a> {
 ///
 /// The sink gets the text in pieces of at least 8 KiB, but for the last. After a failed call the mesh holds
 /// a prefix of its text, and stays unfinished and under way; where it could not be begun, nothing has changed.
-/// Cost (not proved): a step a place, and a few steps a level and a plane for each leaf.
+/// Cost (not proved): a look at one flag in 64 places, a step for each sixteen places where a flag is set, and a few steps a level and
+/// a plane for each leaf.
 /// Source: the Wavefront object file format, the lines v, f and g.
 pub fn write_mesh<M: MeshSink>(
     view: &MeshView<'_>,

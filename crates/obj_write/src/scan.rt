@@ -2,36 +2,66 @@
 
 ghost use Rattle.std.specs.Prelude.{◌≡◌, ℕ, ◌+◌, ◌<◌, ◌≤◌, length, slice_index};
 ghost use Rattle.obj_write.specs.Scan.{IsClear, IsFirstIn, first_set};
+ghost use Rattle.obj_write.specs.Table.{AreFlagged};
 ghost use Rattle.obj_write.specs.declared.scan.TheConstants.{LANES};
 
+use crate::table::BLOCK;
 use std::simd::prelude::*;
 
 /// How many places are looked at together.
 const LANES: usize = 16;
 
-/// The first place from this one on with a number other than 0, or the number of places.
+/// The first place from this one on with a number other than 0, or the number of places. A block whose flag is not set is not looked at.
 ///
-/// Cost (not proved): a step for each sixteen places that are passed.
+/// Cost (not proved): a step for each block that is passed, and one for each sixteen places of those whose flag is set.
 #[inline(always)]
-pub(crate) fn first_numbered(numbers: &[u32], from: usize) -> usize
-    requires { from ≤ length numbers.now }
+pub(crate) fn first_numbered(numbers: &[u32], used: &[bool], from: usize) -> usize
+    requires flagged { AreFlagged numbers.now used.now }
+    requires from { from ≤ length numbers.now }
     ensures later { from ≤ result }
     ensures within { result ≤ length numbers.now }
     ensures clear { IsClear numbers.now from result }
     ensures number { result < length numbers.now → slice_index numbers.now result ≡ 0 → ⊥ }
 {
-    if from == numbers.len() {
-        return from;
-    }
     let mut at = from;
-    while numbers.len() - at >= LANES {
+    while at < numbers.len() {
+        let block = at / BLOCK;
+        let end = (BLOCK * block + BLOCK).min(numbers.len());
+        if used[block] {
+            at = first_before(numbers, at, end);
+            if at < end {
+                return at;
+            }
+        } else {
+            at = end;
+        }
+    }
+    at
+}
+
+/// The first place from this one on with a number other than 0, if it is before the end; else a place from the end on before which no
+/// number stands.
+#[inline(always)]
+fn first_before(numbers: &[u32], from: usize, end: usize) -> usize
+    requires from { from ≤ end }
+    requires end { end ≤ length numbers.now }
+    ensures later { from ≤ result }
+    ensures within { result ≤ length numbers.now }
+    ensures clear { IsClear numbers.now from result }
+    ensures number { result < end → slice_index numbers.now result ≡ 0 → ⊥ }
+{
+    let mut at = from;
+    while at < end {
+        if numbers.len() - at < LANES {
+            return first_left(numbers, at);
+        }
         let passed = clear_lanes(numbers, at);
         at += passed;
         if passed < LANES {
             return at;
         }
     }
-    first_left(numbers, at)
+    at
 }
 
 /// How many of sixteen places come before the first with a number other than 0; sixteen where there is none.
@@ -57,7 +87,7 @@ fn first_set(mask: u64, lanes: usize) -> usize
     }
 }
 
-/// The same of the last places, one after another.
+/// The first place from this one on with a number other than 0, or the number of places, of the last places, one after another.
 fn first_left(numbers: &[u32], from: usize) -> usize
     requires { from ≤ length numbers.now }
     ensures later { from ≤ result }

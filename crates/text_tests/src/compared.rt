@@ -8,7 +8,7 @@ use crate::leaves::{finest, leaves_of};
 use cert_text::{Cert, MOST_LEAVES};
 use cull_marks::Planes;
 use mesh_compare::{CompareFault, compare};
-use obj_write::{MeshView, number_vertices, write_mesh};
+use obj_write::{MeshView, VertexTable, write_mesh};
 use pgm_grid::Grid;
 use roam_edge::MemMeshes;
 use std::alloc::Global;
@@ -149,12 +149,12 @@ fn written(alloc: Global, wedges: &Wedges, cert: &Cert) -> Result<MemMeshes, Fai
     requires { All (λ a. level_of a ≤ 2 * wedges.now.n) cert.now.leaves }
 {
     let n = wedges.grid().n();
-    let mut vertex_numbers = vec![in alloc; 0; wedges.grid().points()]?;
-    number_vertices(cert.leaves(), n, vertex_numbers.as_mut_slice());
+    let mut vertex_numbers = VertexTable::new(alloc, n)?;
+    vertex_numbers.number(cert.leaves(), n);
     let view = MeshView {
         wedges,
         leaves: cert.leaves(),
-        numbers: vertex_numbers.as_slice(),
+        numbers: &vertex_numbers,
         spacing: 7,
         planes: &Planes::none(),
     };

@@ -117,12 +117,12 @@ fn write_to<M: MeshSink>(
     }
     let n = wedges.grid().n();
     let leaves = leaves_of(alloc, n, numbers)?;
-    let mut vertex_numbers = vec![in alloc; 0; wedges.grid().points()]?;
-    number_vertices(leaves.as_slice(), n, vertex_numbers.as_mut_slice());
+    let mut vertex_numbers = VertexTable::new(alloc, n)?;
+    vertex_numbers.number(leaves.as_slice(), n);
     let view = MeshView {
         wedges,
         leaves: leaves.as_slice(),
-        numbers: vertex_numbers.as_slice(),
+        numbers: &vertex_numbers,
         spacing,
         planes,
     };

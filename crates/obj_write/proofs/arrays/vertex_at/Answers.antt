@@ -18,8 +18,8 @@ number-is v n place p view same is within shown =
     ∙ ap (λ xs. get_or xs (grid_place v.wedges.now.n p) 0) view.vertex_numbers
     ∙ number-of-vertex v.wedges.now.n v.leaves.now p within shown
 
-pub bounds-view-place : goal.bounds-view-place
-bounds-view-place c =
+pub number_at-requires : goal.number_at-requires
+number_at-requires c =
     let same = c.n.ensures.value ∙ ap (λ (g : HeightField). g.n) c.grid.ensures.value in
     let size = ap (λ n. side_of n * side_of n) same in
     let long = ap length c.requires.view.vertex_numbers ∙ length-numbers c.args.view.now.wedges.now.n c.args.view.now.leaves.now in
@@ -28,11 +28,11 @@ bounds-view-place c =
 
 pub overflow_sub-result : goal.overflow_sub-result
 overflow_sub-result c =
-    let number = number-is c.args.view.now c.n.result c.place-place.result c.args.vertex c.requires.view
+    let number = c.number_at.ensures ∙ number-is c.args.view.now c.n.result c.place-place.result c.args.vertex c.requires.view
     (c.n.ensures.value ∙ ap (λ (g : HeightField). g.n) c.grid.ensures.value) c.place-place.ensures.value c.requires.within c.requires.shown in
     omega arith
 
 pub returns : goal.returns
 returns c =
-    ap (λ k. k - 1) (number-is c.args.view.now c.n.result c.place-place.result c.args.vertex c.requires.view
+    ap (λ k. k - 1) (c.number_at.ensures ∙ number-is c.args.view.now c.n.result c.place-place.result c.args.vertex c.requires.view
     (c.n.ensures.value ∙ ap (λ (g : HeightField). g.n) c.grid.ensures.value) c.place-place.ensures.value c.requires.within c.requires.shown)

@@ -1,5 +1,5 @@
 -- No flag is set, so the leaves are 2 and 3.
-use Rattle.std.proofs.Common.{◌≡◌, ℕ, ◌*◌, ◌≤◌, Bool, false, List, length, take, replicate, ap, ap₂, sym, subst, ◌∙◌, arith}
+use Rattle.std.proofs.Common.{◌≡◌, ℕ, ◌≤◌, Bool, false, List, length, take, replicate, ap, sym, subst, ◌∙◌, arith}
 use Rattle.std.proofs.lemmas.List.{with_items_is, length-replicate}
 use Rattle.mesh_defs.specs.Tiling.{IsConforming}
 use Rattle.least_laws.specs.Sweep.{is_flagged}
@@ -19,10 +19,8 @@ invariant_of-result c =
     let count = c.list_leaves-count.result in
     let list = c.list_leaves-count.new.list in
     let room = with_items_is c.in_ok-room.room list (c.list_leaves-count.auto.list ∙ c.deref_mut.ensures.len) in
-    let numbers = with_items_is c.in_ok-numbers.numbers c.number_vertices.new.numbers (c.number_vertices.auto.numbers ∙ c.deref_mut-2.ensures.len) in
     let unset : c.in_ok-flags.flags.items ≡ replicate c.end.result false = c.in_ok-flags.ensures.items_if_clones_equal (λ y h. h) in
     let blank = c.in_ok-room.ensures.items_if_clones_equal (λ y h. h) in
-    let zeros = c.in_ok-numbers.ensures.items_if_clones_equal (λ y h. h) in
     record {
       n_low = c.requires.in_grid.0;
       n_high = c.requires.in_grid.1;
@@ -31,8 +29,7 @@ invariant_of-result c =
       roomy = ap length room ∙ c.list_leaves-count.auto.list ∙ ap length c.deref_mut.ensures.value ∙ ap length blank ∙ length-replicate _ _ ∙ c.end-2.ensures.value;
       within = subst (λ (l : List ℕ). count ≤ length l) (sym room) c.list_leaves-count.ensures.within;
       conforming = subst (λ (l : List ℕ). IsConforming c.args.n l) (sym (returns-clause-base c)) c.base_mesh.ensures.conforming;
-      places = ap length numbers ∙ c.number_vertices.auto.numbers ∙ ap length c.deref_mut-2.ensures.value ∙ ap length zeros ∙ length-replicate _ _
-          ∙ ap₂ (λ i j. i * j) c.side_for.ensures.value c.side_for-2.ensures.value;
-      numbered = numbers ∙ c.number_vertices.ensures.numbers ∙ ap (λ (l : List ℕ). numbers_of c.args.n (take count l)) c.deref-2.ensures.value;
+      places = c.number.ensures.places ∙ ap length c.in_ok-numbers.ensures ∙ length-replicate _ _;
+      numbered = c.number.ensures.numbers ∙ ap (λ (l : List ℕ). numbers_of c.args.n (take count l)) c.deref-2.ensures.value;
       waiting = λ small. (let e = c.waiting_room.ensures small in let k = c.in_ok-heap.ensures.capacity in omega arith);
     }

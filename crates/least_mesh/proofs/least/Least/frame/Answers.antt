@@ -14,8 +14,8 @@ use Rattle.least_mesh.specs.Kept.{GridMesh}
 use Rattle.least_mesh.proofs.FrameLemmas.{listed, levels-listed, conforming-listed}
 use Rattle.least_mesh.proofs.least.Least.frame.Goals as goal
 
-pub number_vertices-vertices-requires-clause-levels : goal.number_vertices-vertices-requires-clause-levels
-number_vertices-vertices-requires-clause-levels c =
+pub number-vertices-requires-clause-levels : goal.number-vertices-requires-clause-levels
+number-vertices-requires-clause-levels c =
     let room = c.deref-2.ensures.value ∙ with_items_is c.self.inside.room c.list_leaves-self-inside.new.list (c.list_leaves-self-inside.auto.list ∙ c.deref_mut-3.ensures.len) in
     levels-listed c.self.inside.n (is_flagged c.deref.result.now) (take c.list_leaves-self-inside.result c.deref-2.result.now)
     (ap (take c.list_leaves-self-inside.result) room ∙ c.list_leaves-self-inside.ensures.listed)
@@ -38,7 +38,6 @@ invariant_of-self c =
     let flags = with_items_is asked c.sweep.new.flags (c.sweep.auto.flags ∙ c.deref_mut-2.ensures.len) in
     let read = c.deref.ensures.value ∙ flags in
     let room = with_items_is c.self.inside.room list (c.list_leaves-self-inside.auto.list ∙ c.deref_mut-3.ensures.len) in
-    let numbers = with_items_is c.self.inside.numbers c.number_vertices-vertices.new.numbers (c.number_vertices-vertices.auto.numbers ∙ c.deref_mut-4.ensures.len) in
     let long = c.list_leaves-self-inside.auto.list ∙ ap length c.deref_mut-3.ensures.value in
     record {
       n_low = c.self.invariant.n_low;
@@ -48,8 +47,8 @@ invariant_of-self c =
       within = subst (λ (l : List ℕ). count ≤ length l) (sym room) c.list_leaves-self-inside.ensures.within;
       conforming = conforming-listed n (is_flagged c.deref_mut-2.result.now) (is_flagged c.sweep.new.flags) _ c.sweep.ensures.least
           (ap (take count) room ∙ c.list_leaves-self-inside.ensures.listed ∙ ap (λ (l : List Bool). leaves_of n (is_flagged l)) read);
-      places = ap length numbers ∙ c.number_vertices-vertices.auto.numbers ∙ ap length c.deref_mut-4.ensures.value ∙ c.self.invariant.places;
-      numbered = numbers ∙ c.number_vertices-vertices.ensures.numbers ∙ ap (λ (l : List ℕ). numbers_of n (take count l)) c.deref-2.ensures.value;
+      places = c.number-vertices.ensures.places ∙ c.self.invariant.places;
+      numbered = c.number-vertices.ensures.numbers ∙ ap (λ (l : List ℕ). numbers_of n (take count l)) c.deref-2.ensures.value;
     }
 
 pub returns-clause-list : goal.returns-clause-list
