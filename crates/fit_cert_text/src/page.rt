@@ -2,7 +2,7 @@
 
 ghost use Rattle.std.specs.Prelude.{◌≡◌, ◌+◌, ◌≤◌, ◌++◌, ◌∷◌, [], ℕ, List, Option, length, codes, OnOk, OnErr};
 ghost use Rattle.arrayvec.specs.ArrayVec.{array_vec_len};
-ghost use Rattle.roam_edge.specs.Fault.{HasCause};
+ghost use Rattle.roam_edge.specs.Fault.{HasCause, IsInTime};
 ghost use Rattle.roam_edge.specs.Sink.{Appends};
 ghost use Rattle.fit_cert_text.specs.FitCertText.{number_text, line_text, ended};
 ghost use Rattle.page_laws.specs.Page.{IsPut, IsCutShort};
@@ -30,6 +30,7 @@ pub(crate) fn put_line<S: Sink>(page: &mut Page, line: FitLine, out: &mut S) -> 
     ensures err { OnErr result ((before : Option (List ℕ)) (text : List ℕ) →
         IsPut before (S.contents out.old) page.old.items text → IsCutShort before (S.contents out.new) text) }
     ensures faults { HasCause (S.faults out.old) (S.faults out.new) result }
+    ensures in_time { IsInTime (S.late out.old) (S.faults out.old) (S.late out.new) }
 {
     make_room(page, out)?;
     push_line(page, line);
@@ -44,6 +45,7 @@ fn make_room<S: Sink>(page: &mut Page, out: &mut S) -> Result<(), Failed>
     ensures err { OnErr result ((before : Option (List ℕ)) (text : List ℕ) →
         IsPut before (S.contents out.old) page.old.items text → IsCutShort before (S.contents out.new) text) }
     ensures faults { HasCause (S.faults out.old) (S.faults out.new) result }
+    ensures in_time { IsInTime (S.late out.old) (S.faults out.old) (S.late out.new) }
 {
     if page.len() + LONGEST_LINE <= PAGE_ROOM {
         return Ok(());
@@ -58,6 +60,7 @@ pub(crate) fn put_rest<S: Sink>(page: &Page, out: &mut S) -> Result<(), Failed>
     ensures bytes { (before : Option (List ℕ)) (text : List ℕ) → IsPut before (S.contents out.old) page.now.items text →
         Appends before (S.contents out.new) text result }
     ensures faults { HasCause (S.faults out.old) (S.faults out.new) result }
+    ensures in_time { IsInTime (S.late out.old) (S.faults out.old) (S.late out.new) }
 {
     if page.is_empty() {
         return Ok(());

@@ -2,7 +2,7 @@
 
 ghost use Rattle.std.specs.Prelude.{◌≡◌, ◌++◌, ℕ, List, Option, OnOk, OnErr};
 ghost use Rattle.std.specs.List.{flat_map};
-ghost use Rattle.roam_edge.specs.Fault.{HasCause};
+ghost use Rattle.roam_edge.specs.Fault.{HasCause, IsInTime};
 ghost use Rattle.roam_edge.specs.Sink.{Appends};
 ghost use Rattle.fit_cert_text.specs.FitCertText.{off_text, fit_cert_text};
 ghost use Rattle.page_laws.specs.Page.{IsPut, IsCutShort};
@@ -19,6 +19,7 @@ use roam_edge::{Failed, Sink};
 pub fn write_fit_cert<S: Sink>(cert: &FitCert, out: &mut S) -> Result<(), Failed>
     ensures bytes { Appends (S.contents out.old) (S.contents out.new) (fit_cert_text cert.now) result }
     ensures faults { HasCause (S.faults out.old) (S.faults out.new) result }
+    ensures in_time { IsInTime (S.late out.old) (S.faults out.old) (S.late out.new) }
 {
     let mut page = ArrayVec::new();
     put_line(&mut page, FitLine::ToleranceLine(cert.tolerance()), out)?;
@@ -37,6 +38,7 @@ fn put_offs<S: Sink>(page: &mut Page, reasons: &[Off], out: &mut S) -> Result<()
         IsPut before (S.contents out.old) page.old.items text →
         IsCutShort before (S.contents out.new) (text ++ flat_map off_text reasons.now)) }
     ensures faults { HasCause (S.faults out.old) (S.faults out.new) result }
+    ensures in_time { IsInTime (S.late out.old) (S.faults out.old) (S.late out.new) }
 {
     for reason in reasons {
         put_line(page, FitLine::OffLine(*reason), out)?;

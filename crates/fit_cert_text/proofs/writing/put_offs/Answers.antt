@@ -9,7 +9,7 @@ use Rattle.page_laws.proofs.PageLemmas.{put-more, cut-longer, texts-cut, texts-n
 use Rattle.fit_cert_text.proofs.writing.put_offs.Goals as goal
 
 pub loop-reason-init : goal.loop-reason-init
-loop-reason-init g c = record { put = λ before text put. put-more before _ _ _ text [] (sym (append-nil c.args.page.now.items)) put; calm = refl }
+loop-reason-init g c = record { put = λ before text put. put-more before _ _ _ text [] (sym (append-nil c.args.page.now.items)) put; calm = refl; in_time = λ late calm. late }
 
 pub loop-reason-preserved : goal.loop-reason-preserved
 loop-reason-preserved g c =
@@ -20,6 +20,7 @@ loop-reason-preserved g c =
           (c.in_ok-put_line.ensures.ok before (text ++ flat_map off_text (take c.loop-reason.reason-index c.args.reasons.now))
           (c.loop-reason.invariant.put before text put));
       calm = c.in_ok-put_line.ensures.faults.ok ∙ c.loop-reason.invariant.calm;
+      in_time = λ late calm. c.in_ok-put_line.ensures.in_time (c.loop-reason.invariant.in_time late calm) (c.loop-reason.invariant.calm ∙ calm);
     }
 
 pub returns-in_err-put_line-clause-err : goal.returns-in_err-put_line-clause-err

@@ -2,6 +2,7 @@
 use Rattle.std.proofs.Common.{◌≡◌, ◌++◌, ℕ, List, Option, take}
 use Rattle.std.specs.List.{flat_map}
 use Rattle.fit_cert_text.specs.FitCertText.{off_text}
+use Rattle.roam_edge.specs.Fault.{IsInTime}
 use Rattle.page_laws.specs.Page.{IsPut}
 use Rattle.fit_cert_text.proofs.writing.put_offs.Given as goal
 
@@ -10,4 +11,5 @@ invariant-loop-reason g l = record {
   put : (before : Option (List ℕ)) (text : List ℕ) → IsPut before (g.S.Sink.contents l.fn.out) l.fn.page.items text →
       IsPut before (g.S.Sink.contents l.out) l.page.items (text ++ flat_map off_text (take l.reason-index l.reasons));
   calm : g.S.Sink.faults l.out ≡ g.S.Sink.faults l.fn.out;
+  in_time : IsInTime (g.S.Sink.late l.fn.out) (g.S.Sink.faults l.fn.out) (g.S.Sink.late l.out);
 }
