@@ -35,8 +35,7 @@ use std::alloc::Global;
 pub struct Run {
     /// How the run ended.
     pub status: Status,
-    /// The engine of `mesh`, `strip`, `measure` and `try`, as the last line left it: there exactly where all lines of the script were
-    /// carried out, up to its end or its refusal.
+    /// The engine of `mesh`, `strip`, `measure` and `try`, as the last line left it: there exactly with `Done` and `ScriptRefused`.
     pub engine: Option<Engine>,
 }
 
@@ -83,7 +82,7 @@ impl Run {
 /// a script from a level and a seed, and writes one line with the sums of their frames. `fit` reads a grid, and writes the best mesh of
 /// it for an error or a budget, and one line about it. `certify make` writes a certificate of a grid's best mesh, and `certify check`
 /// whether a mesh is certified by one. Files are read and meshes written in pieces, a mesh is finished before its line is written,
-/// and the first call that fails ends the run.
+/// and the first call that fails ends the run; proved is that an object which has failed is not called again (`leaves`).
 /// Cost (not proved): a few steps a byte of the files; for each frame that of `Engine::frame`, which is what has changed since the
 /// frame before, or of `Least::frame`, two passes over the grid; for every frame of `mesh` the writing of its mesh. Memory is taken
 /// for the heights and for what makes the frames, all of it before a script is opened.
@@ -100,8 +99,8 @@ pub fn roam<F: Shelf, M: MeshSink, R: Sink>(
     requires report_faults { R.faults report.old < 2 ^ 64 - 1 }
     requires opens { F.opens shelf.old ≤ 2 ^ 63 }
 
-    // The meshes: each finished one is the right one for its command, whatever the status; one that `certify check` accepts is a best
-    // one; and what a frame's line tells of blocking proves that its mesh is best.
+    // The meshes: each finished one is the right one for its command, whatever the status; one that `certify check` accepts is
+    // optimal; and what a frame's line tells of blocking proves that its mesh is.
     ensures best { KeepsBestMeshes (moment F.Shelf M.MeshSink R.Sink shelf.old meshes.old report.old)
         (moment F.Shelf M.MeshSink R.Sink shelf.new meshes.new report.new)
         (map string_bytes words.now) result.status }

@@ -30,14 +30,15 @@ pub record KeepsBestMeshes (before now : Moment) (words : List (List ℕ)) (stat
       → before.shelf.files ≡ Some files → before.sinks.meshes ≡ Some all → IsFitRunOf words files f grid
       → KeepsFitMesh f grid before.sinks now.sinks all status
 
--- where `certify check` is done, the report got the line that its mesh is certified, and such a mesh is a best one
+-- where `certify check` is done, the report got the line that its mesh is certified, and such a mesh is optimal: none of the budget has
+-- a lower worst priority
 abbrev pub CertifiesMesh : Moment → Moment → List (List ℕ) → Status → Type 0
 CertifiesMesh before now words status =
     (files : List NamedFile) (c : Checking) (grid : HeightField) → before.shelf.files ≡ Some files
     → IsCheckOf words files c grid → status ≡ Done → (line : List ℕ)
     × Grows before.sinks.report now.sinks.report line × IsCertifiedMesh c grid (bytes_of files c.mesh) line
 
--- what each frame of an engine tells of blocking proves that its mesh is a best one
+-- what each frame of an engine tells of blocking proves that its mesh is optimal
 abbrev pub TellsCertificates : List (List ℕ) → Type 0
 TellsCertificates words = (files : List NamedFile) (end : Outcome) → IsTrue (is_some end.engine)
     → IsOutcome words files end → All IsCertified end.pictures
@@ -61,8 +62,8 @@ pub record IsCutOff (before now : Moment) (words : List (List ℕ)) (files : Lis
   pub cut_short : IsCutShort before.sinks now.sinks end.acts
   pub opened : now.shelf.opens ≡ before.shelf.opens + end.opened
 
--- With Done, Usage and the refusals all of an outcome was done, and with WriteFault it was cut off. With ReadFault what the run had
--- done by then stands, and with NoMemory nothing was written.
+-- With Done, Usage, the two refusals and Rejected all of an outcome was done, and with WriteFault it was cut off. With ReadFault what
+-- the run had done by then stands, and with NoMemory nothing was written.
 pub record EndsByStatus (before now : Moment) (words : List (List ℕ)) (status : Status) (left : Option EngineEnd) : Type 0 where
   pub complete : IsTrue (is_complete status) → (files : List NamedFile)
       → AreFiles before.shelf.files words files → DoesAll before now words files status left
@@ -73,9 +74,10 @@ pub record EndsByStatus (before now : Moment) (words : List (List ℕ)) (status 
   pub no_memory : status ≡ NoMemory
       → LeavesAtNoMemory before.sinks now.sinks before.shelf now.shelf words
 
--- How the outside and the engine are left, also where nothing is told: the shelf's files are as before, no mesh is under way but
--- after WriteFault, files were opened as often as the status says, with Done the last one was read to its end, an engine is left
--- where one made the frames and all lines were carried out, and none of the three was called again once a call of it had failed.
+-- How the outside and the engine are left, also where nothing is told: the shelf's files are as before, no mesh is under way,
+-- except perhaps after WriteFault, files were opened as often as the status says, with Done the last one was read to its end, an engine
+-- is left with Done and ScriptRefused where one makes the frames, and none of the three that came without a failure was called again
+-- once a call of it had failed.
 pub record LeavesOutside (before now : Moment) (words : List (List ℕ)) (status : Status) (left : Option EngineEnd) : Type 0 where
   pub files : now.shelf.files ≡ before.shelf.files
   pub idle : status ≢ WriteFault → now.under_way ≡ false
@@ -90,7 +92,7 @@ pub record LeavesOutside (before now : Moment) (words : List (List ℕ)) (status
 -- The causes.
 
 -- The words allow the status, and it is Usage exactly where they are no command. It is ReadFault exactly where the shelf's count of
--- faults rose, and WriteFault exactly where that of the meshes or of the report rose. No count falls, so any other is as before.
+-- faults rose, and WriteFault exactly where that of the meshes or of the report rose. No count falls.
 pub record IsCaused (before now : Moment) (words : List (List ℕ)) (status : Status) : Type 0 where
   pub allowed : IsTrue (may_end (command_of words) status)
   pub usage : (status ≡ Usage) ↔ (command_of words ≡ None)
