@@ -243,10 +243,12 @@ impl Engine {
         ensures members { result.leaves.now ≡ leaves_of self.now.state.grid.n (among (pool_members self.now.mesh.pool)) }
         ensures levels { All (λ a. level_of a ≤ 2 * self.now.state.grid.n) result.leaves.now }
         ensures closed { IsClosed self.now.state.grid.n (split_set self.now.mesh.pool.pairs) }
+        ensures few { length result.leaves.now ≤ self.now.most }
         ensures spacing_low { 1 ≤ result.spacing }
         ensures spacing_high { result.spacing ≤ GREATEST_SPACING }
     {
-        let _pool = self.mesh.pool();
+        let pool = self.mesh.pool();
+        let _count = pool.leaf_count();
         MeshView {
             wedges: &self.outlook.wedges,
             leaves: self.list.leaves(),

@@ -5,7 +5,7 @@ use Rattle.std.proofs.lemmas.List.Elements.{filter-append}
 use Rattle.mesh_defs.specs.ClosedSet.{among}
 use Rattle.mesh_defs.proofs.ListLemmas.{IsIn, IsIn-among, among-in, IsIn-append, IsIn-append-left, IsIn-append-right}
 use Rattle.mesh_defs.proofs.TestLemmas.{same_tests}
-use Rattle.leaf_list.specs.Change.{without, IsChange}
+use Rattle.leaf_list.specs.Change.{alone, IsChange}
 
 -- filters
 
@@ -57,12 +57,12 @@ absent : (b : ℕ) (xs : List ℕ) → (IsIn b xs → ⊥) → among xs b ≡ fa
 absent b xs not_in = false_from_ne_true (among xs b) (λ yes. not_in (IsIn-among b xs yes))
 
 -- from a list to itself nothing goes
-pub without-self : (xs : List ℕ) → without xs xs ≡ []
-without-self xs = filter_none (λ a. not (among xs a)) xs (λ b is. not_from_true (among xs b) (among-in b xs is))
+pub alone-self : (xs : List ℕ) → alone xs xs ≡ []
+alone-self xs = filter_none (λ a. not (among xs a)) xs (λ b is. not_from_true (among xs b) (among-in b xs is))
 
 -- to a list without its entries it goes whole
-pub without-apart : (xs ys : List ℕ) → ((b : ℕ) → IsIn b xs → IsIn b ys → ⊥) → without xs ys ≡ xs
-without-apart xs ys apart = filter_all (λ a. not (among ys a)) xs (λ b is. not_from_false (among ys b) (absent b ys (apart b is)))
+pub alone-apart : (xs ys : List ℕ) → ((b : ℕ) → IsIn b xs → IsIn b ys → ⊥) → alone xs ys ≡ xs
+alone-apart xs ys apart = filter_all (λ a. not (among ys a)) xs (λ b is. not_from_false (among ys b) (absent b ys (apart b is)))
 
 -- an entry of a list that is apart from a second one is among the first and the second where it is among the first
 among_left : (b : ℕ) (xs ys : List ℕ) → (IsIn b ys → ⊥) → among (xs ++ ys) b ≡ among xs b
@@ -76,12 +76,12 @@ among_right b xs ys apart = same_tests (among (xs ++ ys) b) (among ys b)
     (λ yes. among-in b (xs ++ ys) (IsIn-append-right b xs ys (IsIn-among b ys yes)))
 
 -- of two lists one behind the other, each part by its own part
-pub without-both : (l r m s : List ℕ) → ((b : ℕ) → IsIn b l → IsIn b s → ⊥) → ((b : ℕ) → IsIn b r → IsIn b m → ⊥) →
-    without (l ++ r) (m ++ s) ≡ without l m ++ without r s
-without-both l r m s one two =
+pub alone-both : (l r m s : List ℕ) → ((b : ℕ) → IsIn b l → IsIn b s → ⊥) → ((b : ℕ) → IsIn b r → IsIn b m → ⊥) →
+    alone (l ++ r) (m ++ s) ≡ alone l m ++ alone r s
+alone-both l r m s one two =
     filter-append (λ a. not (among (m ++ s) a)) l r
-    ∙ ap (λ xs. xs ++ without r (m ++ s)) (filter_same (λ a. not (among (m ++ s) a)) (λ a. not (among m a)) l (λ b is. ap not (among_left b m s (one b is))))
-    ∙ ap (λ xs. without l m ++ xs) (filter_same (λ a. not (among (m ++ s) a)) (λ a. not (among s a)) r (λ b is. ap not (among_right b m s (two b is))))
+    ∙ ap (λ xs. xs ++ alone r (m ++ s)) (filter_same (λ a. not (among (m ++ s) a)) (λ a. not (among m a)) l (λ b is. ap not (among_left b m s (one b is))))
+    ∙ ap (λ xs. alone l m ++ xs) (filter_same (λ a. not (among (m ++ s) a)) (λ a. not (among s a)) r (λ b is. ap not (among_right b m s (two b is))))
 
 -- what stays
 
@@ -103,15 +103,15 @@ shared-both l r m s one two =
     ∙ ap (λ xs. shared l m ++ xs) (filter_same (among (m ++ s)) (among s) r (λ b is. among_right b m s (two b is)))
 
 -- without what is not in another list there is what is in it
-pub without-without : (xs ys : List ℕ) → without xs (without xs ys) ≡ shared xs ys
-without-without xs ys = filter_same (λ a. not (among (without xs ys) a)) (among ys) xs (λ b is. same_tests (not (among (without xs ys) b)) (among ys b)
+pub alone-alone : (xs ys : List ℕ) → alone xs (alone xs ys) ≡ shared xs ys
+alone-alone xs ys = filter_same (λ a. not (among (alone xs ys) a)) (among ys) xs (λ b is. same_tests (not (among (alone xs ys) b)) (among ys b)
     (λ kept. ⊎_elim (λ yes. yes)
-    (λ no. absurd (both_ways (among (without xs ys) b) (not-true (among (without xs ys) b) kept)
-    (among-in b (without xs ys) (in_filter (λ a. not (among ys a)) b xs is (not_from_false (among ys b) no)))))
+    (λ no. absurd (both_ways (among (alone xs ys) b) (not-true (among (alone xs ys) b) kept)
+    (among-in b (alone xs ys) (in_filter (λ a. not (among ys a)) b xs is (not_from_false (among ys b) no)))))
     (cases_Bool (among ys b)))
-    (λ yes. not_from_false (among (without xs ys) b) (absent b (without xs ys)
+    (λ yes. not_from_false (among (alone xs ys) b) (absent b (alone xs ys)
     (λ out. both_ways (among ys b) (not-true (among ys b) (filter_in (λ a. not (among ys a)) b xs out).1) yes))))
 
 -- nothing goes from a list to itself, and nothing comes
 pub same-change : (xs : List ℕ) → IsChange xs xs [] []
-same-change xs = record { left = sym (without-self xs); new = sym (without-self xs); kept = refl }
+same-change xs = record { left = sym (alone-self xs); new = sym (alone-self xs); kept = refl }

@@ -11,12 +11,12 @@ use Rattle.closure_laws.proofs.LeafLemmas.{leaves_under-split, leaves_under-whol
 use Rattle.closure_laws.proofs.SizeLemmas.{true-under}
 use Rattle.leaf_list.specs.Order.{run_length, begins_with}
 use Rattle.leaf_list.specs.Below.{is_at_or_below}
-use Rattle.leaf_list.specs.Change.{without, IsChange}
+use Rattle.leaf_list.specs.Change.{alone, IsChange}
 use Rattle.leaf_list.specs.Walk.{WalkState, AreUntouched, IsReady, IsPatched, IsBegun}
 use Rattle.leaf_list.proofs.SlotLemmas.{leaves_halves}
 use Rattle.leaf_list.proofs.OrderLemmas.{AreHalved, halved, run-own, run-behind, run-end, begins-in}
 use Rattle.leaf_list.proofs.UnderLemmas.{leaves-some, leaves-within, leaves-above, leaves-same, leaves-apart, halves-apart, halves_meet, leaves-shared}
-use Rattle.leaf_list.proofs.ChangeLemmas.{without-self, without-apart, without-both, shared, shared-both, without-without}
+use Rattle.leaf_list.proofs.ChangeLemmas.{alone-self, alone-apart, alone-both, shared, shared-both, alone-alone}
 
 -- what is to be read
 
@@ -89,8 +89,8 @@ module _ (pairs : List ℕ) (touched : List Bool) (levels t : ℕ) (w : WalkStat
       rw e (record {
         leaves = ap (λ xs. w.leaves ++ xs) taken;
         rest = refl;
-        gone = sym (ap (λ xs. w.gone ++ without xs now) taken ∙ ap (λ xs. w.gone ++ xs) (without-self now) ∙ append-nil w.gone);
-        come = sym (ap (λ xs. w.come ++ without now xs) taken ∙ ap (λ xs. w.come ++ xs) (without-self now) ∙ append-nil w.come);
+        gone = sym (ap (λ xs. w.gone ++ alone xs now) taken ∙ ap (λ xs. w.gone ++ xs) (alone-self now) ∙ append-nil w.gone);
+        come = sym (ap (λ xs. w.come ++ alone now xs) taken ∙ ap (λ xs. w.come ++ xs) (alone-self now) ∙ append-nil w.come);
         touched = refl;
         most = refl;
       })
@@ -118,10 +118,10 @@ module _ (pairs : List ℕ) (touched : List Bool) (levels t : ℕ) (w : WalkStat
       let apart : (b : ℕ) → IsIn b own → IsIn b (t ∷ []) → ⊥ = λ b is other. ⊎_elim
       (λ (same : t ≡ b). let above = leaves-above levels ready.before t b (omega arith) split.0 split.1 is in absurd (omega arith)) (λ none. none) other in
       let taken : take (run_length t w.rest) w.rest ≡ own = read.taken in
-      let left : without (take (run_length t w.rest) w.rest) now ≡ take (run_length t w.rest) w.rest =
-      ap (λ xs. without xs now) taken ∙ ap (without own) leaf ∙ without-apart own (t ∷ []) apart ∙ sym taken in
-      let new : without now (take (run_length t w.rest) w.rest) ≡ t ∷ [] =
-      ap (without now) taken ∙ ap (λ xs. without xs own) leaf ∙ without-apart (t ∷ []) own (λ b one two. apart b two one) in
+      let left : alone (take (run_length t w.rest) w.rest) now ≡ take (run_length t w.rest) w.rest =
+      ap (λ xs. alone xs now) taken ∙ ap (alone own) leaf ∙ alone-apart own (t ∷ []) apart ∙ sym taken in
+      let new : alone now (take (run_length t w.rest) w.rest) ≡ t ∷ [] =
+      ap (alone now) taken ∙ ap (λ xs. alone xs own) leaf ∙ alone-apart (t ∷ []) own (λ b one two. apart b two one) in
       rw e (record {
         leaves = ap (λ xs. w.leaves ++ xs) (sym leaf);
         rest = refl;
@@ -145,10 +145,10 @@ module _ (pairs : List ℕ) (touched : List Bool) (levels t : ℕ) (w : WalkStat
       let taken : take (run_length t w.rest) w.rest ≡ t ∷ [] = read.taken ∙ mine in
       let apart : (b : ℕ) → IsIn b now → IsIn b (t ∷ []) → ⊥ = λ b is other. ⊎_elim
       (λ (same : t ≡ b). let above = leaves-above levels (split_set pairs) t b (omega arith) some split is in absurd (omega arith)) (λ none. none) other in
-      let left : without (take (run_length t w.rest) w.rest) now ≡ take 1 w.rest =
-      ap (λ xs. without xs now) taken ∙ without-apart (t ∷ []) now (λ b x y. apart b y x) ∙ sym taken ∙ ap (λ k. take k w.rest) one in
-      let new : without now (take (run_length t w.rest) w.rest) ≡ now =
-      ap (without now) taken ∙ without-apart now (t ∷ []) apart in
+      let left : alone (take (run_length t w.rest) w.rest) now ≡ take 1 w.rest =
+      ap (λ xs. alone xs now) taken ∙ alone-apart (t ∷ []) now (λ b x y. apart b y x) ∙ sym taken ∙ ap (λ k. take k w.rest) one in
+      let new : alone now (take (run_length t w.rest) w.rest) ≡ now =
+      ap (alone now) taken ∙ alone-apart now (t ∷ []) apart in
       rw e (record {
         leaves = refl;
         rest = ap (λ k. drop k w.rest) (sym one);
@@ -221,21 +221,21 @@ module _ (pairs : List ℕ) (touched : List Bool) (levels t : ℕ) (w : WalkStat
       let apart : (has other : ℕ → Bool) (b : ℕ) → IsIn b (leaves_under (levels - 1) has (2 * t)) →
       IsIn b (leaves_under (levels - 1) other (2 * t + 1)) → ⊥ = λ has other b x y. leaves-apart (levels - 1) has other t low (omega arith) b x y in
       let taken : take (run_length t w.rest) w.rest ≡ l ++ r = read.taken ∙ mine in
-      let left : without (take (run_length t w.rest) w.rest) now ≡ without l m ++ without r s =
-      ap (λ xs. without xs now) taken ∙ ap (without (l ++ r)) all
-      ∙ without-both l r m s (apart ready.before (split_set pairs)) (λ b x y. apart (split_set pairs) ready.before b y x) in
-      let new : without now (take (run_length t w.rest) w.rest) ≡ without m l ++ without s r =
-      ap (without now) taken ∙ ap (λ xs. without xs (l ++ r)) all
-      ∙ without-both m s l r (apart (split_set pairs) ready.before) (λ b x y. apart ready.before (split_set pairs) b y x) in
+      let left : alone (take (run_length t w.rest) w.rest) now ≡ alone l m ++ alone r s =
+      ap (λ xs. alone xs now) taken ∙ ap (alone (l ++ r)) all
+      ∙ alone-both l r m s (apart ready.before (split_set pairs)) (λ b x y. apart (split_set pairs) ready.before b y x) in
+      let new : alone now (take (run_length t w.rest) w.rest) ≡ alone m l ++ alone s r =
+      ap (alone now) taken ∙ ap (λ xs. alone xs (l ++ r)) all
+      ∙ alone-both m s l r (apart (split_set pairs) ready.before) (λ b x y. apart ready.before (split_set pairs) b y x) in
       record {
         leaves = two.leaves ∙ ap (λ xs. xs ++ s) one.leaves ∙ append_assoc w.leaves m s ∙ ap (λ xs. w.leaves ++ xs) (sym all);
         rest = two.rest ∙ second.dropped ∙ sym read.dropped;
-        gone = two.gone ∙ ap (λ xs. middle.gone ++ without xs s) second.taken ∙ ap (λ xs. xs ++ without r s) one.gone
-            ∙ append_assoc w.gone (without (take (run_length (2 * t) w.rest) w.rest) m) (without r s)
-            ∙ ap (λ xs. w.gone ++ (without xs m ++ without r s)) first.taken ∙ ap (λ xs. w.gone ++ xs) (sym left);
-        come = two.come ∙ ap (λ xs. middle.come ++ without s xs) second.taken ∙ ap (λ xs. xs ++ without s r) one.come
-            ∙ append_assoc w.come (without m (take (run_length (2 * t) w.rest) w.rest)) (without s r)
-            ∙ ap (λ xs. w.come ++ (without m xs ++ without s r)) first.taken ∙ ap (λ xs. w.come ++ xs) (sym new);
+        gone = two.gone ∙ ap (λ xs. middle.gone ++ alone xs s) second.taken ∙ ap (λ xs. xs ++ alone r s) one.gone
+            ∙ append_assoc w.gone (alone (take (run_length (2 * t) w.rest) w.rest) m) (alone r s)
+            ∙ ap (λ xs. w.gone ++ (alone xs m ++ alone r s)) first.taken ∙ ap (λ xs. w.gone ++ xs) (sym left);
+        come = two.come ∙ ap (λ xs. middle.come ++ alone s xs) second.taken ∙ ap (λ xs. xs ++ alone s r) one.come
+            ∙ append_assoc w.come (alone m (take (run_length (2 * t) w.rest) w.rest)) (alone s r)
+            ∙ ap (λ xs. w.come ++ (alone m xs ++ alone s r)) first.taken ∙ ap (λ xs. w.come ++ xs) (sym new);
         touched = two.touched ∙ one.touched;
         most = two.most ∙ one.most;
       }
@@ -299,16 +299,16 @@ module _ (n : ℕ) (pairs : List ℕ) (levels : ℕ) (w : WalkState) (few : n �
       let written : after.leaves ≡ is 2 ++ is 3 = two.leaves ∙ ap (λ xs. xs ++ is 3) (one.leaves ∙ ap (λ xs. xs ++ is 2) begun.none) in
       let apart : (has other : ℕ → Bool) (b : ℕ) → IsIn b (leaves_under levels has 2) → IsIn b (leaves_under levels other 3) → ⊥ =
       λ has other b x y. halves-apart levels has other (omega arith) b x y in
-      let left : after.gone ≡ without w.rest after.leaves =
-      two.gone ∙ ap (λ xs. middle.gone ++ without xs (is 3)) upper.taken ∙ ap (λ xs. xs ++ without (was 3) (is 3)) (one.gone ∙ ap (λ xs. xs ++ without (take (run_length 2 w.rest) w.rest) (is 2)) begun.gone
-      ∙ ap (λ xs. without xs (is 2)) lower.taken)
-      ∙ sym (without-both (was 2) (was 3) (is 2) (is 3) (apart begun.before (split_set pairs)) (λ b x y. apart (split_set pairs) begun.before b y x))
-      ∙ ap (λ xs. without xs (is 2 ++ is 3)) (sym listed) ∙ ap (without w.rest) (sym written) in
-      let new : after.come ≡ without after.leaves w.rest =
-      two.come ∙ ap (λ xs. middle.come ++ without (is 3) xs) upper.taken ∙ ap (λ xs. xs ++ without (is 3) (was 3)) (one.come ∙ ap (λ xs. xs ++ without (is 2) (take (run_length 2 w.rest) w.rest)) begun.come
-      ∙ ap (without (is 2)) lower.taken)
-      ∙ sym (without-both (is 2) (is 3) (was 2) (was 3) (apart (split_set pairs) begun.before) (λ b x y. apart begun.before (split_set pairs) b y x))
-      ∙ ap (λ xs. without xs (was 2 ++ was 3)) (sym written) ∙ ap (without after.leaves) (sym listed) in
+      let left : after.gone ≡ alone w.rest after.leaves =
+      two.gone ∙ ap (λ xs. middle.gone ++ alone xs (is 3)) upper.taken ∙ ap (λ xs. xs ++ alone (was 3) (is 3)) (one.gone ∙ ap (λ xs. xs ++ alone (take (run_length 2 w.rest) w.rest) (is 2)) begun.gone
+      ∙ ap (λ xs. alone xs (is 2)) lower.taken)
+      ∙ sym (alone-both (was 2) (was 3) (is 2) (is 3) (apart begun.before (split_set pairs)) (λ b x y. apart (split_set pairs) begun.before b y x))
+      ∙ ap (λ xs. alone xs (is 2 ++ is 3)) (sym listed) ∙ ap (alone w.rest) (sym written) in
+      let new : after.come ≡ alone after.leaves w.rest =
+      two.come ∙ ap (λ xs. middle.come ++ alone (is 3) xs) upper.taken ∙ ap (λ xs. xs ++ alone (is 3) (was 3)) (one.come ∙ ap (λ xs. xs ++ alone (is 2) (take (run_length 2 w.rest) w.rest)) begun.come
+      ∙ ap (alone (is 2)) lower.taken)
+      ∙ sym (alone-both (is 2) (is 3) (was 2) (was 3) (apart (split_set pairs) begun.before) (λ b x y. apart begun.before (split_set pairs) b y x))
+      ∙ ap (λ xs. alone xs (was 2 ++ was 3)) (sym written) ∙ ap (alone after.leaves) (sym listed) in
       let one_level = first_level in
       let same : shared w.rest after.leaves ≡ shared after.leaves w.rest =
       ap (λ xs. shared xs after.leaves) listed ∙ ap (shared (was 2 ++ was 3)) written
@@ -320,5 +320,5 @@ module _ (n : ℕ) (pairs : List ℕ) (levels : ℕ) (w : WalkState) (few : n �
       record {
         left = left;
         new = new;
-        kept = ap (without w.rest) left ∙ without-without w.rest after.leaves ∙ same ∙ sym (without-without after.leaves w.rest) ∙ ap (without after.leaves) (sym new);
+        kept = ap (alone w.rest) left ∙ alone-alone w.rest after.leaves ∙ same ∙ sym (alone-alone after.leaves w.rest) ∙ ap (alone after.leaves) (sym new);
       }

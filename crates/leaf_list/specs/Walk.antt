@@ -5,7 +5,7 @@ use Rattle.mesh_defs.specs.ClosedSet.{leaves_under, leaves_of}
 use Rattle.edge_laws.specs.Slots.{address_at, split_set, IsLive}
 use Rattle.triangle_pool.specs.declared.pool.TheConstants.{MOST_LEAVES}
 use Rattle.leaf_list.specs.Order.{run_length}
-use Rattle.leaf_list.specs.Change.{without}
+use Rattle.leaf_list.specs.Change.{alone}
 use Rattle.leaf_list.specs.Below.{is_at_or_below}
 
 -- the leaves that are written, the old ones that are still to be read, what went and what came so far, the mark of each slot, and for
@@ -50,8 +50,8 @@ pub record IsReady (pairs : List ℕ) (touched : List Bool) (levels t : ℕ) (re
 pub record IsPatched (now : List ℕ) (t : ℕ) (before after : WalkState) : Type 0 where
   pub leaves : after.leaves ≡ before.leaves ++ now
   pub rest : after.rest ≡ drop (run_length t before.rest) before.rest
-  pub gone : after.gone ≡ before.gone ++ without (take (run_length t before.rest) before.rest) now
-  pub come : after.come ≡ before.come ++ without now (take (run_length t before.rest) before.rest)
+  pub gone : after.gone ≡ before.gone ++ alone (take (run_length t before.rest) before.rest) now
+  pub come : after.come ≡ before.come ++ alone now (take (run_length t before.rest) before.rest)
   pub touched : after.touched ≡ before.touched
   pub most : after.most ≡ before.most
 
