@@ -94,7 +94,7 @@ short() {
 if has the_main_contracts_have_few_words python3; then
   none roam_has_ten_clauses "$(short crates/roam_run/src/run.rt roam --ensures 10 --most 309 --within "$runs")"
   none roam_has_a_page_of_words "$(short crates/roam_run/src/run.rt roam --most 60 --within "$page")"
-  none a_frame_has_few_words "$(short crates/frame_loop/src/frame.rt frame --ensures 7 --most 161)"
+  none a_frame_has_few_words "$(short crates/frame_loop/src/frame.rt frame --ensures 8 --most 165)"
 fi
 
 # Relative links of the pages at the top, in docs/ and in crates lead to files.

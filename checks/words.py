@@ -39,10 +39,10 @@ class Module:
         with open(file, encoding="utf-8") as source:
             text = re.sub(r"--.*", "", source.read())
         self.path, self.bodies, self.home = path, {}, {}
-        self.names, self.modules = imports_of(text, "use")
+        self.names, self.modules = imports_of(text, "(?:pub )?use")
         current, is_data = None, False
         for line in text.split("\n"):
-            if not line.strip() or line.startswith("use "):
+            if not line.strip() or line.startswith(("use ", "pub use ")):
                 continue
             if line[0] not in " \t})]":
                 words = [w for w in line.split() if w not in MODIFIERS]

@@ -1,9 +1,9 @@
 -- Changes of vertices by triangles that were split or merged.
-use Rattle.std.proofs.Common.{◌≡◌, ◌≢◌, ◌⊎◌, ◌^◌, ℕ, Bool, List, All, Contains, map, get_or, sym, ◌∙◌, ap, subst, arith, ⊎_elim, inl, inr, Option, Some, None, MatchOption, Bor}
+use Rattle.std.proofs.Common.{◌≡◌, ◌≢◌, ◌⊎◌, ◌+◌, ◌*◌, ◌/◌, ◌^◌, ◌<◌, ◌≤◌, ℕ, Bool, List, All, Contains, length, map, get_or, sym, ◌∙◌, ap, subst, arith, ⊎_elim, refl, inl, inr, Option, Some, None, MatchOption, Bor}
 use Rattle.std.proofs.lemmas.List.{get_or-map, length-map}
-use Rattle.std.proofs.lemmas.List.Elements.{All-map}
+use Rattle.std.proofs.lemmas.List.Elements.{All-map, All-weaker}
 use Rattle.mesh_defs.specs.declared.point.Point.{Point}
-use Rattle.mesh_defs.specs.Triangle.{IsSplittable}
+use Rattle.mesh_defs.specs.Triangle.{level_of, IsSplittable}
 use Rattle.mesh_defs.specs.ClosedSet.{IsClosed, leaves_of}
 use Rattle.bintree_laws.specs.Corners.{IsInSquare}
 use Rattle.bintree_laws.proofs.CornerLemmas.{IsWithin-corners_of}
@@ -16,7 +16,8 @@ use Rattle.deferred_loop.specs.Log.{IsListed}
 use Rattle.obj_write.specs.Numbers.{numbers_of}
 use Rattle.obj_write.specs.VertexMarks.{is_vertex}
 use Rattle.obj_write.specs.Patch.{AreChanges}
-use Rattle.frame_loop.specs.Patch.{change_of, IsCovered, AreNumbersBefore}
+use Rattle.leaf_list.specs.List.{IsCovered}
+use Rattle.frame_loop.specs.Patch.{change_of, AreNumbersBefore}
 
 -- the centre of a triangle lies in the square
 pub centre_within : (n a : ℕ) → IsInSquare (2 ^ n) (centre_of n a)
@@ -58,11 +59,12 @@ changes_told n before after changed closed too splittable covered = record {
 pub known_before : (n m : ℕ) (before after : ℕ → Bool) (numbers leaves : List ℕ) (log : Option (List ℕ)) (found : Option (Bor (List ℕ))) →
     m ≡ n → IsClosed n before → numbers ≡ numbers_of n leaves → leaves ≡ leaves_of n before →
     ((a : ℕ) → (before a ≡ after a) ⊎ IsListed log a) → MatchOption found (log ≡ None) (λ list. log ≡ Some list.now) →
-    IfSome found (λ list. AreNumbersBefore m numbers after list.now)
+    IfSome found (λ list. AreNumbersBefore m leaves numbers after list.now)
 known_before n m before after numbers leaves log None same closed numbered listed differ is = tt
 known_before n m before after numbers leaves log (Some list) same closed numbered listed differ is = record {
   before = before;
   closed = subst (λ (k : ℕ). IsClosed k before) (sym same) closed;
+  leaves_are = listed ∙ ap (λ k. leaves_of k before) (sym same);
   numbers_are = numbered ∙ ap (numbers_of n) listed ∙ ap (λ k. numbers_of k (leaves_of k before)) (sym same);
   covered = λ a. ⊎_elim
       (λ alike. inl alike)

@@ -12,6 +12,7 @@ use Rattle.deferred_loop.specs.Seen.{SeenMesh}
 use Rattle.deferred_loop.specs.Promise.{IsAtLeast}
 use Rattle.roam_mesh.specs.Mesh.{stamp_of, seen_of}
 use Rattle.roam_mesh.specs.Chosen.{SparesChosen}
+use Rattle.frame_loop.specs.Changes.{no_changes}
 use Rattle.frame_loop.specs.Engine.{EngineState, IsEngine, IsFrameDone, IsStill}
 use Rattle.frame_loop.specs.declared.note.FrameNote.{FrameNote}
 
@@ -43,7 +44,7 @@ still_after before after note done = record {
 }
 
 -- and so has the one after that
-pub still_on : (e : EngineState) (note : FrameNote) → IsStill e note → IsStill (record e { frames = e.frames + 1 }) note
+pub still_on : (e : EngineState) (note : FrameNote) → IsStill e note → IsStill (record e { frames = e.frames + 1; changes = no_changes }) note
 still_on e note is = record {
   state = refl;
   most = refl;
@@ -64,7 +65,7 @@ still_on e note is = record {
 }
 
 -- an engine after a frame that does nothing
-pub still_engine : (e : EngineState) → IsEngine e → e.frames < 1000000 → IsEngine (record e { frames = e.frames + 1 })
+pub still_engine : (e : EngineState) → IsEngine e → e.frames < 1000000 → IsEngine (record e { frames = e.frames + 1; changes = no_changes })
 still_engine e is more =
     let evaluations = is.evaluation_count in
     let splits = is.split_count in

@@ -12,8 +12,9 @@ use Rattle.bintree_laws.proofs.LevelLemmas.{level_of-parent}
 use Rattle.tiling_laws.proofs.ConformityLemmas.{IsUnder, self, below}
 use Rattle.closure_laws.proofs.SizeLemmas.{under-true}
 use Rattle.roam_mesh.specs.Mesh.{MeshState}
-use Rattle.frame_loop.specs.Below.{is_at_or_below}
+use Rattle.leaf_list.specs.Below.{is_at_or_below}
 use Rattle.frame_loop.specs.Outlook.{OutlookState, IsSamePriority}
+use Rattle.frame_loop.specs.Changes.{LeafChanges}
 use Rattle.frame_loop.specs.Engine.{IsEngine, IsExpired, engine_of}
 use Rattle.frame_loop.specs.Turn.{looking, mark_under, is_turn, is_settled, is_turned}
 use Rattle.frame_loop.proofs.EditLemmas.{edited_engine}
@@ -85,11 +86,11 @@ IsSamePriority-unturned o planes a none to =
 -- ---- engines
 
 -- Other planes, where the stamps are expired of all triangles that are turned.
-pub planes_engine : (o other : OutlookState) (planes : List ViewPlane) (budget most : ℕ) (before after : MeshState) (odometer frames evaluations : ℕ) →
+pub planes_engine : (o other : OutlookState) (planes : List ViewPlane) (budget most : ℕ) (before after : MeshState) (odometer frames evaluations : ℕ) (changes : LeafChanges) →
     other ≡ looking planes o → IsExpired before after (is_turned o planes) →
-    IsEngine (engine_of o budget most before odometer frames evaluations) → IsEngine (engine_of other budget most after odometer frames evaluations)
-planes_engine o other planes budget most before after odometer frames evaluations same is engine =
-    subst (λ (z : OutlookState). IsEngine (engine_of z budget most after odometer frames evaluations)) (sym same)
-    (edited_engine (engine_of o budget most before odometer frames evaluations) (record { grid = o.grid; view = (looking planes o).view; budget = budget }) after engine is.pool refl refl refl
+    IsEngine (engine_of o budget most before odometer frames evaluations changes) → IsEngine (engine_of other budget most after odometer frames evaluations changes)
+planes_engine o other planes budget most before after odometer frames evaluations changes same is engine =
+    subst (λ (z : OutlookState). IsEngine (engine_of z budget most after odometer frames evaluations changes)) (sym same)
+    (edited_engine (engine_of o budget most before odometer frames evaluations changes) (record { grid = o.grid; view = (looking planes o).view; budget = budget }) after engine is.pool refl refl refl
     (bracketed-edited o (looking planes o) odometer before after (is_turned o planes) refl engine.n engine.only is (λ a address out. IsSamePriority-unturned o planes a out) engine.kept)
     (OnlyEntriesStamped-expired before after (is_turned o planes) is engine.only))

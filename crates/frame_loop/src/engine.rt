@@ -13,14 +13,15 @@ ghost use Rattle.mesh_defs.specs.declared.level.TheConstants.{GREATEST_LEVEL};
 ghost use Rattle.wedgie_tree.specs.declared.wedges.TheConstants.{GREATEST_SPACING};
 ghost use Rattle.roam_mesh.specs.Mesh.{stamp_of, pool_members, OnlyEntriesStamped};
 ghost use Rattle.frame_loop.specs.Outlook.{outlook_of, AreBracketed};
+ghost use Rattle.frame_loop.specs.Changes.{no_changes};
 
 use crate::laws::outlook_laws;
-use crate::listing::list_and_number;
-use crate::lists::Lists;
+use crate::listing::number_leaves;
 use crate::note::FrameNote;
 use crate::outlook::Outlook;
-use bintree_addr::Tri;
+use bintree_addr::Point;
 use cull_marks::Planes;
+use leaf_list::LeafList;
 use obj_write::{MeshView, VertexChange, VertexTable};
 use pgm_grid::Grid;
 use roam_errors::NoMemory;
@@ -30,6 +31,16 @@ use std::marker::Model;
 use triangle_pool::Pool;
 use view_priority::{Camera, Meter};
 use wedgie_tree::Wedges;
+
+/// Leaves and numbers are mended where at most one in so many of the leaves that there is room for was split or merged, and else made
+/// anew.
+const MENDED_SHARE: usize = 16;
+
+/// What stands where no change was listed yet.
+const NO_CHANGE: VertexChange = VertexChange {
+    point: Point { x: 0, y: 0 },
+    shown: false,
+};
 
 /// Terrain, a view of it, and the mesh that follows the view.
 #[derive(Drop)]
@@ -46,39 +57,38 @@ pub struct Engine {
     pub(crate) frames: u32,
     /// Whether each stamp is known to be expired, so that no walk need expire them again.
     pub(crate) all_expired: bool,
-    /// The leaves of the mesh in the first places, depth first.
-    pub(crate) leaves: Vec<Tri>,
-    pub(crate) leaf_count: u32,
+    /// The leaves of the mesh, depth first, and which the last frame took out and put in.
+    pub(crate) list: LeafList,
     /// The vertex number of each grid point, or 0.
     pub(crate) numbers: VertexTable,
     pub(crate) vertices: u32,
     /// Room for the points at which a frame may change vertices.
-    pub(crate) changes: Vec<VertexChange>,
+    pub(crate) vertex_changes: Vec<VertexChange>,
     /// What a frame would tell, where nothing has changed since the last one.
     pub(crate) still: Option<FrameNote>,
 }
 
 impl Model for Engine {
-    ghost use Rattle.std.specs.Prelude.{◌≡◌, ◌*◌, ◌≤◌, ◌^◌, length, min, take};
+    ghost use Rattle.std.specs.Prelude.{◌≡◌, ◌*◌, ◌^◌, length, min};
     ghost use Rattle.mesh_defs.specs.HeightField.{side_of};
     ghost use Rattle.mesh_defs.specs.MeshText.{vertices_of};
     ghost use Rattle.std.specs.Prelude.{true};
     ghost use Rattle.std.specs.Prelude.{Some};
     ghost use Rattle.frame_loop.specs.declared.note.FrameNote.{FrameNote};
+    ghost use Rattle.frame_loop.specs.Changes.{changes_of};
     ghost use Rattle.frame_loop.specs.Engine.{EngineState, IsEngine, IsLeafList, AreAllExpired, IsStill, engine_of};
 
     ghost Value = { EngineState };
 
-    ghost view = { λ e. engine_of e.outlook e.budget e.most e.mesh e.odometer e.frames e.meter };
+    ghost view = { λ e. engine_of e.outlook e.budget e.most e.mesh e.odometer e.frames e.meter (changes_of e.list) };
 
-    ghost invariant = { λ e. IsEngine (engine_of e.outlook e.budget e.most e.mesh e.odometer e.frames e.meter)
-        × IsLeafList (engine_of e.outlook e.budget e.most e.mesh e.odometer e.frames e.meter) (take e.leaf_count e.leaves.items) e.numbers
+    ghost invariant = { λ e. IsEngine (engine_of e.outlook e.budget e.most e.mesh e.odometer e.frames e.meter (changes_of e.list))
+        × IsLeafList (engine_of e.outlook e.budget e.most e.mesh e.odometer e.frames e.meter (changes_of e.list)) e.list.leaves e.numbers
         × (e.all_expired ≡ true → AreAllExpired e.mesh)
-        × (length e.leaves.items ≡ min e.most (2 * 4 ^ e.outlook.grid.n))
-        × (e.leaf_count ≤ length e.leaves.items)
+        × (e.list.most ≡ min e.most (2 * 4 ^ e.outlook.grid.n))
         × (length e.numbers ≡ side_of e.outlook.grid.n * side_of e.outlook.grid.n)
-        × (e.vertices ≡ length (vertices_of e.outlook.grid.n (take e.leaf_count e.leaves.items)))
-        × ((note : FrameNote) → e.still ≡ Some note → IsStill (engine_of e.outlook e.budget e.most e.mesh e.odometer e.frames e.meter) note) };
+        × (e.vertices ≡ length (vertices_of e.outlook.grid.n e.list.leaves))
+        × ((note : FrameNote) → e.still ≡ Some note → IsStill (engine_of e.outlook e.budget e.most e.mesh e.odometer e.frames e.meter (changes_of e.list)) note) };
 }
 
 impl Engine {
@@ -95,20 +105,18 @@ impl Engine {
         ensures odometer { IfOk result (λ e. e.odometer ≡ 0) }
         ensures frames { IfOk result (λ e. e.frames ≡ 0) }
         ensures evaluations { IfOk result (λ e. e.evaluations ≡ 0) }
+        ensures changes { IfOk result (λ e. e.changes ≡ no_changes) }
         ensures splits { IfOk result (λ e. e.mesh.pool.splits ≡ 0) }
         ensures merges { IfOk result (λ e. e.mesh.pool.merges ≡ 0) }
     {
         let n = grid.n();
-        let room = room(n, budget);
         let wedges = Wedges::build(alloc, grid)?;
-        let lists = Lists::make(alloc, n, room)?;
+        let room = room(n, budget);
         let mesh = Mesh::make(alloc, n, room)?;
-        let Lists {
-            mut leaves,
-            changes,
-            mut numbers,
-        } = lists;
-        let (leaf_count, vertices) = list_and_number(mesh.pool(), &mut leaves, &mut numbers);
+        let list = LeafList::new(alloc, mesh.pool(), room)?;
+        let vertex_changes = vec![in alloc; NO_CHANGE; room as usize / MENDED_SHARE]?;
+        let mut numbers = VertexTable::new(alloc, n)?;
+        let vertices = number_leaves(mesh.pool(), &list, &mut numbers);
         Ok(Engine {
             outlook: start_outlook(wedges, spacing),
             mesh,
@@ -118,11 +126,10 @@ impl Engine {
             odometer: 0,
             frames: 0,
             all_expired: true,
-            leaves,
-            leaf_count,
+            list,
             numbers,
             vertices,
-            changes,
+            vertex_changes,
             still: None,
         })
     }
@@ -236,13 +243,15 @@ impl Engine {
         ensures members { result.leaves.now ≡ leaves_of self.now.state.grid.n (among (pool_members self.now.mesh.pool)) }
         ensures levels { All (λ a. level_of a ≤ 2 * self.now.state.grid.n) result.leaves.now }
         ensures closed { IsClosed self.now.state.grid.n (split_set self.now.mesh.pool.pairs) }
+        ensures few { length result.leaves.now ≤ self.now.most }
         ensures spacing_low { 1 ≤ result.spacing }
         ensures spacing_high { result.spacing ≤ GREATEST_SPACING }
     {
-        let _pool = self.mesh.pool();
+        let pool = self.mesh.pool();
+        let _count = pool.leaf_count();
         MeshView {
             wedges: &self.outlook.wedges,
-            leaves: &self.leaves[..self.leaf_count as usize],
+            leaves: self.list.leaves(),
             numbers: &self.numbers,
             spacing: self.outlook.spacing,
             planes: &self.outlook.planes,

@@ -1,15 +1,15 @@
-//! The leaves of a pool with the numbers of their vertices, where some triangles were split and merged.
+//! The leaves of a pool with the numbers of their vertices, mended where some triangles were split and merged.
 
-ghost use Rattle.std.specs.Prelude.{◌≡◌, ◌+◌, ◌*◌, ◌/◌, ◌≤◌, ◌<◌, ◌^◌, false, true, IsNone, IfSome, All, length, map, take, slice_index};
-ghost use Rattle.mesh_defs.specs.HeightField.{side_of};
+ghost use Rattle.std.specs.Prelude.{◌≡◌, ◌*◌, ◌/◌, ◌≤◌, false, true, IsNone, IfSome, All, length, map, take, slice_index};
 ghost use Rattle.mesh_defs.specs.Triangle.{IsSplittable};
 ghost use Rattle.mesh_defs.specs.declared.level.TheConstants.{GREATEST_LEVEL};
 ghost use Rattle.edge_laws.specs.Slots.{address_at, split_set};
+ghost use Rattle.leaf_list.specs.Change.{IsChange};
 ghost use Rattle.frame_loop.specs.Listing.{IsListing};
 ghost use Rattle.frame_loop.specs.Patch.{change_of, AreNumbersBefore};
 
-use crate::leaves::list_leaves;
 use bintree_addr::{Slot, Tri};
+use leaf_list::LeafList;
 use obj_write::{VertexChange, VertexTable};
 use triangle_pool::Pool;
 
@@ -75,33 +75,31 @@ fn list_changes(pool: &Pool, changed: &[Tri], changes: &mut [VertexChange])
     }
 }
 
-/// Lists the leaves of a pool, depth first, and mends the numbers of their vertices, where these triangles were split or merged.
-/// It is `list_and_number` in other steps.
+/// Mends the list of leaves of a pool and the numbers of their vertices, where these triangles were split or merged; answers how many
+/// vertices there are.
 ///
-/// Each triangle whose splitting has changed since the numbers were made has to be among them; others may be, too.
-/// Cost (not proved): a step for each triangle of the pool and for each level of those, and that of `VertexTable::patch`.
-pub(crate) fn list_and_mend(
+/// Each triangle whose splitting has changed since list and numbers were made has to be among them; others may be, too.
+/// Cost (not proved): a step for each level of each of them, and those of `LeafList::patch` and `VertexTable::patch`.
+pub(crate) fn mend_both(
     pool: &Pool,
     changed: &[Tri],
     changes: &mut [VertexChange],
-    leaves: &mut [Tri],
+    list: &mut LeafList,
     numbers: &mut VertexTable,
-) -> (u32, u32)
+) -> u32
     requires root { slice_index pool.now.pairs 0 ≡ 1 }
-    requires room { pool.now.most ≤ length leaves.old }
-    requires short { length leaves.old < 2 ^ 31 }
+    requires room { pool.now.most ≤ list.old.most }
     requires splittable { All (IsSplittable pool.now.n) changed.now }
     requires places { length changed.now ≤ length changes.old }
-    requires before { AreNumbersBefore pool.now.n numbers.old (split_set pool.now.pairs) changed.now }
-    ensures listing { IsListing pool.now.n pool.now.pairs leaves.new numbers.new result.0 result.1 }
-    ensures leaves { length leaves.new ≡ length leaves.old }
+    requires before { AreNumbersBefore pool.now.n list.old.leaves numbers.old (split_set pool.now.pairs) changed.now }
+    ensures listing { IsListing pool.now.n pool.now.pairs list.new.leaves numbers.new result }
+    ensures change { IsChange list.old.leaves list.new.leaves list.new.gone list.new.come }
+    ensures most { list.new.most ≡ list.old.most }
     ensures numbers { length numbers.new ≡ length numbers.old }
 {
-    let count = pool.leaf_count();
-    list_leaves(pool, leaves);
+    list.patch(pool, changed);
     list_changes(pool, changed, changes);
-    let vertices = numbers.patch(&changes[..changed.len()], pool.n());
-    (count, vertices)
+    numbers.patch(&changes[..changed.len()], pool.n())
 }
 
 /// Whether each of the triangles has a centre on the grid, and there is room for so many changes.

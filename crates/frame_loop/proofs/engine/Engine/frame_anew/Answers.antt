@@ -1,37 +1,43 @@
 use Rattle.std.proofs.lemmas.Grind.{common_steps}
-use Rattle.std.proofs.Common.{◌≡◌, ℕ, length, take, refl, ◌∙◌, ap, subst, arith}
+use Rattle.std.proofs.Common.{◌≡◌, ℕ, length, refl, sym, ◌∙◌, ap, subst, arith}
 use Rattle.mesh_defs.specs.declared.mark.Mark.TheVariants.{Inside, Cut, Outside}
 use Rattle.mesh_defs.specs.ClosedSet.{IsClosed, leaves_of, among}
 use Rattle.mesh_defs.specs.MeshText.{vertices_of}
 use Rattle.edge_laws.specs.Slots.{split_set}
 use Rattle.triangle_pool.specs.Slots.{PoolState}
 use Rattle.roam_mesh.specs.Mesh.{pool_members}
+use Rattle.leaf_list.specs.Change.{IsChange}
 use Rattle.frame_loop.specs.Marks.{marks_seen}
 use Rattle.frame_loop.proofs.PoolLemmas.{members_leaves_at}
 use Rattle.frame_loop.proofs.ListingLemmas.{kept_listing}
 use Rattle.frame_loop.proofs.PatchLemmas.{known_before}
 use Rattle.frame_loop.proofs.engine.Engine.frame_anew.Goals as goal
 
-pub list_changed-leaf_count-requires-clause-same : goal.list_changed-leaf_count-requires-clause-same
-list_changed-leaf_count-requires-clause-same c none =
+pub list_changed-vertices-requires-clause-before : goal.list_changed-vertices-requires-clause-before
+list_changed-vertices-requires-clause-before c =
+    let is = c.self.invariant in
+    let before = split_set c.self.inside.mesh.pool.pairs in
+    let same_n : c.advance_mesh-steps.new.mesh.pool.n ≡ c.self.inside.outlook.grid.n = c.advance_mesh-steps.ensures.n ∙ is.0.n in
+    rw (c.pool-pool.ensures.pool) (record { before = before; leaves_are = is.1.leaf_list ∙ ap (λ k. leaves_of k before) (sym same_n) })
+
+pub list_changed-vertices-requires-clause-same : goal.list_changed-vertices-requires-clause-same
+list_changed-vertices-requires-clause-same c none =
     let is = c.self.invariant in
     let n = c.self.inside.outlook.grid.n in
     let same_n : c.advance_mesh-steps.new.mesh.pool.n ≡ n = c.advance_mesh-steps.ensures.n ∙ is.0.n in
     let same = c.advance_mesh-steps.ensures.still none ∙ ap (λ k. leaves_of k (split_set c.self.inside.mesh.pool.pairs)) is.0.n in
-    rw (c.pool-pool.ensures.pool, c.deref_mut-2.ensures.value)
+    rw (c.pool-pool.ensures.pool)
     (kept_listing n c.advance_mesh-steps.new.mesh.pool.n c.self.inside.mesh.pool.pairs c.advance_mesh-steps.new.mesh.pool.pairs
-    c.self.inside.leaves.items c.self.inside.numbers c.self.inside.leaf_count c.self.inside.vertices
-    same_n same is.1.leaf_list is.4 is.1.vertex_numbers is.6)
+    c.self.inside.list.leaves c.self.inside.numbers c.self.inside.vertices same_n same is.1.leaf_list is.1.vertex_numbers is.5)
 
-pub list_changed-leaf_count-requires-clause-known : goal.list_changed-leaf_count-requires-clause-known
-list_changed-leaf_count-requires-clause-known c =
+pub list_changed-vertices-requires-clause-known : goal.list_changed-vertices-requires-clause-known
+list_changed-vertices-requires-clause-known c =
     let is = c.self.invariant in
     let n = c.self.inside.outlook.grid.n in
     let after = c.advance_mesh-steps.new.mesh in
     let before = split_set c.self.inside.mesh.pool.pairs in
     rw (c.pool-pool.ensures.pool)
-    (known_before n after.pool.n before (split_set after.pool.pairs) c.self.inside.numbers
-    (take c.self.inside.leaf_count c.self.inside.leaves.items)
+    (known_before n after.pool.n before (split_set after.pool.pairs) c.self.inside.numbers c.self.inside.list.leaves
     after.log.changed c.changed.result (c.advance_mesh-steps.ensures.n ∙ is.0.n)
     (subst (λ (k : ℕ). IsClosed k before) is.0.n c.advance_mesh-steps.ensures.closed)
     is.1.vertex_numbers is.1.leaf_list c.advance_mesh-steps.ensures.changed c.changed.ensures)
@@ -41,7 +47,7 @@ count_marks-marks-requires-clause-n c = ap (λ (p : PoolState). p.n) c.pool-pool
 
 pub returns-clause-done : goal.returns-clause-done
 returns-clause-done c =
-    let call = c.list_changed-leaf_count in
+    let call = c.list_changed-vertices in
     let pool : PoolState = c.advance_mesh-steps.new.mesh.pool in
     let n : ℕ = c.self.inside.outlook.grid.n in
     let same_n : pool.n ≡ n = c.advance_mesh-steps.ensures.n ∙ c.self.invariant.0.n in
@@ -60,7 +66,7 @@ returns-clause-done c =
       most_asked = c.advance_mesh-steps.ensures.most;
       least_asked = c.advance_mesh-steps.ensures.least;
       stamps = c.advance_mesh-steps.ensures.stamps;
-      triangles = call.ensures.listing.leaf_total ∙ ap length set;
+      triangles = c.leaf_count.ensures.leaves ∙ ap length set;
       vertices = call.ensures.listing.vertex_total ∙ ap (λ k. length (vertices_of k (leaves_of c.pool-pool.result.now.n (split_set c.pool-pool.result.now.pairs)))) told_n
           ∙ ap (λ xs. length (vertices_of n xs)) set;
       inside = c.count_marks-marks.ensures.inside ∙ ap (marks_seen c.self.inside.outlook Inside) set;
@@ -85,6 +91,23 @@ returns-clause-kept c = c.advance_mesh-steps.ensures.kept
 
 pub returns-clause-only : goal.returns-clause-only
 returns-clause-only c = c.advance_mesh-steps.ensures.only
+
+pub returns-clause-changes : goal.returns-clause-changes
+returns-clause-changes c =
+    let is = c.self.invariant in
+    let call = c.list_changed-vertices in
+    let n : ℕ = c.self.inside.outlook.grid.n in
+    let old : PoolState = c.self.inside.mesh.pool in
+    let pool : PoolState = c.advance_mesh-steps.new.mesh.pool in
+    let same_n : pool.n ≡ n = c.advance_mesh-steps.ensures.n ∙ is.0.n in
+    let before : c.self.inside.list.leaves ≡ leaves_of n (among (pool_members old)) =
+    is.1.leaf_list ∙ ap (λ k. leaves_of k (split_set old.pairs)) (sym is.0.n) ∙ members_leaves_at old n c.pool-before.ensures.valid is.0.n in
+    let after : call.new.list.leaves ≡ leaves_of n (among (pool_members pool)) =
+    call.ensures.listing.leaf_list ∙ ap (λ (p : PoolState). leaves_of p.n (split_set p.pairs)) c.pool-pool.ensures.pool
+    ∙ members_leaves_at pool n c.pool-pool.ensures.valid same_n in
+    rw (← c.self.view_is)
+    (subst (λ xs. IsChange xs (leaves_of n (among (pool_members pool))) call.new.list.gone call.new.list.come) before
+    (subst (λ ys. IsChange c.self.inside.list.leaves ys call.new.list.gone call.new.list.come) after call.ensures.change))
 
 pub invariant_of-self : goal.invariant_of-self
 invariant_of-self c = grind (arith, common_steps)

@@ -1,6 +1,7 @@
-use Rattle.std.proofs.Common.{take, ap, subst}
+use Rattle.std.proofs.Common.{ap, subst}
 use Rattle.std.proofs.lemmas.Option.{none-some}
 use Rattle.frame_loop.specs.Outlook.{OutlookState, outlook_of}
+use Rattle.frame_loop.specs.Changes.{changes_of}
 use Rattle.frame_loop.specs.Engine.{EngineState, IsExpired}
 use Rattle.frame_loop.specs.Turn.{is_turned}
 use Rattle.frame_loop.proofs.ExpiryLemmas.{AreAllExpired-kept}
@@ -14,14 +15,13 @@ invariant_of-self c =
     let whole = c.self.invariant in
     let put = c.put_planes.new.self in
     let turned = c.expire_by_turn.ensures in (
-      planes_engine e.outlook put c.args.planes.now e.budget e.most e.mesh c.expire_by_turn.new.mesh e.odometer e.frames e.meter c.put_planes.ensures turned whole.0,
-      heights_leaves e.outlook put e.budget e.most e.mesh c.expire_by_turn.new.mesh e.odometer e.frames e.meter
-          (take e.leaf_count e.leaves.items) e.numbers (ap (λ (o : OutlookState). o.grid.n) c.put_planes.ensures) turned.pool whole.1,
+      planes_engine e.outlook put c.args.planes.now e.budget e.most e.mesh c.expire_by_turn.new.mesh e.odometer e.frames e.meter (changes_of e.list) c.put_planes.ensures turned whole.0,
+      heights_leaves e.outlook put e.budget e.most e.mesh c.expire_by_turn.new.mesh e.odometer e.frames e.meter (changes_of e.list)
+          e.list.leaves e.numbers (ap (λ (o : OutlookState). o.grid.n) c.put_planes.ensures) turned.pool whole.1,
       (λ all. AreAllExpired-kept e.mesh c.expire_by_turn.new.mesh (is_turned e.outlook c.args.planes.now) turned (whole.2 all)),
       rw c.put_planes.ensures whole.3,
-      whole.4,
+      rw c.put_planes.ensures whole.4,
       rw c.put_planes.ensures whole.5,
-      rw c.put_planes.ensures whole.6,
       (λ note is. absurd (none-some note is)),
     )
 

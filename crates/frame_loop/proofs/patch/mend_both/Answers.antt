@@ -6,11 +6,12 @@ use Rattle.edge_laws.specs.Slots.{split_set}
 use Rattle.obj_write.specs.declared.patch.VertexChange.{VertexChange}
 use Rattle.obj_write.specs.Numbers.{numbers_of}
 use Rattle.obj_write.specs.Patch.{AreChanges}
+use Rattle.frame_loop.specs.Patch.{change_of}
 use Rattle.frame_loop.proofs.PatchLemmas.{changes_within, changes_told}
-use Rattle.frame_loop.proofs.patch.list_and_mend.Goals as goal
+use Rattle.frame_loop.proofs.patch.mend_both.Goals as goal
 
-pub patch-vertices-requires-clause-within : goal.patch-vertices-requires-clause-within
-patch-vertices-requires-clause-within c =
+pub patch-requires-2-clause-within : goal.patch-requires-2-clause-within
+patch-requires-2-clause-within c =
     let n : ℕ = c.args.pool.now.n in
     let changes : List VertexChange = take (length c.args.changed.now) c.list_changes.new.changes in
     subst (λ (k : ℕ). All (λ (v : VertexChange). IsInSquare (2 ^ k) v.point) changes) (sym c.n.ensures.value)
@@ -28,15 +29,13 @@ returns-clause-listing c =
     subst (λ (k : ℕ). AreChanges k (leaves_of n before.before) (leaves_of n now)
     (take (length c.args.changed.now) c.list_changes.new.changes)) (sym same)
     (subst (AreChanges n (leaves_of n before.before) (leaves_of n now)) (sym c.list_changes.ensures.there)
-    (changes_told n before.before now c.args.changed.now before.closed c.leaf_count-count.ensures.valid.closed
+    (changes_told n before.before now c.args.changed.now before.closed c.n.ensures.valid.closed
     c.requires.splittable before.covered)) in
     let is = before.numbers_are ∙ ap (λ k. numbers_of k (leaves_of n before.before)) (sym same) in
     record {
-      leaf_list = ap (λ k. take k c.list_leaves.new.leaves) (c.leaf_count-count.ensures.leaves
-          ∙ sym c.list_leaves.ensures.count) ∙ c.list_leaves.ensures.there;
-      leaf_total = c.leaf_count-count.ensures.leaves;
-      vertex_numbers = c.patch-vertices.ensures.numbers (leaves_of n before.before) (leaves_of n now) is told
+      leaf_list = c.patch.ensures.leaves;
+      vertex_numbers = c.patch-2.ensures.numbers (leaves_of n before.before) (leaves_of n now) is told
           ∙ ap (λ k. numbers_of k (leaves_of n now)) same;
-      vertex_total = c.patch-vertices.ensures.count (leaves_of n before.before) (leaves_of n now) is told
+      vertex_total = c.patch-2.ensures.count (leaves_of n before.before) (leaves_of n now) is told
           ∙ ap (λ k. length (vertices_of k (leaves_of n now))) same;
     }
