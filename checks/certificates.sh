@@ -1,10 +1,11 @@
 # shellcheck shell=bash disable=SC2154
-# Certificates, good and damaged, before a checker that has nothing of the program: certificates.py, copied into an empty
-# folder and run by Python without the folder's modules. Its line and status are the wanted ones, and the program's own.
+# Certificates, good and damaged, before checkers that have nothing of the program: certificates.py and, of fitted meshes,
+# fit_certificates.py, copied into an empty folder and run by Python without the folder's modules. Line and status are the wanted
+# ones; of the first, the program's own too. The fitted meshes are the program's.
 # Sourced by checks/run.
 
 mkdir -- "$room/certificates" "$room/certificates/alone" && cd -- "$room/certificates" || exit 1
-cp -- "$checks/certificates.py" alone/
+cp -- "$checks/certificates.py" "$checks/fit_certificates.py" alone/
 jacksboro=$top/examples/jacksboro
 
 # judged NAME STATUS LINE GRID MESH CERT BUDGET SPACING: one check, of both. LINE may end with `*`.
@@ -64,5 +65,66 @@ printf 'camera -7 5 30\nframe\n' >script
 judged a_certificate_of_the_programs_own 0 'certified camera -7 5 30 triangles 1* worst *' "$PWD/plain.pgm" "$PWD/small000001.obj" "$PWD/small.cert" 12 3
 sed 's/88/87/' plain.pgm >other.pgm
 judged a_certificate_of_another_grid 7 'rejected: *' "$PWD/other.pgm" "$PWD/small000001.obj" "$PWD/small.cert" 12 3
+
+# fit_judged NAME STATUS LINE GRID MESH CERT error|budget NUMBER SPACING: one check of a fitted mesh. LINE may end with `*`.
+fit_judged() {
+  local name=$1 status=$2 line=$3 why=() told
+  shift 3
+  told=$(cd alone && exec python3 -I fit_certificates.py "$@" 2>/dev/null)
+  [ $? -eq "$status" ] || why+=("the checker's status is not $status")
+  # shellcheck disable=SC2053
+  [[ $told == $line ]] || why+=("the checker says '$told', not '$line'")
+  decide "$name" ${why[0]+"${why[@]}"}
+}
+
+cp -- "$top/examples/fit/cert" fit_cert
+cp -- "$top/examples/fit/expected/out000001.obj" fit.obj
+certified='certified fit triangles 1999 deviation 23904 over 256 error 93.375'
+
+# NAME|STATUS|LINE|TARGET|how the file is damaged. Lines 2 to 819 are the reasons that make the mesh, 820 is `mesh`, and one is behind it.
+while IFS='|' read -r name status line target file edit; do
+  for kept in fit.obj fit_cert; do
+    if [ "$kept" = "$file" ]; then sed "$edit" "$kept"; else cat -- "$kept"; fi >"damaged_$kept"
+  done
+  if [ -n "$file" ] && cmp -s -- "$file" "damaged_$file"; then
+    wrong "fit_certificate_$name" "the edit changes nothing"
+    continue
+  fi
+  # shellcheck disable=SC2086
+  fit_judged "fit_certificate_$name" "$status" "$line" "$PWD/grid.pgm" "$PWD/damaged_fit.obj" "$PWD/damaged_fit_cert" $target 90
+done <<TABLE
+that_is_sound|0|$certified|budget 2000||
+for_its_own_error|0|$certified|error 93.375||
+with_other_blanks_and_line_ends|0|$certified|budget 2000|fit_cert|s/ /\t /; s/\$/ \r/
+of_another_error|7|rejected: other tolerance|error 93.374||
+of_a_lesser_budget|7|rejected: over budget|budget 1998||
+of_a_greater_budget|7|rejected: too few reasons|budget 2001||
+without_the_reason_behind_the_mesh|7|rejected: too few reasons|budget 2000|fit_cert|\$d
+without_a_tolerance|7|rejected: bad line 1|budget 2000|fit_cert|1d
+with_a_tolerance_twice|7|rejected: bad line 2|budget 2000|fit_cert|1p
+with_an_empty_line|7|rejected: bad line 11|budget 2000|fit_cert|10a\\\\
+without_the_line_of_the_mesh|7|rejected: bad line 821|budget 2000|fit_cert|820d
+with_that_line_twice|7|rejected: bad line 821|budget 2000|fit_cert|820p
+with_a_triangle_too_fine_to_split|7|rejected: bad line 2|budget 2000|fit_cert|2s/off 2 /off 131072 /
+with_a_column_past_the_grid|7|rejected: bad line 2|budget 2000|fit_cert|2s/ 149 / 257 /
+with_a_lesser_tolerance|7|rejected: over tolerance|budget 2000|fit_cert|1s/23904/23903/
+with_a_reason_at_another_point|7|rejected: bad reason 1|budget 2000|fit_cert|2s/149 6/0 0/
+with_a_reason_twice|7|rejected: bad reason 2|budget 2000|fit_cert|2p
+without_the_first_reason|7|rejected: bad reason 1|budget 2000|fit_cert|2d
+with_a_reason_of_the_other_half|7|rejected: bad reason 1|budget 2000|fit_cert|2s/off 2 /off 3 /
+without_the_last_reason_before_the_mesh|7|rejected: over tolerance|budget 2000|fit_cert|819d
+of_a_mesh_with_another_height|7|rejected: mesh differs at *|budget 2000|fit.obj|1s/.\$/x/
+of_a_mesh_with_a_face_less|7|rejected: mesh differs at *|budget 2000|fit.obj|\$d
+TABLE
+
+# A certificate that Python makes, of a mesh that the program makes, for an error and for a budget, over the plain grid.
+for target in 'error 0' 'error 12.5' 'error 70' 'budget 2' 'budget 9' 'budget 20'; do
+  # shellcheck disable=SC2086
+  "$program" fit plain.pgm fitted $target 3 >told &&
+    python3 -I alone/fit_certificates.py make plain.pgm $target >made_cert &&
+    line=$(sed 's/^fit \(triangles [0-9]*\) vertices [0-9]*/certified fit \1/' told)
+  # shellcheck disable=SC2086
+  fit_judged "a_certificate_made_of_a_fit_of_${target/ /_}" 0 "$line" "$PWD/plain.pgm" "$PWD/fitted000001.obj" "$PWD/made_cert" $target 3
+done
 
 cd -- "$top" || exit 1
