@@ -17,9 +17,9 @@ ghost use Rattle.frame_loop.specs.Changes.{no_changes};
 
 use crate::laws::outlook_laws;
 use crate::listing::number_leaves;
+use crate::lists::Lists;
 use crate::note::FrameNote;
 use crate::outlook::Outlook;
-use bintree_addr::Point;
 use cull_marks::Planes;
 use leaf_list::LeafList;
 use obj_write::{MeshView, VertexChange, VertexTable};
@@ -31,16 +31,6 @@ use std::marker::Model;
 use triangle_pool::Pool;
 use view_priority::{Camera, Meter};
 use wedgie_tree::Wedges;
-
-/// Leaves and numbers are mended where at most one in so many of the leaves that there is room for was split or merged, and else made
-/// anew.
-const MENDED_SHARE: usize = 16;
-
-/// What stands where no change was listed yet.
-const NO_CHANGE: VertexChange = VertexChange {
-    point: Point { x: 0, y: 0 },
-    shown: false,
-};
 
 /// Terrain, a view of it, and the mesh that follows the view.
 #[derive(Drop)]
@@ -113,9 +103,11 @@ impl Engine {
         let wedges = Wedges::build(alloc, grid)?;
         let room = room(n, budget);
         let mesh = Mesh::make(alloc, n, room)?;
-        let list = LeafList::new(alloc, mesh.pool(), room)?;
-        let vertex_changes = vec![in alloc; NO_CHANGE; room as usize / MENDED_SHARE]?;
-        let mut numbers = VertexTable::new(alloc, n)?;
+        let Lists {
+            list,
+            vertex_changes,
+            mut numbers,
+        } = Lists::make(alloc, n, mesh.pool(), room)?;
         let vertices = number_leaves(mesh.pool(), &list, &mut numbers);
         Ok(Engine {
             outlook: start_outlook(wedges, spacing),

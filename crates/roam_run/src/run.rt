@@ -82,7 +82,8 @@ impl Run {
 /// a script from a level and a seed, and writes one line with the sums of their frames. `fit` reads a grid, and writes the best mesh of
 /// it for an error or a budget, and one line about it. `certify make` writes a certificate of a grid's best mesh, and `certify check`
 /// whether a mesh is certified by one. Files are read and meshes written in pieces, a mesh is finished before its line is written,
-/// and the first call that fails ends the run; proved is that an object which has failed is not called again (`leaves`).
+/// and the first call that fails ends the run; proved is that an object that came without a failure is not called again once it has
+/// failed (`leaves`). What clauses say of bytes holds where an object tells its contents: those in memory do, real files do not.
 /// Cost (not proved): a few steps a byte of the files; for each frame that of `Engine::frame`, which is what has changed since the
 /// frame before, or of `Least::frame`, two passes over the grid; for every frame of `mesh` the writing of its mesh. Memory is taken
 /// for the heights and for what makes the frames, all of it before a script is opened.
@@ -100,7 +101,7 @@ pub fn roam<F: Shelf, M: MeshSink, R: Sink>(
     requires opens { F.opens shelf.old ≤ 2 ^ 63 }
 
     // The meshes: each finished one is the right one for its command, whatever the status; one that `certify check` accepts is
-    // optimal; and what a frame's line tells of blocking proves that its mesh is.
+    // optimal; and what is told of blocking in a frame's line proves that its mesh is optimal.
     ensures best { KeepsBestMeshes (moment F.Shelf M.MeshSink R.Sink shelf.old meshes.old report.old)
         (moment F.Shelf M.MeshSink R.Sink shelf.new meshes.new report.new)
         (map string_bytes words.now) result.status }

@@ -9,7 +9,7 @@ pub enum Status {
     /// The command was carried out, and its script, where it has one, was read to its end.
     Done = 0,
     /// Out of memory. Nothing was written. It is free to come for words of a command before its script is opened, but where
-    /// the words name a grid only once a whole accepted header of it was read. A check may also end so at its later files.
+    /// the words name a grid not before a whole accepted header of it was read. A check may also end so at its later files.
     NoMemory = 1,
     /// The words are no command. Nothing was opened or written.
     Usage = 2,
