@@ -10,5 +10,5 @@
 
 mod run;
 
-pub use run::{Run, roam};
+pub use run::{Run, roam, status_of};
 pub use run_laws::Status;

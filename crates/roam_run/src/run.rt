@@ -141,6 +141,31 @@ pub fn roam<F: Shelf, M: MeshSink, R: Sink>(
     run_of_words(alloc, words, shelf, meshes, report)
 }
 
+/// Carries out the words of a command line by `roam`, and answers how that ended; what the run leaves beside is dropped.
+///
+/// For a program, which keeps no engine: it stands here so that the program is proved over these lines, and not over all the words
+/// of the contract of `roam`.
+pub fn status_of<F: Shelf, M: MeshSink, R: Sink>(
+    alloc: Global,
+    words: &[String],
+    shelf: &mut F,
+    meshes: &mut M,
+    report: &mut R,
+) -> Status
+    requires idle { M.under_way meshes.old ≡ false }
+    requires shelf_faults { F.faults shelf.old < 2 ^ 64 - 1 }
+    requires mesh_faults { M.faults meshes.old < 2 ^ 64 - 1 }
+    requires report_faults { R.faults report.old < 2 ^ 64 - 1 }
+    requires opens { F.opens shelf.old ≤ 2 ^ 63 }
+    ensures read_cause { (result ≡ Status.ReadFault) ↔ (F.faults shelf.old < F.faults shelf.new) }
+    ensures write_cause { (result ≡ Status.WriteFault) ↔
+        ((M.faults meshes.old < M.faults meshes.new) ⊎ (R.faults report.old < R.faults report.new)) }
+    ensures files { F.files shelf.new ≡ F.files shelf.old }
+    ensures idle { result ≢ Status.WriteFault → M.under_way meshes.new ≡ false }
+{
+    roam(alloc, words, shelf, meshes, report).into_status()
+}
+
 /// Carries out the words of a command line.
 fn run_of_words<F: Shelf, M: MeshSink, R: Sink>(
     alloc: Global,

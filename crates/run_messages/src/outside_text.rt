@@ -17,10 +17,7 @@ pub struct ReadFault<'a> {
 impl<'a> fmt::Display for ReadFault<'a> {
     fn fmt<W: fmt::Write>(&self, f: &mut fmt::Formatter<W>) -> fmt::Result {
         write!(f, "cannot {} ", verb(self.failure, "open or read"))?;
-        match self.file {
-            Some(file) => write!(f, "the {} {}", noun(file.role), Quoted(file.name))?,
-            None => f.write_str("a file")?,
-        }
+        write_file(f, self.file)?;
         write_cause(f, self.failure)
     }
 }
@@ -82,6 +79,17 @@ fn verb(failure: Option<Failure>, other: &'static str) -> &'static str {
             Step::Write => "write",
         },
         None => other,
+    }
+}
+
+/// Writes which file it is, if the words name one.
+fn write_file<W: fmt::Write>(
+    f: &mut fmt::Formatter<W>,
+    file: Option<NamedFile<'_>>,
+) -> fmt::Result {
+    match file {
+        Some(file) => write!(f, "the {} {}", noun(file.role), Quoted(file.name)),
+        None => f.write_str("a file"),
     }
 }
 

@@ -120,18 +120,28 @@ fn form_with<'a>(
 
 /// Writes how many words the command wants behind its name, how many are there, and which they are.
 fn write_count<W: fmt::Write>(f: &mut fmt::Formatter<W>, form: &Form<'_>) -> fmt::Result {
+    write_asked(f, form)?;
+    match form.given {
+        1 => f.write_str("1 was given:")?,
+        count => write!(f, "{count} were given:")?,
+    }
+    write_places(f, form)
+}
+
+/// Writes the command, and how many words it wants behind its name.
+fn write_asked<W: fmt::Write>(f: &mut fmt::Formatter<W>, form: &Form<'_>) -> fmt::Result {
     f.write_str(form.name)?;
     if !form.task.is_empty() {
         write!(f, " {}", form.task)?;
     }
     match form.count {
-        1 => write!(f, " wants 1 word behind it, ")?,
-        count => write!(f, " wants {count} words behind it, ")?,
+        1 => f.write_str(" wants 1 word behind it, "),
+        count => write!(f, " wants {count} words behind it, "),
     }
-    match form.given {
-        1 => write!(f, "1 was given:")?,
-        count => write!(f, "{count} were given:")?,
-    }
+}
+
+/// Writes which words a command wants behind its name.
+fn write_places<W: fmt::Write>(f: &mut fmt::Formatter<W>, form: &Form<'_>) -> fmt::Result {
     if form.name == "fit" {
         return f.write_str(" GRID PREFIX error E SPACING, or GRID PREFIX budget BUDGET SPACING");
     }
