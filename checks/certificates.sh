@@ -127,4 +127,24 @@ for target in 'error 0' 'error 12.5' 'error 70' 'budget 2' 'budget 9' 'budget 20
   fit_judged "a_certificate_made_of_a_fit_of_${target/ /_}" 0 "$line" "$PWD/plain.pgm" "$PWD/fitted000001.obj" "$PWD/made_cert" $target 3
 done
 
+# Random grids and words of `fit` (random_run.py): what Python makes is certified with the numbers of the program's line, and with a
+# tolerance that is one more it is not. Words that are no command are left out.
+mkdir random && cd random || exit 1
+compared=0 why=()
+for seed in {1..40}; do
+  read -ra words < <(python3 "$checks/random_run.py" "$seed" fit)
+  "$program" "${words[@]}" >told 2>/dev/null || continue
+  python3 -I ../alone/fit_certificates.py make g "${words[@]:3:2}" >c
+  line=$(sed 's/^fit \(triangles [0-9]*\) vertices [0-9]*/certified fit \1/' told)
+  told=$(python3 -I ../alone/fit_certificates.py g out000001.obj c "${words[@]:3}")
+  [ "$told" = "$line" ] || why+=("seed $seed: '$told', not '$line'")
+  read -r _ tolerance <c
+  sed "1s/.*/tolerance $((tolerance + 1))/" c >damaged
+  told=$(python3 -I ../alone/fit_certificates.py g out000001.obj damaged "${words[@]:3}")
+  [[ $told == 'rejected: '* ]] || why+=("seed $seed: '$told' for a tolerance that is one more")
+  compared=$((compared + 1))
+done
+[ "$compared" -ge 30 ] || why+=("only $compared runs were compared")
+decide certificates_made_of_random_fits ${why[0]+"${why[@]}"}
+
 cd -- "$top" || exit 1
