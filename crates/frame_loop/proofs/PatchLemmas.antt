@@ -1,9 +1,9 @@
 -- Changes of vertices by triangles that were split or merged.
-use Rattle.std.proofs.Common.{◌≡◌, ◌≢◌, ◌⊎◌, ◌+◌, ◌*◌, ◌/◌, ◌^◌, ◌<◌, ◌≤◌, ℕ, Bool, List, All, Contains, length, map, get_or, sym, ◌∙◌, ap, subst, arith, ⊎_elim, refl, inl, inr, Option, Some, None, MatchOption, Bor}
+use Rattle.std.proofs.Common.{◌≡◌, ◌≢◌, ◌⊎◌, ◌^◌, ℕ, Bool, List, All, Contains, map, get_or, sym, ◌∙◌, ap, subst, arith, ⊎_elim, inl, inr, Option, Some, None, MatchOption, Bor}
 use Rattle.std.proofs.lemmas.List.{get_or-map, length-map}
-use Rattle.std.proofs.lemmas.List.Elements.{All-map, All-weaker}
+use Rattle.std.proofs.lemmas.List.Elements.{All-map}
 use Rattle.mesh_defs.specs.declared.point.Point.{Point}
-use Rattle.mesh_defs.specs.Triangle.{level_of, IsSplittable}
+use Rattle.mesh_defs.specs.Triangle.{IsSplittable}
 use Rattle.mesh_defs.specs.ClosedSet.{IsClosed, leaves_of}
 use Rattle.bintree_laws.specs.Corners.{IsInSquare}
 use Rattle.bintree_laws.proofs.CornerLemmas.{IsWithin-corners_of}

@@ -6,6 +6,7 @@ use crate::engine::Engine;
 use bintree_addr::Tri;
 
 /// The triangles that a frame took out of the mesh, and those that it put in, each depth first.
+#[derive(Clone, Copy)]
 pub struct Changes<'a> {
     /// Those that were in the mesh before and are not in it now.
     pub gone: &'a [Tri],

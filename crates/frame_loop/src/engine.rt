@@ -103,11 +103,12 @@ impl Engine {
         let wedges = Wedges::build(alloc, grid)?;
         let room = room(n, budget);
         let mesh = Mesh::make(alloc, n, room)?;
+        let lists = Lists::make(alloc, n, mesh.pool(), room)?;
         let Lists {
             list,
             vertex_changes,
             mut numbers,
-        } = Lists::make(alloc, n, mesh.pool(), room)?;
+        } = lists;
         let vertices = number_leaves(mesh.pool(), &list, &mut numbers);
         Ok(Engine {
             outlook: start_outlook(wedges, spacing),

@@ -1,4 +1,4 @@
-use Rattle.std.proofs.Common.{◌≡◌, ◌*◌, ◌<◌, ◌≤◌, ℕ, All, List, length, take, arith, rules, subst}
+use Rattle.std.proofs.Common.{◌≡◌, ℕ, All, take, arith, subst}
 use Rattle.std.proofs.lemmas.List.{take_all}
 use Rattle.std.proofs.lemmas.List.Elements.{All-more}
 use Rattle.mesh_defs.specs.Triangle.{IsSplittable}

@@ -6,7 +6,6 @@ use Rattle.edge_laws.specs.Slots.{split_set}
 use Rattle.obj_write.specs.declared.patch.VertexChange.{VertexChange}
 use Rattle.obj_write.specs.Numbers.{numbers_of}
 use Rattle.obj_write.specs.Patch.{AreChanges}
-use Rattle.frame_loop.specs.Patch.{change_of}
 use Rattle.frame_loop.proofs.PatchLemmas.{changes_within, changes_told}
 use Rattle.frame_loop.proofs.patch.mend_both.Goals as goal
 
