@@ -4,7 +4,7 @@
 
 use crate::files::{WORDS, flat, two_peaks};
 use crate::frail_shelf::FrailShelf;
-use crate::ran::{Faults, Ran, run_over, run_words};
+use crate::ran::{Faults, Ran, run_grid_alone, run_over, run_words};
 use crate::stands::{Stands, stands_of};
 use edge_doubles::ShelfCall;
 use roam_edge::MeshCall;
@@ -63,6 +63,14 @@ fn a_failed_open_or_read_leaves_the_frames_of_what_was_read(rt: HostRuntime) -> 
         shelf_case(ShelfCall::Read(5), Status::Done, 2),
     ];
     check_flights(&rt, rt.alloc(), &cases)
+}
+
+#[test]
+fn a_script_that_is_not_there_is_a_read_fault(rt: HostRuntime) -> Result<(), Fail> {
+    let ran = run_grid_alone(rt.alloc(), &WORDS, flat())?;
+    let left = (ran.status, ran.meshes.len(), ran.report.len());
+    assert_eq!(rt; left, (Status::ReadFault, 0, 0));
+    Ok(())
 }
 
 /// How many frames stand where this call fails of those over single bytes: 65 calls are the grid's, then the script is opened, and

@@ -25,11 +25,15 @@ mod frail_shelf;
 #[cfg(test)]
 mod frame_tests;
 #[cfg(test)]
+mod generated_tests;
+#[cfg(test)]
 mod grid_tests;
 #[cfg(test)]
 mod line_feeds;
 #[cfg(test)]
 mod ran;
+#[cfg(test)]
+mod refusal_tests;
 #[cfg(test)]
 mod script_tests;
 #[cfg(test)]

@@ -140,6 +140,21 @@ fn left_meshes(alloc: Global, meshes: &MemMeshes) -> Result<Vec<LeftMesh>, NoMem
     Ok(left)
 }
 
+/// The room of a run: how many meshes there may be, and how many bytes they and the report may have.
+#[derive(Clone, Copy)]
+pub(crate) struct Room {
+    pub(crate) meshes: u32,
+    pub(crate) bytes: u32,
+    pub(crate) report: u32,
+}
+
+/// The room of a run over a small grid.
+pub(crate) const SMALL: Room = Room {
+    meshes: 4,
+    bytes: 4096,
+    report: 4096,
+};
+
 /// A run of these words over this shelf, in which these calls of the sinks fail.
 pub(crate) fn run_over<F: Shelf>(
     alloc: Global,
@@ -150,9 +165,23 @@ pub(crate) fn run_over<F: Shelf>(
     requires faults { F.faults shelf.old < 2 ^ 64 - 1 }
     requires opens { F.opens shelf.old ≤ 2 ^ 63 }
 {
+    run_within(alloc, words, shelf, faults, SMALL)
+}
+
+/// The same with this room.
+fn run_within<F: Shelf>(
+    alloc: Global,
+    words: &[&str],
+    shelf: &mut F,
+    faults: Faults,
+    room: Room,
+) -> Result<Ran, Fail>
+    requires faults { F.faults shelf.old < 2 ^ 64 - 1 }
+    requires opens { F.opens shelf.old ≤ 2 ^ 63 }
+{
     let words = owned(alloc, words)?;
-    let mut meshes = MemMeshes::new(alloc, &[faults.meshes], 4, 4096)?;
-    let mut report = MemSink::new(alloc, &[faults.report], 4096)?;
+    let mut meshes = MemMeshes::new(alloc, &[faults.meshes], room.meshes, u64::from(room.bytes))?;
+    let mut report = MemSink::new(alloc, &[faults.report], u64::from(room.report))?;
     let (status, engine) = call_roam(alloc, words.as_slice(), shelf, &mut meshes, &mut report);
     Ok(Ran {
         status,
@@ -170,10 +199,29 @@ pub(crate) fn run_words(
     script: &[u8],
     faults: Faults,
 ) -> Result<Ran, Fail> {
+    run_files(alloc, words, grid, script, faults, SMALL)
+}
+
+/// The same with this room.
+pub(crate) fn run_files(
+    alloc: Global,
+    words: &[&str],
+    grid: &[u8],
+    script: &[u8],
+    faults: Faults,
+    room: Room,
+) -> Result<Ran, Fail> {
     let mut shelf = MemShelf::new(alloc, &[faults.shelf])?;
     shelf.add("g", grid)?;
     shelf.add("s", script)?;
-    run_over(alloc, words, &mut shelf, faults)
+    run_within(alloc, words, &mut shelf, faults, room)
+}
+
+/// A run of these words over the grid `g`, and no other file.
+pub(crate) fn run_grid_alone(alloc: Global, words: &[&str], grid: &[u8]) -> Result<Ran, Fail> {
+    let mut shelf = MemShelf::new(alloc, &[])?;
+    shelf.add("g", grid)?;
+    run_over(alloc, words, &mut shelf, Faults::none())
 }
 
 /// A run of `mesh` with this budget and spacing, in which nothing fails.

@@ -39,9 +39,10 @@ fn words_that_are_no_command_open_nothing(rt: HostRuntime) -> Result<(), Fail> {
 }
 
 #[test]
-fn words_of_strip_measure_and_try_have_their_bounds(rt: HostRuntime) -> Result<(), Fail> {
-    let lists: [&[&str]; 7] = [
+fn words_of_strip_least_measure_and_try_have_their_bounds(rt: HostRuntime) -> Result<(), Fail> {
+    let lists: [&[&str]; 8] = [
         &["strip", "g", "s", "out", "1", "1"],
+        &["least", "g", "s", "out", "1000000000000", "1"],
         &["measure", "g", "s", "4", "1025"],
         &["try", "0", "1"],
         &["try", "12", "1"],
