@@ -28,7 +28,7 @@ pub use mem_meshes::MemMeshes;
 pub use mem_sink::MemSink;
 pub use mesh_call::MeshCall;
 pub use mesh_sink::{GREATEST_NUMBER, LONGEST_PREFIX, MeshSink};
+pub use roam_errors::{Failed, NoMemory};
 pub use shelf::Shelf;
 pub use sink::Sink;
 pub use std_sink::StdSink;
-pub use roam_errors::{Failed, NoMemory};

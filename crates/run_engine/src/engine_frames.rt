@@ -88,9 +88,10 @@ impl<'a> FrameMaker for EngineFrames<'a> {
         &mut self,
         meshes: &mut M,
         report: &mut R,
-    ) -> Result<(), Failed> 
+    ) -> Result<(), Failed>
         ensures meshes_in_time { IsInTime (M.late meshes.old) (M.faults meshes.old) (M.late meshes.new) }
-        ensures report_in_time { IsInTime (R.late report.old) (R.faults report.old) (R.late report.new) }{
+        ensures report_in_time { IsInTime (R.late report.old) (R.faults report.old) (R.late report.new) }
+    {
         let note = self.engine.frame();
         let room = self.room.as_mut_slice();
         show_frame(self.showing, &self.engine, &note, room, meshes, report)
