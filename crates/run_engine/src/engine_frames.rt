@@ -1,7 +1,6 @@
 //! The frames of an engine.
 
 ghost use Rattle.std.specs.Prelude.{◌≡◌, ◌*◌, ◌^◌, ◌≤◌, min, true, [], length, IfOk};
-ghost use Rattle.roam_edge.specs.Fault.{IsInTime};
 ghost use Rattle.mesh_defs.specs.State.{start_state};
 ghost use Rattle.mesh_defs.specs.declared.level.TheConstants.{GREATEST_LEVEL};
 ghost use Rattle.wedgie_tree.specs.declared.wedges.TheConstants.{GREATEST_SPACING};
@@ -88,10 +87,7 @@ impl<'a> FrameMaker for EngineFrames<'a> {
         &mut self,
         meshes: &mut M,
         report: &mut R,
-    ) -> Result<(), Failed>
-        ensures meshes_in_time { IsInTime (M.late meshes.old) (M.faults meshes.old) (M.late meshes.new) }
-        ensures report_in_time { IsInTime (R.late report.old) (R.faults report.old) (R.late report.new) }
-    {
+    ) -> Result<(), Failed> {
         let note = self.engine.frame();
         let room = self.room.as_mut_slice();
         show_frame(self.showing, &self.engine, &note, room, meshes, report)

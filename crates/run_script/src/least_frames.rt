@@ -202,10 +202,7 @@ impl<'a> FrameMaker for LeastFrames<'a> {
         &mut self,
         meshes: &mut M,
         report: &mut R,
-    ) -> Result<(), Failed>
-        ensures meshes_in_time { IsInTime (M.late meshes.old) (M.faults meshes.old) (M.late meshes.new) }
-        ensures report_in_time { IsInTime (R.late report.old) (R.faults report.old) (R.late report.new) }
-    {
+    ) -> Result<(), Failed> {
         let note = self.make_mesh();
         self.show(&note, meshes, report)
     }
