@@ -43,6 +43,9 @@ returns-clause-leaves g c =
       opens = run.ensures.opens;
       read_out = run.ensures.done;
       engine = left-seen run.result.engine _ run.ensures.engine;
+      shelf_in_time = run.ensures.shelf_in_time;
+      meshes_in_time = run.ensures.meshes_in_time;
+      report_in_time = run.ensures.report_in_time;
     }
 
 pub returns-clause-accepted : goal.returns-clause-accepted
