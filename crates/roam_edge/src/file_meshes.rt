@@ -56,16 +56,9 @@ impl<'r, R: Files> MeshSink for FileMeshes<'r, R> {
     fn begin(&mut self, prefix: &str, number: u32) -> Result<(), Failed> {
         self.late = self.late || self.faults > 0;
         let name = mesh_name(prefix, number);
-        match fs::create(self.rt, name.as_str()) {
-            Ok(file) => {
-                self.file = Some(file);
-                Ok(())
-            }
-            Err(_) => {
-                self.faults = self.faults.saturating_add(1);
-                Err(Failed)
-            }
-        }
+        let file = create_once(self.rt, name.as_str(), &mut self.faults)?;
+        self.file = Some(file);
+        Ok(())
     }
 
     fn write(&mut self, piece: &[u8]) -> Result<(), Failed>
@@ -103,6 +96,19 @@ impl<'r, R: Files> MeshSink for FileMeshes<'r, R> {
                 Ok(())
             }
             Err(failed) => Err(failed),
+        }
+    }
+}
+
+/// Creates the file of this name, once, in the place of one that was there; an error counts as a fault, and is not tried again.
+pub(crate) fn create_once<R: Files>(rt: &R, name: &str, faults: &mut u64) -> Result<R::File, Failed>
+    ensures faults { HasCause faults.old faults.new result }
+{
+    match fs::create(rt, name) {
+        Ok(file) => Ok(file),
+        Err(_) => {
+            *faults = faults.saturating_add(1);
+            Err(Failed)
         }
     }
 }

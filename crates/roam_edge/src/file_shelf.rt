@@ -58,17 +58,10 @@ impl<'r, R: Files> Shelf for FileShelf<'r, R> {
     fn open_named(&mut self, name: &str) -> Result<(), Failed> {
         self.late = self.late || self.faults > 0;
         self.opens = self.opens.saturating_add(1);
-        match fs::open(self.rt, name) {
-            Ok(file) => {
-                self.file = Some(file);
-                Ok(())
-            }
-            Err(_) => {
-                self.file = None;
-                self.faults = self.faults.saturating_add(1);
-                Err(Failed)
-            }
-        }
+        self.file = None;
+        let file = open_once(self.rt, name, &mut self.faults)?;
+        self.file = Some(file);
+        Ok(())
     }
 
     fn read(&mut self, buf: &mut [u8]) -> Result<usize, Failed>
@@ -94,6 +87,19 @@ impl<'r, R: Files> Shelf for FileShelf<'r, R> {
             }
             Ok(count) => Ok(count),
             Err(failed) => Err(failed),
+        }
+    }
+}
+
+/// Opens the file of this name, once; an error counts as a fault, and is not tried again.
+pub(crate) fn open_once<R: Files>(rt: &R, name: &str, faults: &mut u64) -> Result<R::File, Failed>
+    ensures faults { HasCause faults.old faults.new result }
+{
+    match fs::open(rt, name) {
+        Ok(file) => Ok(file),
+        Err(_) => {
+            *faults = faults.saturating_add(1);
+            Err(Failed)
         }
     }
 }

@@ -3,7 +3,7 @@ use Rattle.std.proofs.Common.{subst}
 use Rattle.mesh_defs.specs.State.{State, priority_in}
 use Rattle.mesh_defs.specs.ClosedSet.{leaves_of, among}
 use Rattle.mesh_defs.specs.BestMesh.{IsBestMesh}
-use Rattle.roam_mesh.specs.Mesh.{pool_members}
+use Rattle.frame_loop.specs.Mesh.{pool_members}
 use Rattle.engine_uses.proofs.step.best_frame.Goals as goal
 
 pub returns-clause-best : goal.returns-clause-best
