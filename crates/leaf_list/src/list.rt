@@ -20,7 +20,8 @@ use triangle_pool::Pool;
 /// The leaves of a pool, depth first, with what the last patch left out and put in.
 #[derive(Drop)]
 pub struct LeafList {
-    walk: Walk,
+    /// On the heap, so that a function which owns a list owns little: each exit of such a function drops it.
+    walk: Box<Walk>,
 }
 
 impl Model for LeafList {
@@ -28,7 +29,7 @@ impl Model for LeafList {
 
     ghost Value = { ListState };
 
-    ghost view = { λ l. list_of l.walk };
+    ghost view = { λ l. list_of l.walk.value };
 }
 
 impl LeafList {
@@ -50,7 +51,9 @@ impl LeafList {
         put_under(&mut walk, pool, Slot(0), levels);
         put_under(&mut walk, pool, Slot(1), levels);
         walk.forget();
-        Ok(LeafList { walk })
+        Ok(LeafList {
+            walk: Box::new(alloc, walk)?,
+        })
     }
 
     /// The leaves, depth first.
@@ -95,9 +98,10 @@ impl LeafList {
         ensures change { IsChange self.old.leaves self.new.leaves self.new.gone self.new.come }
         ensures most { self.new.most ≡ self.old.most }
     {
-        self.walk.begin();
-        mark_changed(&mut self.walk, pool, changed);
-        patch_halves(&mut self.walk, pool);
+        let walk: &mut Walk = &mut self.walk;
+        walk.begin();
+        mark_changed(walk, pool, changed);
+        patch_halves(walk, pool);
     }
 
     /// The same of a pool of which it is not known where it was split and merged. Takes no memory.
@@ -111,9 +115,10 @@ impl LeafList {
         ensures change { IsChange self.old.leaves self.new.leaves self.new.gone self.new.come }
         ensures most { self.new.most ≡ self.old.most }
     {
-        self.walk.begin();
-        self.walk.touch_all(true);
-        patch_halves(&mut self.walk, pool);
+        let walk: &mut Walk = &mut self.walk;
+        walk.begin();
+        walk.touch_all(true);
+        patch_halves(walk, pool);
     }
 }
 

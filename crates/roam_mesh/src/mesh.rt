@@ -28,7 +28,8 @@ use triangle_pool::Pool;
 /// A mesh from frame to frame: seen as its pool, and a finite map from its triangles to stamps.
 #[derive(Drop)]
 pub struct Mesh {
-    queued: QueuedParts,
+    /// On the heap, so that a function which owns a mesh owns little: each exit of such a function drops it.
+    queued: Box<QueuedParts>,
 }
 
 impl Model for Mesh {
@@ -38,9 +39,9 @@ impl Model for Mesh {
 
     ghost Value = { MeshState };
 
-    ghost view = { λ m. mesh_of m.queued.parts m.queued.log };
+    ghost view = { λ m. mesh_of m.queued.value.parts m.queued.value.log };
 
-    ghost invariant = { λ m. IsQuiet (seen_parts m.queued.parts) };
+    ghost invariant = { λ m. IsQuiet (seen_parts m.queued.value.parts) };
 }
 
 impl Mesh {
@@ -57,8 +58,9 @@ impl Mesh {
         ensures stamps { IfOk result (λ m. (a : ℕ) → stamp_of m a ≡ None) }
         ensures log { IfOk result (λ m. m.log ≡ record { changed = Some []; room = leaves }) }
     {
+        let queued = QueuedParts::make(alloc, n, leaves)?;
         Ok(Mesh {
-            queued: QueuedParts::make(alloc, n, leaves)?,
+            queued: Box::new(alloc, queued)?,
         })
     }
 
@@ -113,7 +115,8 @@ impl Mesh {
             (self.now.log.changed ≡ None)
             (λ list. self.now.log.changed ≡ Some list.now) }
     {
-        self.queued.log.changed()
+        let queued: &QueuedParts = &self.queued;
+        queued.log.changed()
     }
 
     /// Makes the mesh of one frame from that of the frame before.
@@ -158,7 +161,7 @@ impl Mesh {
     {
         frame_laws();
         let _before = self.queued.pool();
-        let steps = advance(&mut self.queued, gauge, budget, odometer);
+        let steps = advance(&mut *self.queued, gauge, budget, odometer);
         let _after = self.queued.pool();
         steps
     }

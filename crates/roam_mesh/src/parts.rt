@@ -88,10 +88,10 @@ impl Parts {
         ensures heaps { IfOk result (AreEmpty leaves) }
     {
         let slots = 2 * leaves - 2;
+        let tables = Tables::blank(alloc, slots)?;
         let pool = Pool::new(alloc, n, leaves)?;
         let _leaves = pool.leaf_count();
         let queues = Queues::none(alloc, slots)?;
-        let tables = Tables::blank(alloc, slots)?;
         Ok(Parts {
             pool,
             entries: tables.entries,

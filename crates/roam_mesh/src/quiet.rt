@@ -32,10 +32,9 @@ impl QueuedParts {
         ensures quiet { IfOk result (λ m. IsQuiet (seen_parts m.parts)) }
         ensures log { IfOk result (λ m. m.log ≡ record { changed = Some []; room = leaves }) }
     {
-        Ok(QueuedParts {
-            parts: Parts::new(alloc, n, leaves)?,
-            log: ChangeLog::new(alloc, leaves)?,
-        })
+        let log = ChangeLog::new(alloc, leaves)?;
+        let parts = Parts::new(alloc, n, leaves)?;
+        Ok(QueuedParts { parts, log })
     }
 
     /// The pool of its triangles.

@@ -56,6 +56,6 @@ returns-clause-leaves c =
     let all : 2 * c.n-levels.result ≡ 2 * c.args.pool.now.n = ap (λ k. 2 * k) c.n-levels.ensures.value in
     let halves : AreHalves c.args.pool.now.n pairs (2 * c.n-levels.result) = halves_of c.args.pool.now.n pairs (2 * c.n-levels.result) lower upper all in
     let under = λ (a : ℕ). leaves_under (2 * c.n-levels.result) (split_set pairs) (address_at pairs a) in
-    ap (λ (z : WalkState). z.leaves) c.forget.ensures ∙ ap (λ (z : WalkState). z.leaves) c.put_under-2.ensures
+    ap (λ (z : WalkState). z.leaves) (c.in_ok-new.ensures.ok ∙ c.forget.ensures) ∙ ap (λ (z : WalkState). z.leaves) c.put_under-2.ensures
     ∙ ap (λ xs. xs ++ under 1) (ap (λ (z : WalkState). z.leaves) c.put_under.ensures ∙ ap (λ xs. xs ++ under 0) c.in_ok-walk.ensures.leaves)
     ∙ sym halves.list

@@ -10,6 +10,6 @@ patch_halves-requires-clause-before c = record {
   come = ap (λ (z : WalkState). z.come) c.mark_changed.ensures.rest ∙ ap (λ (z : WalkState). z.come) c.begin.ensures;
   before = c.requires.before.before;
   listed = ap (λ (z : WalkState). z.rest) c.mark_changed.ensures.rest ∙ ap (λ (z : WalkState). z.rest) c.begin.ensures
-      ∙ ap (λ (l : ListState). l.leaves) c.self.view_is ∙ c.requires.before.leaves_are;
+      ∙ ap (λ (z : WalkState). z.leaves) c.deref_mut-walk.ensures.value ∙ ap (λ (l : ListState). l.leaves) c.self.view_is ∙ c.requires.before.leaves_are;
   untouched = c.mark_changed.ensures.untouched c.requires.before.before c.requires.before.covered;
 }

@@ -1,9 +1,12 @@
-use Rattle.std.proofs.Common.{[], subst}
+use Rattle.std.proofs.Common.{[], ap, ◌∙◌, subst}
 use Rattle.leaf_list.specs.Change.{IsChange}
 use Rattle.leaf_list.specs.List.{ListState}
+use Rattle.leaf_list.specs.Walk.{WalkState}
 use Rattle.leaf_list.proofs.ChangeLemmas.{same-change}
 use Rattle.leaf_list.proofs.list.LeafList.stay.Goals as goal
 
 pub returns-clause-change : goal.returns-clause-change
-returns-clause-change c = rw c.forget.ensures
-    (subst (λ (l : ListState). IsChange l.leaves c.self.inside.walk.leaves [] []) c.self.view_is (same-change c.self.inside.walk.leaves))
+returns-clause-change c =
+    let behind = c.deref_mut.result.now.leaves in
+    let same = ap (λ (z : WalkState). z.leaves) c.deref_mut.ensures.value ∙ ap (λ (l : ListState). l.leaves) c.self.view_is in
+    rw c.forget.ensures (subst (λ leaves. IsChange leaves behind [] []) same (same-change behind))
