@@ -15,4 +15,4 @@ pub use bintree_addr::Cuboid;
 pub use laws::mark_laws;
 pub use mesh_defs::Mark;
 pub use plane::Plane;
-pub use planes::Planes;
+pub use planes::{MOST_PLANES, Planes};

@@ -4,6 +4,7 @@ ghost use Rattle.std.specs.Prelude.{◌≡◌, ◌≤◌, ◌<◌, ◌^◌, [], 
 ghost use Rattle.std.specs.List.{list_any};
 ghost use Rattle.mesh_defs.specs.View.{is_all_outside, is_some_outside, mark_of};
 ghost use Rattle.cull_marks.specs.Cuboid.{as_box, IsWithinReach};
+ghost use Rattle.cull_marks.specs.declared.planes.TheConstants.{MOST_PLANES};
 
 use crate::Plane;
 use arrayvec::ArrayVec;
@@ -11,10 +12,13 @@ use bintree_addr::Cuboid;
 use mesh_defs::Mark;
 use std::marker::Model;
 
-/// The view planes in force, at most six, in the order in which they were added.
+/// The most planes in force at once: the sides of a frustum.
+pub const MOST_PLANES: usize = 6;
+
+/// The view planes in force, at most `MOST_PLANES`, in the order in which they were added.
 #[derive(Drop)]
 pub struct Planes {
-    pub(crate) list: ArrayVec<Plane, 6>,
+    pub(crate) list: ArrayVec<Plane, MOST_PLANES>,
 }
 
 impl Model for Planes {
@@ -39,14 +43,14 @@ impl Planes {
     /// How many planes are in force.
     pub fn len(&self) -> u32
         ensures value { result ≡ length self.now }
-        ensures high { result ≤ 6 }
+        ensures high { result ≤ MOST_PLANES }
     {
         self.list.len() as u32
     }
 
     /// Puts one more plane in force.
     pub fn add(&mut self, plane: Plane)
-        requires room { length self.old < 6 }
+        requires room { length self.old < MOST_PLANES }
         ensures { self.new ≡ self.old ++ plane ∷ [] }
     {
         self.list.push(plane);

@@ -2,6 +2,7 @@
 
 ghost use Rattle.std.specs.Prelude.{◌≡◌, ◌<◌, ◌≤◌, ◌^◌};
 ghost use Rattle.mesh_defs.specs.State.{with_height};
+ghost use Rattle.frame_loop.specs.declared.limits.TheConstants.{MOST_FRAMES};
 ghost use Rattle.frame_loop.specs.Engine.{mesh_seen};
 ghost use Rattle.engine_uses.specs.Best.{IsBestSeen};
 
@@ -15,7 +16,7 @@ pub fn set_and_look(engine: &mut Engine, x: u32, y: u32, h: u16) -> Sight
     requires in_columns { x ≤ 2 ^ engine.old.state.grid.n }
     requires in_rows { y ≤ 2 ^ engine.old.state.grid.n }
     requires bounded { h ≤ engine.old.state.grid.maxval }
-    requires some { engine.old.frames < 1000000 }
+    requires some { engine.old.frames < MOST_FRAMES }
     ensures state { engine.new.state ≡ with_height x y h engine.old.state }
     ensures best { IsBestSeen engine.new.state (mesh_seen engine.new) result }
 {

@@ -3,6 +3,7 @@
 ghost use Rattle.std.specs.Prelude.{◌≡◌, ◌+◌, ◌<◌, ◌≤◌, ◌^◌, length, IfOk};
 ghost use Rattle.mesh_defs.specs.State.{with_camera};
 ghost use Rattle.triangle_pool.specs.declared.pool.TheConstants.{MOST_LEAVES};
+ghost use Rattle.frame_loop.specs.declared.limits.TheConstants.{LONGEST_WAY, MOST_FRAMES};
 ghost use Rattle.frame_loop.specs.Engine.{mesh_seen};
 ghost use Rattle.engine_uses.specs.Best.{AreBestFrom, IsBestSeen};
 
@@ -16,7 +17,7 @@ use std::alloc::Global;
 pub fn fly(alloc: Global, grid: Grid, budget: u32, path: &[Camera]) -> Result<Vec<Sight>, NoMemory>
     requires some { 2 ≤ budget }
     requires few { budget ≤ MOST_LEAVES }
-    requires short { length path.now ≤ 1000000 }
+    requires short { length path.now ≤ MOST_FRAMES }
     ensures best { IfOk result (λ sights. AreBestFrom grid budget path.now sights.items) }
 {
     let mut engine = Engine::make(alloc, grid, budget, 1)?;
@@ -29,8 +30,8 @@ pub fn fly(alloc: Global, grid: Grid, budget: u32, path: &[Camera]) -> Result<Ve
 
 /// Moves the camera to a place, by at most 2^33, as `way_to` says, and makes a frame.
 pub(crate) fn frame_from(engine: &mut Engine, place: Camera) -> Sight
-    requires near { engine.old.odometer + 2 ^ 33 ≤ 2 ^ 62 }
-    requires some { engine.old.frames < 1000000 }
+    requires near { engine.old.odometer + 2 ^ 33 ≤ LONGEST_WAY }
+    requires some { engine.old.frames < MOST_FRAMES }
     ensures best { IsBestSeen (with_camera place engine.old.state) (mesh_seen engine.new) result }
     ensures state { engine.new.state ≡ with_camera place engine.old.state }
     ensures odometer { engine.new.odometer ≤ engine.old.odometer + 2 ^ 33 }

@@ -1,6 +1,7 @@
 //! One frame, and what its caller knows of it.
 
 ghost use Rattle.std.specs.Prelude.{◌≡◌, ◌+◌, ◌<◌};
+ghost use Rattle.frame_loop.specs.declared.limits.TheConstants.{MOST_FRAMES};
 ghost use Rattle.frame_loop.specs.Engine.{mesh_seen};
 ghost use Rattle.engine_uses.specs.Best.{IsBestSeen};
 
@@ -21,7 +22,7 @@ pub struct Sight {
 
 /// Makes a frame. Its mesh is a best one of the state.
 pub(crate) fn best_frame(engine: &mut Engine) -> Sight
-    requires some { engine.old.frames < 1000000 }
+    requires some { engine.old.frames < MOST_FRAMES }
     ensures best { IsBestSeen engine.old.state (mesh_seen engine.new) result }
     ensures state { engine.new.state ≡ engine.old.state }
     ensures odometer { engine.new.odometer ≡ engine.old.odometer }

@@ -12,6 +12,7 @@ ghost use Rattle.mesh_defs.specs.HeightField.{side_of};
 ghost use Rattle.mesh_defs.specs.declared.level.TheConstants.{GREATEST_LEVEL};
 ghost use Rattle.wedgie_tree.specs.declared.wedges.TheConstants.{GREATEST_SPACING};
 ghost use Rattle.roam_mesh.specs.Mesh.{stamp_of, pool_members, OnlyEntriesStamped};
+ghost use Rattle.frame_loop.specs.declared.limits.TheConstants.{LONGEST_WAY};
 ghost use Rattle.frame_loop.specs.Outlook.{outlook_of, AreBracketed};
 ghost use Rattle.frame_loop.specs.Changes.{no_changes};
 
@@ -143,7 +144,7 @@ impl Engine {
 
     /// Puts the camera to a place.
     pub fn camera(&mut self, camera: Camera)
-        requires far { self.old.odometer + move_length self.old.state.view.camera camera ≤ 2 ^ 62 }
+        requires far { self.old.odometer + move_length self.old.state.view.camera camera ≤ LONGEST_WAY }
         ensures { self.new ≡ record self.old {
           state = with_camera camera self.old.state;
           odometer = self.old.odometer + move_length self.old.state.view.camera camera;

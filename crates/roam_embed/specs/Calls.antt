@@ -23,7 +23,7 @@ use Rattle.roam_embed.specs.declared.answer.Answer.TheVariants.{Done, NoMemory, 
 use Rattle.roam_embed.specs.declared.notes.Frame.{Frame}
 use Rattle.roam_embed.specs.declared.view.TheConstants.{LONGEST_WAY, MOST_PLANES}
 use Rattle.roam_embed.specs.declared.ground.TheConstants.{GREATEST_CHANGE}
-use Rattle.roam_embed.specs.declared.frames.TheConstants.{MOST_FRAMES}
+use Rattle.frame_loop.specs.declared.limits.TheConstants.{MOST_FRAMES}
 use Rattle.roam_embed.specs.Grid.{HasGrid, IsPointCount, IsPointOf, IsAreaOf}
 use Rattle.roam_embed.specs.Told.{note_of}
 use Rattle.mesh_arrays.specs.Indices.{indices_of}

@@ -6,10 +6,7 @@ ghost use Rattle.roam_embed.specs.Calls.{IsFrameMade};
 
 use crate::answer::Answer;
 use crate::notes::{Frame, Standing};
-use frame_loop::{Engine, FrameNote};
-
-/// The most frames of an engine, by which its counters stay in their range.
-pub const MOST_FRAMES: u32 = 1_000_000;
+use frame_loop::{Engine, FrameNote, MOST_FRAMES};
 
 /// Makes the mesh of the state, and tells of it.
 ///
