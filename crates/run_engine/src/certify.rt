@@ -4,7 +4,7 @@ ghost use Rattle.std.specs.Prelude.{◌≡◌, ◌≢◌, ◌+◌, ◌^◌, ◌�
 ghost use Rattle.roam_edge.specs.Fault.{IsInTime};
 ghost use Rattle.mesh_defs.specs.Priority.{worst_of};
 ghost use Rattle.mesh_defs.specs.BestMesh.{IsBestMesh};
-ghost use Rattle.mesh_defs.specs.State.{priority_in};
+ghost use Rattle.mesh_defs.specs.State.{priority_in, start_state};
 ghost use Rattle.roam_edge.specs.MeshSink.{Mesh};
 ghost use Rattle.roam_edge.specs.Shelf.{NamedFile};
 ghost use Rattle.cert_text.specs.CertText.{cert_text};
@@ -88,12 +88,28 @@ fn certificate_of(alloc: Global, grid: Grid, words: &MakeWords<'_>) -> Result<Ce
     requires bounds { AreInBounds words.now.budget words.now.spacing }
     ensures { IfOk result (λ cert. IsMade (making_seen words.now) grid cert) }
 {
-    falling_laws();
     let mut engine = Engine::make(alloc, grid, words.budget, words.spacing)?;
+    certificate_by(alloc, &mut engine, words)
+}
+
+/// The same by an engine of the grid before its first frame. It stands apart since a function that owns an engine drops it at each
+/// exit, on ways that its proof has to go for each of its calls.
+fn certificate_by(
+    alloc: Global,
+    engine: &mut Engine,
+    words: &MakeWords<'_>,
+) -> Result<Cert, NoMemory>
+    requires bounds { AreInBounds words.now.budget words.now.spacing }
+    requires start { engine.old.state ≡ start_state engine.old.state.grid words.now.spacing words.now.budget }
+    requires odometer { engine.old.odometer ≡ 0 }
+    requires frames { engine.old.frames ≡ 0 }
+    ensures { IfOk result (λ cert. IsMade (making_seen words.now) engine.old.state.grid cert) }
+{
+    falling_laws();
     let _way = engine.way_to(words.camera);
     engine.camera(words.camera);
     let note = engine.frame();
-    cert_of_frame(alloc, &engine, note.worst, words)
+    cert_of_frame(alloc, engine, note.worst, words)
 }
 
 /// The certificate of the mesh of an engine, which is a best one at the camera of the words, and has this worst.
