@@ -163,10 +163,12 @@ fn judge_cert<F: Shelf>(
 {
     let grid = wedges.grid();
     match check(alloc, grid, cert, goal_in(words.target, grid.n())) {
-        Ok(Verdict::Certified {
-            triangles,
-            deviation,
-        }) => judge_mesh(alloc, wedges, cert, (triangles, deviation), words, shelf),
+        Ok(
+            Verdict::Certified {
+                triangles,
+                deviation,
+            },
+        ) => judge_mesh(alloc, wedges, cert, (triangles, deviation), words, shelf),
         Ok(Verdict::Rejected { why }) => Ok(Judgement::Rejected(why)),
         Err(_) => Err(CheckStop::NoMemory),
     }

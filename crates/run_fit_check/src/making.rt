@@ -80,11 +80,7 @@ pub fn run_fit_make<F: Shelf, R: Sink>(
 }
 
 /// The certificate of the mesh of a grid that is fitted to the target of the words.
-fn certificate_of(
-    alloc: Global,
-    grid: &Grid,
-    words: &FitMakeWords<'_>,
-) -> Result<FitCert, NoMemory>
+fn certificate_of(alloc: Global, grid: &Grid, words: &FitMakeWords<'_>) -> Result<FitCert, NoMemory>
     requires bounds { AreFitBounds words.now.target words.now.spacing }
     ensures { IfOk result (λ cert. IsFitMade (fit_making_seen words.now) grid.now cert) }
 {
