@@ -27,7 +27,7 @@ use Rattle.run_laws.specs.Act.{Told, Stands, report_of}
 use Rattle.run_laws.specs.ReportText.{certified_fit_line, fit_rejection, rejection}
 use Rattle.run_laws.specs.Outcome.{Outcome, text_outcome, IsFitMakeOutcome, IsCompared, IsFitVerdictOutcome, IsFitCheckOutcome, IsGridOutcome, IsWordsOutcome, IsOutcome}
 use Rattle.run_laws.specs.Promise.{Seen, is_complete, EndsRight}
-use Rattle.run_laws.specs.Headline.{IsFitCheckOf, IsCertifiedFit}
+use Rattle.run_laws.specs.Headline.{IsRunOf, IsCertifiedFit}
 use Rattle.run_laws.proofs.DifferenceLemmas.{difference-same}
 use Rattle.run_laws.proofs.CertifyLemmas.{IsOneText, compared-text, compared-unique, compared-exists, not-done}
 use Rattle.run_laws.proofs.FitLemmas.{TakesTwo, fit-best}
@@ -158,7 +158,7 @@ module _ (c : FitChecking) (grid : HeightField) (mesh : List ℕ) (end : Outcome
 
 -- where it is done, the report got its line
 
-module _ (read_texts : TextsAreRead) (words : List (List ℕ)) (files : List NamedFile) (c : FitChecking) (grid : HeightField) (is : IsFitCheckOf words files c grid)
+module _ (read_texts : TextsAreRead) (words : List (List ℕ)) (files : List NamedFile) (c : FitChecking) (grid : HeightField) (is : IsRunOf words files (CheckFit c) grid)
     (before now : Told) (old new : Seen) where
   -- the outcome of the words is that of the check
   check-outcome : (end : Outcome) → IsOutcome words files end → IsFitCheckOutcome c grid (fit_cert_in grid.n (bytes_of files c.certificate)) (bytes_of files c.mesh) end

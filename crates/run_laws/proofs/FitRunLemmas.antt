@@ -1,5 +1,7 @@
 -- The headline of a fit follows from what stands after each status.
-use Rattle.std.proofs.Common.{◌≡◌, ◌≢◌, ℕ, true, false, IsTrue, List, [], ◌∷◌, ◌++◌, Option, Some, Result, inl, inr, refl, sym, ◌∙◌, ap, subst, append-nil}
+use Rattle.std.proofs.lemmas.List.Elements.{All-nil, All-cons}
+use Rattle.std.proofs.Common.{◌≡◌, ◌≢◌, ℕ, ◌≤◌, true, false, IsTrue, List, [], ◌∷◌, ◌++◌, length, Option, Some, Result, inl, inr, refl, sym, ◌∙◌, ap, subst, append-nil, arith}
+use Rattle.std.specs.List.{All}
 use Rattle.mesh_defs.specs.HeightField.{HeightField}
 use Rattle.roam_edge.specs.MeshSink.{Mesh}
 use Rattle.roam_edge.specs.Shelf.{NamedFile, bytes_of}
@@ -15,7 +17,7 @@ use Rattle.run_laws.specs.Act.{Told, Stands, IsCutShort}
 use Rattle.run_laws.specs.CutShort.{StandsInMesh}
 use Rattle.run_laws.specs.Outcome.{Outcome, IsFitOutcome, IsGridOutcome, IsWordsOutcome, IsOutcome}
 use Rattle.run_laws.specs.Promise.{Seen, is_complete, EndsRight, LeavesAtReadFault, LeavesAtNoMemory}
-use Rattle.run_laws.specs.Headline.{IsFitRunOf, KeepsFitMesh}
+use Rattle.run_laws.specs.Headline.{IsRunOf, IsFitMeshOf, KeepsFitMesh}
 use Rattle.run_laws.proofs.BestLemmas.{same-command}
 use Rattle.run_laws.proofs.CutShortLemmas.{mesh_cut}
 use Rattle.run_laws.proofs.FitLemmas.{fit-best}
@@ -24,10 +26,17 @@ use Rattle.run_laws.proofs.FitLemmas.{fit-best}
 no-script : (name : List ℕ) (f : Fitting) → IsTrue (has_script (OnGrid name (Fit f))) → ⊥
 no-script name f is = cc
 
-module _ (read_texts : TextsAreRead) (words : List (List ℕ)) (files : List NamedFile) (f : Fitting) (grid : HeightField) (run : IsFitRunOf words files f grid)
+module _ (read_texts : TextsAreRead) (words : List (List ℕ)) (files : List NamedFile) (f : Fitting) (grid : HeightField) (run : IsRunOf words files (Fit f) grid)
     (before now : Told) (old new : Seen) (all : List Mesh) (there : before.meshes ≡ Some all) where
   abbrev Keeps : Status → Type 0
   Keeps status = KeepsFitMesh f grid before now all status
+
+  -- a mesh that is right if it is finished
+  abbrev Fits : Mesh → Type 0
+  Fits mesh = mesh.finished ≡ true → IsFitMeshOf f grid mesh
+
+  one-fits : (mesh : Mesh) → Fits mesh → All Fits (mesh ∷ [])
+  one-fits mesh fits = All-cons Fits mesh [] fits (All-nil Fits)
 
   -- the outcome of the words is that of the fit
   fit-outcome : (end : Outcome) → IsOutcome words files end → IsFitOutcome f grid end
@@ -42,7 +51,8 @@ module _ (read_texts : TextsAreRead) (words : List (List ℕ)) (files : List Nam
   nothing status undone stands = record {
     added = [];
     behind = stands.meshes_grow all there;
-    fits = tt;
+    one = omega arith;
+    fits = All-nil Fits;
     done = λ e. absurd (undone e);
   }
 
@@ -55,7 +65,8 @@ module _ (read_texts : TextsAreRead) (words : List (List ℕ)) (files : List Nam
       record {
         added = mesh_with f.prefix 1 (fit_text f.spacing grid triangles) true ∷ [];
         behind = stood.meshes_grow all there;
-        fits = λ finished. record { triangles = triangles; fit = fit; is_mesh = refl };
+        one = omega arith;
+        fits = one-fits _ (λ finished. record { triangles = triangles; fit = fit; is_mesh = refl });
         done = λ e. (
           triangles,
           fit,
@@ -71,7 +82,8 @@ module _ (read_texts : TextsAreRead) (words : List (List ℕ)) (files : List Nam
       record {
         added = mesh_with f.prefix 1 came.0 false ∷ [];
         behind = came.2;
-        fits = λ e. cc;
+        one = omega arith;
+        fits = one-fits _ (λ e. cc);
         done = λ e. absurd (undone e);
       }
 
@@ -82,12 +94,13 @@ module _ (read_texts : TextsAreRead) (words : List (List ℕ)) (files : List Nam
       let bytes : List ℕ = fit_text f.spacing grid triangles in
       let at = subst (λ (o : Outcome). IsCutShort before now o.acts) is.2 short in
       elim (mesh_cut before now [] f.prefix 1 bytes (fit_line grid triangles) at.done at.next at.owed at.in_order at.standing) [
-        | inl none ↦ record { added = []; behind = none.meshes all there; fits = tt; done = λ e. absurd (undone e) }
+        | inl none ↦ record { added = []; behind = none.meshes all there; one = omega arith; fits = All-nil Fits; done = λ e. absurd (undone e) }
         | inr (inl part) ↦ in-mesh status undone bytes part
         | inr (inr text) ↦ record {
           added = mesh_with f.prefix 1 bytes true ∷ [];
           behind = text.meshes all there;
-          fits = λ finished. record { triangles = triangles; fit = fit-best f.target grid triangles is.1.fit; is_mesh = refl };
+          one = omega arith;
+          fits = one-fits _ (λ finished. record { triangles = triangles; fit = fit-best f.target grid triangles is.1.fit; is_mesh = refl });
           done = λ e. absurd (undone e);
         }
       ]

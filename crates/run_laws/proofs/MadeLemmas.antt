@@ -8,7 +8,7 @@ use Rattle.mesh_defs.specs.HeightField.{HeightField}
 use Rattle.mesh_defs.specs.BoundingBox.{CameraAt}
 use Rattle.mesh_defs.specs.Triangle.{IsSplittable}
 use Rattle.mesh_defs.specs.Priority.{worst_of}
-use Rattle.mesh_defs.specs.State.{State, priority_in, text_in}
+use Rattle.mesh_defs.specs.State.{State, priority_in, text_in, start_state, with_camera}
 use Rattle.certificate_laws.specs.declared.reason.Reason.{Reason}
 use Rattle.certificate_laws.specs.Certificate.{AreReasons, IsSound}
 use Rattle.page_laws.specs.Lines.{IsOneLine, lines_from}
@@ -25,7 +25,7 @@ use Rattle.roam_edge.specs.Shelf.{NamedFile, bytes_of}
 use Rattle.run_laws.specs.Walk.{lines_of}
 use Rattle.word_laws.specs.Words.{Making, Checking}
 use Rattle.run_laws.specs.CertFile.{lines_behind, said_behind, cert_of, cert_in, fit_cert_of, fit_cert_in}
-use Rattle.run_laws.specs.Certify.{seen_from, makes_at, IsMade, IsFaultless}
+use Rattle.run_laws.specs.Certify.{makes_at, IsMade, IsFaultless}
 use Rattle.run_laws.specs.Promise.{IsAcceptedCheck}
 use Rattle.run_laws.proofs.LineLemmas.{lines_of-ends}
 use Rattle.run_laws.proofs.OutcomeLemmas.{IsWithinReach}
@@ -121,7 +121,7 @@ module _ (read : WrittenLinesAreRead) (ended : WrittenLinesAreEnded) (whole : Wr
     -- and a check accepts it
     made-faultless : (c : Checking) → c.budget ≡ m.budget → c.spacing ≡ m.spacing → IsFaultless c grid cert
     made-faultless c budget spacing =
-        let P : ℕ → ℕ → CameraAt → Type 0 = λ most step place. IsSound grid.n most (priority_in (seen_from grid step most place)) cert.leaves cert.reasons in
+        let P : ℕ → ℕ → CameraAt → Type 0 = λ most step place. IsSound grid.n most (priority_in (with_camera place (start_state grid step most))) cert.leaves cert.reasons in
         subst (λ (place : CameraAt). P c.budget c.spacing place) (sym made.camera)
         (subst (λ (step : ℕ). P c.budget step m.camera) (sym spacing)
         (subst (λ (most : ℕ). P most m.spacing m.camera) (sym budget) made.sound))
@@ -132,7 +132,7 @@ module _ (read : WrittenLinesAreRead) (ended : WrittenLinesAreEnded) (whole : Wr
       cert,
       ap (cert_in grid.n) text ∙ cert-back grid.n cert made-certificate,
       made-faultless c budget spacing,
-      mesh ∙ (ap (λ (most : ℕ). text_in (seen_from grid m.spacing most m.camera) cert.leaves) (sym budget)
-          ∙ (ap (λ (step : ℕ). text_in (seen_from grid step c.budget m.camera) cert.leaves) (sym spacing)
-          ∙ ap (λ (place : CameraAt). text_in (seen_from grid c.spacing c.budget place) cert.leaves) (sym made.camera))),
+      mesh ∙ (ap (λ (most : ℕ). text_in (with_camera m.camera (start_state grid m.spacing most)) cert.leaves) (sym budget)
+          ∙ (ap (λ (step : ℕ). text_in (with_camera m.camera (start_state grid step c.budget)) cert.leaves) (sym spacing)
+          ∙ ap (λ (place : CameraAt). text_in (with_camera place (start_state grid c.spacing c.budget)) cert.leaves) (sym made.camera))),
     )

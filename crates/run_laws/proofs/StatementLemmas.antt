@@ -75,8 +75,8 @@ module _ (before now : Moment) (words : List (List ℕ)) (status : Status) where
         let not_memory = other-status status NoMemory is (λ e. cc) in
         let e = (outcome files are).ends not_memory (other-status status ReadFault is (λ e. cc)) in
         record { end = e.0; is_outcome = e.1; cut_short = e.2.cut_short is; opened = e.2.opened };
-    read_fault = read;
-    no_memory = memory;
+    read_fault = λ is. (let leaves = read is in (leaves.command, leaves.is_command, leaves.leaves));
+    no_memory = λ is. (let leaves = memory is in (leaves.command, leaves.is_command, leaves.leaves));
   }
 
   -- that the status has its cause, from the counts of faults

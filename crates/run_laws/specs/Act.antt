@@ -39,7 +39,12 @@ told all_meshes all_bytes meshes_failed report_failed =
 
 -- what a sink of meshes and a report tell
 abbrev pub sinks_tell : {M R : Type 0} → showing.Ghosts M → reporting.Ghosts R → M → R → Told
-sinks_tell m r meshes report = told (m.meshes meshes) (r.contents report) (m.faults meshes) (r.faults report)
+sinks_tell m r shown written = record {
+  meshes = m.meshes shown;
+  report = r.contents written;
+  mesh_faults = m.faults shown;
+  report_faults = r.faults written;
+}
 
 -- what a report tells, beside any meshes that have failed so often
 abbrev pub report_tells : {R : Type 0} → reporting.Ghosts R → Option (List Mesh) → ℕ → R → Told

@@ -1,6 +1,6 @@
 -- Certificates as a run makes and checks them: over a grid as it was read, at a budget, a spacing and a camera, without planes.
 -- This project's own.
--- Words: seen_from, makes_at, checks_at, IsMade, IsFaultless, IsFitMade, IsFitFaultless, IsFirstDifference.
+-- Words: makes_at, checks_at, IsMade, IsFaultless, IsFitMade, IsFitFaultless, IsFirstDifference.
 use Rattle.std.specs.Prelude.{◌≡◌, ◌≢◌, ℕ, ◌<◌, List, length, take, slice_get}
 use Rattle.mesh_defs.specs.HeightField.{HeightField}
 use Rattle.mesh_defs.specs.BoundingBox.{CameraAt}
@@ -13,17 +13,13 @@ use Rattle.fit_certificate_laws.specs.Certificate as fits
 use Rattle.word_laws.specs.Words.{Making, Checking, FitMaking, FitChecking}
 use Rattle.run_laws.specs.Fit.{goal_of}
 
--- the grid seen from a camera, before any line of a script
-abbrev pub seen_from : HeightField → ℕ → ℕ → CameraAt → State
-seen_from grid spacing budget place = with_camera place (start_state grid spacing budget)
-
--- what a certificate is made for
+-- what a certificate is made for: the grid seen from the camera, before any line of a script
 abbrev pub makes_at : Making → HeightField → State
-makes_at m grid = seen_from grid m.spacing m.budget m.camera
+makes_at m grid = with_camera m.camera (start_state grid m.spacing m.budget)
 
 -- what a certificate with this camera is checked for
 abbrev pub checks_at : Checking → HeightField → CameraAt → State
-checks_at c grid camera = seen_from grid c.spacing c.budget camera
+checks_at c grid camera = with_camera camera (start_state grid c.spacing c.budget)
 
 -- A certificate that may be made: of the best mesh of the budget at the camera of the words, depth first, and with reasons that
 -- prove it so.

@@ -12,12 +12,12 @@ use Rattle.obj_write.specs.Written.{mesh_with, Grows}
 use Rattle.run_laws.specs.Walk.{Refusal}
 use Rattle.run_laws.specs.declared.status.Status.{Status}
 use Rattle.run_laws.specs.declared.status.Status.TheVariants.{WriteFault}
-use Rattle.word_laws.specs.Words.{Show, AsMeshes, AsStrips, AsLeast, AsMeasures, AsSums, Scripted, prefix_of}
+use Rattle.word_laws.specs.Words.{Show, AsMeshes, AsStrips, AsLeast, AsMeasures, AsSums, Scripted, Frames, prefix_of}
 use Rattle.run_laws.specs.Act.{Act, WholeMesh, ReportText, Told, IsCutShort, meshes_of, report_of}
 use Rattle.run_laws.specs.Picture.{Picture, triangles_of, strip_triangles, ArePictures}
 use Rattle.run_laws.specs.Outcome.{shown_acts, stop_acts, script_walk}
 use Rattle.run_laws.specs.Promise.{Seen, EndsRight}
-use Rattle.run_laws.specs.Headline.{IsScriptRunOf}
+use Rattle.run_laws.specs.Headline.{IsRunOf}
 use Rattle.run_laws.specs.ReportText.{frame_line, strip_line, least_line, measure_line, line_refusal}
 
 -- frames are shown one by one, and behind them nothing is told but a refusal
@@ -124,7 +124,7 @@ CutTextsStand = (before now : Told) (bytes : List ℕ) → IsCutShort before now
 abbrev pub WriteFaultsStand : Type 0
 WriteFaultsStand = (before now : Told) (old new : Seen) (words : List (List ℕ)) (files : List NamedFile) (s : Scripted) (grid : HeightField)
     (status : Status) → EndsRight before now old new words files status → status ≡ WriteFault
-    → IsScriptRunOf words files s grid → IsTrue (is_by_frame s.show) → LeavesAtWriteFault before now s grid (bytes_of files s.script)
+    → IsRunOf words files (Frames s) grid → IsTrue (is_by_frame s.show) → LeavesAtWriteFault before now s grid (bytes_of files s.script)
 
 -- Which sink failed decides the case: where the count of the meshes did not move it was a line, and where that of the report did not
 -- move it was a mesh. A count at its greatest value cannot move.

@@ -1,8 +1,8 @@
 -- The headline: each frame's mesh is a best mesh within the budget in force, whatever the mesh before; or the least mesh of a
 -- tolerance. A mesh that is fitted is a best one for its error or its budget.
--- Words: IsBestIn, IsBestStripIn, IsLeastIn, IsGoodText, IsGoodFrame, AreGoodFrames, IsScriptRunOf, IsRunOf, KeepsGoodMeshes,
--- IsCheckOf, IsCertifiedMesh, IsFitCheckOf, IsCertifiedFit, IsFitRunOf, IsFitMeshOf, AreFitMeshes, KeepsFitMesh.
-use Rattle.std.specs.Prelude.{◌≡◌, ⊤, ℕ, ◌+◌, ◌≤◌, Bool, true, IsTrue, IsSome, List, [], ◌∷◌, ◌++◌, length, count_by, nat_eq, All, Contains, Option, Some}
+-- Words: IsBestStripIn, IsGoodText, IsGoodFrame, AreGoodFrames, IsRunOf, KeepsGoodMeshes, IsCertifiedMesh, IsCertifiedFit,
+-- IsFitMeshOf, KeepsFitMesh.
+use Rattle.std.specs.Prelude.{◌≡◌, ⊤, ℕ, ◌+◌, ◌≤◌, Bool, true, IsTrue, List, [], ◌∷◌, ◌++◌, length, count_by, nat_eq, All, Contains, Option, Some}
 use Rattle.mesh_defs.specs.HeightField.{HeightField, IsHeightField}
 use Rattle.mesh_defs.specs.BestMesh.{IsBestMesh}
 use Rattle.mesh_defs.specs.BoundingBox.{CameraAt}
@@ -19,7 +19,7 @@ use Rattle.tiling_laws.specs.Ancestors.{AreLeaves}
 use Rattle.strip_laws.specs.Strip.{strip_of, IsRing}
 use Rattle.least_laws.specs.Least.{IsLeastMesh}
 use Rattle.deviation_laws.specs.PlaneHeight.{deviation_of}
-use Rattle.word_laws.specs.Words.{Show, AsMeshes, AsStrips, AsLeast, AsMeasures, AsSums, Scripted, Checking, Fitting, FitChecking, Frames, Check, Fit, CheckFit, OnGrid, prefix_of, command_of}
+use Rattle.word_laws.specs.Words.{Show, AsMeshes, AsStrips, AsLeast, AsMeasures, AsSums, Scripted, Checking, Fitting, FitChecking, Job, OnGrid, prefix_of, command_of}
 use Rattle.run_laws.specs.ReportText.{certified_line, fit_line, certified_fit_line}
 use Rattle.run_laws.specs.Certify.{checks_at}
 use Rattle.run_laws.specs.Fit.{IsFitFor, IsBestFit, fit_text}
@@ -28,30 +28,24 @@ use Rattle.obj_write.specs.Written.{mesh_with, Grows}
 use Rattle.run_laws.specs.Outcome.{script_walk}
 use Rattle.run_laws.specs.Promise.{ends_script}
 
--- the list is a best mesh of the state within the budget in force
-abbrev pub IsBestIn : State → List ℕ → Type 0
-IsBestIn state triangles = IsBestMesh state.grid.n state.budget (priority_in state) triangles
-
 -- The list is the strip of a best mesh: its triangles, each once, in an order in which each two neighbours share a whole edge, and
 -- so do the last and the first.
 pub record IsBestStripIn (state : State) (order : List ℕ) : Type 0 where
   pub has : ℕ → Bool
-  pub best : IsBestIn state (leaves_of state.grid.n has)
+  pub best : IsBestMesh state.grid.n state.budget (priority_in state) (leaves_of state.grid.n has)
   pub strip : order ≡ strip_of state.grid.n has
   pub leaves : AreLeaves state.grid.n has order
   pub once : (a : ℕ) → Contains order a → count_by (λ t. nat_eq t a) order ≡ 1
   pub ring : IsRing state.grid.n order
 
--- the list is the least mesh of the state for a tolerance: none is worse, and every such mesh refines it
-abbrev pub IsLeastIn : ℕ → State → List ℕ → Type 0
-IsLeastIn tolerance state triangles = IsLeastMesh state.grid.n tolerance (priority_in state) triangles
-
--- The bytes are the text of what is shown of a state: its best mesh, the strip of that mesh, or its least mesh.
+-- The bytes are the text of what is shown of a state: its best mesh within the budget in force, the strip of that mesh, or its least
+-- mesh for a tolerance: none of its triangles is worse, and every such mesh refines it.
 abbrev pub IsGoodText : Show → State → List ℕ → Type 0
-IsGoodText (AsMeshes prefix) state bytes = (triangles : List ℕ) × IsBestIn state triangles × (bytes ≡ text_in state triangles)
+IsGoodText (AsMeshes prefix) state bytes = (triangles : List ℕ)
+    × IsBestMesh state.grid.n state.budget (priority_in state) triangles × (bytes ≡ text_in state triangles)
 IsGoodText (AsStrips prefix) state bytes = (order : List ℕ) × IsBestStripIn state order × (bytes ≡ text_in state order)
-IsGoodText (AsLeast prefix tolerance) state bytes =
-    (triangles : List ℕ) × IsLeastIn tolerance state triangles × (bytes ≡ text_in state triangles)
+IsGoodText (AsLeast prefix tolerance) state bytes = (triangles : List ℕ)
+    × IsLeastMesh state.grid.n tolerance (priority_in state) triangles × (bytes ≡ text_in state triangles)
 IsGoodText AsMeasures state bytes = ⊥
 IsGoodText (AsSums n seed) state bytes = ⊥
 
@@ -69,17 +63,12 @@ AreGoodFrames show number [] (mesh ∷ meshes) = ⊥
 AreGoodFrames show number (state ∷ states) (mesh ∷ meshes) =
     (mesh.finished ≡ true → IsGoodFrame show number state mesh) × AreGoodFrames show (number + 1) states meshes
 
--- The words are a command on the frames of a script; the file of its grid is a text of this grid.
-pub record IsScriptRunOf (words : List (List ℕ)) (files : List NamedFile) (s : Scripted) (grid : HeightField) : Type 0 where
+-- The words are a command with this job over a grid; the file of its grid is a text of this grid.
+pub record IsRunOf (words : List (List ℕ)) (files : List NamedFile) (job : Job) (grid : HeightField) : Type 0 where
   pub grid_name : List ℕ
-  pub is_command : command_of words ≡ Some (OnGrid grid_name (Frames s))
+  pub is_command : command_of words ≡ Some (OnGrid grid_name job)
   pub valid : IsHeightField grid
   pub file_text : IsFileText grid (bytes_of files grid_name)
-
--- so of a command that writes a mesh for each frame
-pub record IsRunOf (words : List (List ℕ)) (files : List NamedFile) (s : Scripted) (grid : HeightField) : Type 0 where
-  pub meshes : IsSome (prefix_of s.show)
-  pub run : IsScriptRunOf words files s grid
 
 -- The meshes that were there stay, and behind them came good frames, those of the first frame lines in order,
 -- each seen in the state at its line; and where the script was carried out to its end or its refusal, one for
@@ -90,13 +79,6 @@ pub record KeepsGoodMeshes (s : Scripted) (grid : HeightField) (script : List �
   pub frames : AreGoodFrames s.show 1 (script_walk s grid script).frames added
   pub all_frames : IsTrue (ends_script status) → length added ≡ length (script_walk s grid script).frames
   pub all_finished : IsTrue (ends_script status) → All (λ (mesh : Mesh). mesh.finished ≡ true) added
-
--- The words are a check; the file of its grid is a text of this grid.
-pub record IsCheckOf (words : List (List ℕ)) (files : List NamedFile) (c : Checking) (grid : HeightField) : Type 0 where
-  pub grid_name : List ℕ
-  pub is_command : command_of words ≡ Some (OnGrid grid_name (Check c))
-  pub valid : IsHeightField grid
-  pub file_text : IsFileText grid (bytes_of files grid_name)
 
 -- A mesh was certified by this line of the report: its bytes are the text of a conforming list of at most as many triangles as the
 -- budget, at the camera that the line names no such list has a lower worst, and the line tells the number of triangles and their worst.
@@ -110,13 +92,6 @@ pub record IsCertifiedMesh (c : Checking) (grid : HeightField) (mesh line : List
       → worst_of (priority_in (checks_at c grid camera)) triangles ≤ worst_of (priority_in (checks_at c grid camera)) others
   pub told : line ≡ certified_line camera (length triangles) (worst_of (priority_in (checks_at c grid camera)) triangles)
 
--- The words are a check of a fitted mesh; the file of its grid is a text of this grid.
-pub record IsFitCheckOf (words : List (List ℕ)) (files : List NamedFile) (c : FitChecking) (grid : HeightField) : Type 0 where
-  pub grid_name : List ℕ
-  pub is_command : command_of words ≡ Some (OnGrid grid_name (CheckFit c))
-  pub valid : IsHeightField grid
-  pub file_text : IsFileText grid (bytes_of files grid_name)
-
 -- A fitted mesh was certified by this line of the report: its bytes are the text of a list that is a best one for the error or the
 -- budget of the words, whoever made it, and the line tells the number of triangles and how far the surface is from them.
 pub record IsCertifiedFit (c : FitChecking) (grid : HeightField) (mesh line : List ℕ) : Type 0 where
@@ -126,24 +101,11 @@ pub record IsCertifiedFit (c : FitChecking) (grid : HeightField) (mesh line : Li
   pub fit : IsFitFor c.target grid triangles
   pub told : line ≡ certified_fit_line grid.n (length triangles) (deviation_of grid.n grid.heights triangles)
 
--- The words are a fit; the file of its grid is a text of this grid.
-pub record IsFitRunOf (words : List (List ℕ)) (files : List NamedFile) (f : Fitting) (grid : HeightField) : Type 0 where
-  pub grid_name : List ℕ
-  pub is_command : command_of words ≡ Some (OnGrid grid_name (Fit f))
-  pub valid : IsHeightField grid
-  pub file_text : IsFileText grid (bytes_of files grid_name)
-
 -- The mesh has the number 1 and the prefix of the words, and its bytes are the text of a best mesh for their error or their budget.
 pub record IsFitMeshOf (f : Fitting) (grid : HeightField) (mesh : Mesh) : Type 0 where
   pub triangles : List ℕ
   pub fit : IsBestFit f.target grid triangles
   pub is_mesh : mesh ≡ mesh_with f.prefix 1 (fit_text f.spacing grid triangles) true
-
--- there is one mesh at most, and if it is finished it is such a mesh
-abbrev pub AreFitMeshes : Fitting → HeightField → List Mesh → Type 0
-AreFitMeshes f grid [] = ⊤
-AreFitMeshes f grid (mesh ∷ []) = mesh.finished ≡ true → IsFitMeshOf f grid mesh
-AreFitMeshes f grid (mesh ∷ (other ∷ meshes)) = ⊥
 
 -- The meshes that were there stay, and behind them came one at most, which is a best mesh for the error or the budget if it is
 -- finished. Where the run is done it came, and the report got its line: how many triangles and vertices it has, and how far the
@@ -151,7 +113,8 @@ AreFitMeshes f grid (mesh ∷ (other ∷ meshes)) = ⊥
 pub record KeepsFitMesh (f : Fitting) (grid : HeightField) (before now : Told) (all : List Mesh) (status : Status) : Type 0 where
   pub added : List Mesh
   pub behind : now.meshes ≡ Some (all ++ added)
-  pub fits : AreFitMeshes f grid added
+  pub one : length added ≤ 1
+  pub fits : All (λ (mesh : Mesh). mesh.finished ≡ true → IsFitMeshOf f grid mesh) added
   pub done : status ≡ Done → (triangles : List ℕ) × IsBestFit f.target grid triangles
       × (added ≡ mesh_with f.prefix 1 (fit_text f.spacing grid triangles) true ∷ [])
       × Grows before.report now.report (fit_line grid triangles)

@@ -2,7 +2,7 @@
 -- Words: WalksGoOn, PicturesGoOn, FramesExistFrom, FramesExist, RunsAreUnique, SetsStayClosed, LevelsAreInRange, BudgetsAreTwo, AreStates, KeepsStates, OutcomesAreUnique, OutcomesExist,
 -- AcceptedIsDone, EnginesAreUnique, PicturesAreCertified, HeadlineFollows, CertifiedFollows, FitCertifiedFollows, TolerancesAreExact, FitsAreBest, FittedFollows, MadeIsAccepted, FitIsReadBack,
 -- TurnsAreCounted.
-use Rattle.std.specs.Prelude.{◌≡◌, ⊤, ℕ, ◌*◌, ◌^◌, ◌≤◌, ◌↔◌, Bool, IsTrue, is_some, List, [], ◌∷◌, ◌++◌, All, Option, Some, Ok}
+use Rattle.std.specs.Prelude.{◌≡◌, ⊤, ℕ, ◌*◌, ◌^◌, ◌≤◌, ◌↔◌, Bool, IsTrue, IsSome, is_some, List, [], ◌∷◌, ◌++◌, All, Option, Some, Ok}
 use Rattle.mesh_defs.specs.HeightField.{HeightField}
 use Rattle.mesh_defs.specs.State.{State, priority_in, text_in}
 use Rattle.mesh_defs.specs.ClosedSet.{IsClosed, among}
@@ -29,14 +29,14 @@ use Rattle.fit_certificate_laws.specs.Certificate.{FitCertificate}
 use Rattle.fit_cert_text.specs.FitCertText.{fit_cert_text}
 use Rattle.fit_cert_text.specs.Laws.{IsCertificateOf}
 use Rattle.run_laws.specs.CertFile.{fit_cert_in}
-use Rattle.word_laws.specs.Words.{Show, Scripted, Making, Checking, Target, Fitting, FitChecking, Make, OnGrid, command_of}
+use Rattle.word_laws.specs.Words.{Show, Scripted, Making, Checking, Target, Fitting, FitChecking, Frames, Make, Check, Fit, CheckFit, OnGrid, prefix_of, command_of}
 use Rattle.run_laws.specs.Certify.{makes_at, IsMade}
 use Rattle.run_laws.specs.Act.{Told}
 use Rattle.run_laws.specs.Picture.{Picture, ArePictures, IsCertified, last_members}
 use Rattle.run_laws.specs.Turns.{left_turns, right_turns}
 use Rattle.run_laws.specs.Outcome.{Outcome, IsOutcome, HasOneOutcome}
 use Rattle.run_laws.specs.Promise.{Seen, EndsRight, LeavesAtReadFault, LeavesAtNoMemory, IsAcceptedCheck, IsAccepted}
-use Rattle.run_laws.specs.Headline.{IsRunOf, KeepsGoodMeshes, IsCheckOf, IsCertifiedMesh, IsFitCheckOf, IsCertifiedFit, IsFitRunOf, KeepsFitMesh}
+use Rattle.run_laws.specs.Headline.{IsRunOf, KeepsGoodMeshes, IsCertifiedMesh, IsCertifiedFit, KeepsFitMesh}
 use Rattle.run_laws.specs.Fit.{tolerance_of, IsFitFor, IsBestFit}
 
 -- a walk over whole lines goes on with what follows them
@@ -121,20 +121,20 @@ TurnsAreCounted = (n lefts rights : ℕ) (has : ℕ → Bool) → IsClosed n has
 -- at its frame line
 abbrev pub HeadlineFollows : Type 0
 HeadlineFollows = (words : List (List ℕ)) (files : List NamedFile) (s : Scripted) (grid : HeightField) (before now : Told) (old new : Seen) (all : List Mesh) (status : Status)
-    → IsRunOf words files s grid → old.files ≡ Some files → before.meshes ≡ Some all → EndsRight before now old new words files status
+    → IsRunOf words files (Frames s) grid → IsSome (prefix_of s.show) → old.files ≡ Some files → before.meshes ≡ Some all → EndsRight before now old new words files status
     → (status ≡ ReadFault → LeavesAtReadFault before now old new words) → (status ≡ NoMemory → LeavesAtNoMemory before now old new words)
     → KeepsGoodMeshes s grid (bytes_of files s.script) all now.meshes status
 
 -- where a check is done, the report got a line by which its mesh is certified
 abbrev pub CertifiedFollows : Type 0
 CertifiedFollows = (words : List (List ℕ)) (files : List NamedFile) (c : Checking) (grid : HeightField) (before now : Told) (old new : Seen) (status : Status)
-    → IsCheckOf words files c grid → EndsRight before now old new words files status → status ≡ Done
+    → IsRunOf words files (Check c) grid → EndsRight before now old new words files status → status ≡ Done
     → (line : List ℕ) × Grows before.report now.report line × IsCertifiedMesh c grid (bytes_of files c.mesh) line
 
 -- the same of a check of a fitted mesh
 abbrev pub FitCertifiedFollows : Type 0
 FitCertifiedFollows = (words : List (List ℕ)) (files : List NamedFile) (c : FitChecking) (grid : HeightField) (before now : Told) (old new : Seen) (status : Status)
-    → IsFitCheckOf words files c grid → EndsRight before now old new words files status → status ≡ Done
+    → IsRunOf words files (CheckFit c) grid → EndsRight before now old new words files status → status ≡ Done
     → (line : List ℕ) × Grows before.report now.report line × IsCertifiedFit c grid (bytes_of files c.mesh) line
 
 -- the text of a certificate of a fitted mesh, of no more than a reader takes, is read back as it
@@ -152,7 +152,7 @@ FitsAreBest = (target : Target) (grid : HeightField) (triangles : List ℕ) → 
 -- the headline of a fit: whatever the status, from what stands after each, the mesh is a best one if it is finished
 abbrev pub FittedFollows : Type 0
 FittedFollows = (words : List (List ℕ)) (files : List NamedFile) (f : Fitting) (grid : HeightField) (before now : Told) (old new : Seen) (all : List Mesh) (status : Status)
-    → IsFitRunOf words files f grid → before.meshes ≡ Some all → EndsRight before now old new words files status
+    → IsRunOf words files (Fit f) grid → before.meshes ≡ Some all → EndsRight before now old new words files status
     → (status ≡ ReadFault → LeavesAtReadFault before now old new words) → (status ≡ NoMemory → LeavesAtNoMemory before now old new words)
     → KeepsFitMesh f grid before now all status
 

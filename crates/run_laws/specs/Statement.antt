@@ -10,12 +10,12 @@ use Rattle.roam_edge.specs.Fault.{IsInTime}
 use Rattle.obj_write.specs.Written.{Grows}
 use Rattle.run_laws.specs.declared.status.Status.{Status}
 use Rattle.run_laws.specs.declared.status.Status.TheVariants.{Done, NoMemory, Usage, ReadFault, WriteFault}
-use Rattle.word_laws.specs.Words.{Scripted, Checking, Fitting, FitChecking, command_of, file_count}
+use Rattle.word_laws.specs.Words.{Scripted, Checking, Fitting, FitChecking, Frames, Check, Fit, CheckFit, Command, prefix_of, command_of, file_count}
 use Rattle.run_laws.specs.Act.{Stands, IsCutShort}
 use Rattle.run_laws.specs.Picture.{IsCertified}
 use Rattle.run_laws.specs.Outcome.{EngineEnd, Outcome, IsOutcome}
-use Rattle.run_laws.specs.Promise.{AreFiles, is_complete, HasEnded, may_end, OpensForStatus, LeavesAtReadFault, LeavesAtNoMemory, leaves_engine}
-use Rattle.run_laws.specs.Headline.{IsRunOf, KeepsGoodMeshes, IsCheckOf, IsCertifiedMesh, IsFitCheckOf, IsCertifiedFit, IsFitRunOf, KeepsFitMesh}
+use Rattle.run_laws.specs.Promise.{AreFiles, is_complete, HasEnded, may_end, OpensForStatus, CommandReadFault, CommandNoMemory, leaves_engine}
+use Rattle.run_laws.specs.Headline.{IsRunOf, KeepsGoodMeshes, IsCertifiedMesh, IsCertifiedFit, KeepsFitMesh}
 use Rattle.run_laws.specs.Moment.{Moment}
 
 -- The meshes.
@@ -24,20 +24,20 @@ use Rattle.run_laws.specs.Moment.{Moment}
 -- at its frame line; of a fit that of its error or its budget. (Where files and meshes are told.)
 pub record KeepsBestMeshes (before now : Moment) (words : List (List ℕ)) (status : Status) : Type 0 where
   pub of_script : (files : List NamedFile) (all : List Mesh) (s : Scripted) (grid : HeightField)
-      → before.shelf.files ≡ Some files → before.sinks.meshes ≡ Some all → IsRunOf words files s grid
-      → KeepsGoodMeshes s grid (bytes_of files s.script) all now.sinks.meshes status
+      → before.shelf.files ≡ Some files → before.sinks.meshes ≡ Some all → IsRunOf words files (Frames s) grid
+      → IsSome (prefix_of s.show) → KeepsGoodMeshes s grid (bytes_of files s.script) all now.sinks.meshes status
   pub of_fit : (files : List NamedFile) (all : List Mesh) (f : Fitting) (grid : HeightField)
-      → before.shelf.files ≡ Some files → before.sinks.meshes ≡ Some all → IsFitRunOf words files f grid
+      → before.shelf.files ≡ Some files → before.sinks.meshes ≡ Some all → IsRunOf words files (Fit f) grid
       → KeepsFitMesh f grid before.sinks now.sinks all status
 
 -- Where a check is done, the report got a line by which its mesh is certified, and such a mesh is optimal; one of a fitted mesh is the
 -- least for its error or the best for its budget.
 pub record CertifiesMesh (before now : Moment) (words : List (List ℕ)) (status : Status) : Type 0 where
   pub of_view : (files : List NamedFile) (c : Checking) (grid : HeightField) → before.shelf.files ≡ Some files
-      → IsCheckOf words files c grid → status ≡ Done → (line : List ℕ)
+      → IsRunOf words files (Check c) grid → status ≡ Done → (line : List ℕ)
       × Grows before.sinks.report now.sinks.report line × IsCertifiedMesh c grid (bytes_of files c.mesh) line
   pub of_fit : (files : List NamedFile) (c : FitChecking) (grid : HeightField) → before.shelf.files ≡ Some files
-      → IsFitCheckOf words files c grid → status ≡ Done → (line : List ℕ)
+      → IsRunOf words files (CheckFit c) grid → status ≡ Done → (line : List ℕ)
       × Grows before.sinks.report now.sinks.report line × IsCertifiedFit c grid (bytes_of files c.mesh) line
 
 -- what each frame of an engine tells of blocking proves that its mesh is optimal
@@ -72,9 +72,11 @@ pub record EndsByStatus (before now : Moment) (words : List (List ℕ)) (status 
   pub write_fault : status ≡ WriteFault → (files : List NamedFile)
       → AreFiles before.shelf.files words files → IsCutOff before now words files
   pub read_fault : status ≡ ReadFault
-      → LeavesAtReadFault before.sinks now.sinks before.shelf now.shelf words
+      → (command : Command) × (command_of words ≡ Some command)
+      × CommandReadFault before.sinks now.sinks before.shelf now.shelf command
   pub no_memory : status ≡ NoMemory
-      → LeavesAtNoMemory before.sinks now.sinks before.shelf now.shelf words
+      → (command : Command) × (command_of words ≡ Some command)
+      × CommandNoMemory before.sinks now.sinks before.shelf now.shelf command
 
 -- How the outside and the engine are left, also where nothing is told: the shelf's files are as before, no mesh is under way,
 -- except perhaps after WriteFault, files were opened as often as the status says, with Done the last one was read to its end, an engine

@@ -5,12 +5,12 @@ use Rattle.mesh_defs.specs.HeightField.{HeightField}
 use Rattle.roam_edge.specs.Shelf.{NamedFile, bytes_of}
 use Rattle.run_laws.specs.declared.status.Status.{Status}
 use Rattle.run_laws.specs.declared.status.Status.TheVariants.{Done, NoMemory, WriteFault}
-use Rattle.word_laws.specs.Words.{Scripted, command_of}
+use Rattle.word_laws.specs.Words.{Scripted, Frames, command_of}
 use Rattle.run_laws.specs.Act.{ReportText}
 use Rattle.run_laws.specs.Cause.{StatusHasCause}
 use Rattle.run_laws.specs.Outcome.{EngineEnd, Outcome, IsOutcome, HasOneOutcome}
 use Rattle.run_laws.specs.Promise.{AreFiles, EndsRight, IsAccepted, is_complete}
-use Rattle.run_laws.specs.Headline.{IsScriptRunOf}
+use Rattle.run_laws.specs.Headline.{IsRunOf}
 use Rattle.run_laws.specs.CutShort.{is_by_frame, StandsInText, LeavesAtWriteFault}
 use Rattle.run_laws.specs.Moment.{Moment}
 use Rattle.run_laws.specs.Statement.{EndsByStatus, IsCaused}
@@ -38,7 +38,7 @@ RunFaultFollows =
     (files : List NamedFile)
     (s : Scripted) (grid : HeightField) → EndsByStatus before now words status left
     → before.shelf.files ≡ Some files → status ≡ WriteFault
-    → IsScriptRunOf words files s grid → IsTrue (is_by_frame s.show)
+    → IsRunOf words files (Frames s) grid → IsTrue (is_by_frame s.show)
     → LeavesAtWriteFault before.sinks now.sinks s grid (bytes_of files s.script)
 
 -- where a write failed and all that was owed is one text, a prefix of it stands

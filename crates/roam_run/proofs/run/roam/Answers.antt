@@ -10,8 +10,8 @@ returns-clause-best g c =
     let run = c.run_of_words in
     let line : List (List ℕ) = map string_bytes c.args.words.now in
     record {
-      of_script = λ files all s grid told_files told_meshes is_run.
-          c.run_laws.ensures.headline line files s grid _ _ _ _ all _ is_run told_files told_meshes
+      of_script = λ files all s grid told_files told_meshes is_run shown.
+          c.run_laws.ensures.headline line files s grid _ _ _ _ all _ is_run shown told_files told_meshes
           (run.ensures.outcome files (λ some. told_files)) run.ensures.read_fault run.ensures.no_memory;
       of_fit = λ files all f grid told_files told_meshes is_run.
           c.fitting_laws.ensures.fitted line files f grid _ _ _ _ all _ is_run told_meshes

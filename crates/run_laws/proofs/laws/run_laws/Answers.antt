@@ -22,9 +22,9 @@ pub returns-clause-certificate : goal.returns-clause-certificate
 returns-clause-certificate c = outcome-certified c.state_laws.ensures.budgets (pictures-certified c.falling_laws.ensures c.frame_laws.ensures.unblocked c.frame_laws.ensures.certificate)
 
 pub returns-clause-headline : goal.returns-clause-headline
-returns-clause-headline c words files s grid before now old new all status run told there =
+returns-clause-headline c words files s grid before now old new all status run shown told there =
     run-keeps (record { of_budget = frame-best c.falling_laws.ensures c.frame_laws.ensures.best; of_tolerance = frame-least c.falling_laws.ensures }) c.state_laws.ensures.budgets c.grids_and_texts.ensures.texts words files s grid
-    run before now old new all told there status
+    run shown before now old new all told there status
 
 pub returns-clause-certified : goal.returns-clause-certified
 returns-clause-certified c words files check grid before now old new status is ends done =
