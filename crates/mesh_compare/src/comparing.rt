@@ -1,4 +1,4 @@
-//! Comparing a file with the text of a certificate's mesh.
+//! Comparing a file with the text of a mesh.
 
 ghost use Rattle.std.specs.Prelude.{◌≡◌, ℕ, ◌+◌, ◌*◌, ◌^◌, ◌<◌, ◌≤◌, [], List, None, Some, Err, true, false, All, length, IfOk, OnErr};
 ghost use Rattle.mesh_defs.specs.HeightField.{side_of};
@@ -14,7 +14,7 @@ ghost use Rattle.mesh_compare.specs.declared.comparing.CompareFault.{CompareFaul
 use crate::piece::match_piece;
 use crate::window::Window;
 use arrayvec::ArrayVec;
-use cert_text::Cert;
+use bintree_addr::Tri;
 use cull_marks::Planes;
 use obj_write::{LONGEST_PIECE, MeshLines, MeshView, VertexTable};
 use roam_edge::{Failed, NoMemory, Shelf};
@@ -33,7 +33,7 @@ pub enum CompareFault {
     Failed,
 }
 
-/// Compares what is left of a file with the text of a certificate's mesh without view planes.
+/// Compares what is left of a file with the text of the mesh of these triangles, without view planes.
 ///
 /// The answer is the first place, counted from 0, where they differ or where only one goes on, and none where they
 /// are equal. The file is read in pieces of 64 KiB at most, to its end or to the end of the piece with that place.
@@ -41,16 +41,17 @@ pub enum CompareFault {
 pub fn compare<F: Shelf>(
     alloc: Global,
     w: &Wedges,
-    cert: &Cert,
+    leaves: &[Tri],
     spacing: u32,
     shelf: &mut F,
 ) -> Result<Option<u64>, CompareFault>
-    requires levels { All (λ a. level_of a ≤ 2 * w.now.n) cert.now.leaves }
+    requires levels { All (λ a. level_of a ≤ 2 * w.now.n) leaves.now }
+    requires few { length leaves.now < 2 ^ 31 }
     requires spacing_low { 1 ≤ spacing }
     requires spacing_high { spacing ≤ GREATEST_SPACING }
     requires not_ended { F.ended shelf.old ≡ false }
     ensures place { IfOk result (λ found. FindsDifference
-        (mesh_text w.now.n w.now.heights spacing [] cert.now.leaves) (F.rest shelf.old) found) }
+        (mesh_text w.now.n w.now.heights spacing [] leaves.now) (F.rest shelf.old) found) }
     ensures ended { IfOk result (λ found. found ≡ None → F.ended shelf.new ≡ true) }
     ensures all_read { IfOk result (λ found. found ≡ None → (rest : List ℕ) → F.rest shelf.old ≡ Some rest →
         F.rest shelf.new ≡ Some []) }
@@ -58,7 +59,7 @@ pub fn compare<F: Shelf>(
     ensures failed { result ≡ Err CompareFault.Failed → Rose (F.faults shelf.old) (F.faults shelf.new) }
     // What was read before a failed read is a prefix of the text.
     ensures cut { result ≡ Err CompareFault.Failed → IsCutShort
-        (mesh_text w.now.n w.now.heights spacing [] cert.now.leaves) (F.rest shelf.old) (F.rest shelf.new) }
+        (mesh_text w.now.n w.now.heights spacing [] leaves.now) (F.rest shelf.old) (F.rest shelf.new) }
     ensures goes_on { result ≡ Err CompareFault.Failed → F.ended shelf.new ≡ false }
     ensures no_memory { result ≡ Err CompareFault.NoMemory → shelf.new ≡ shelf.old }
     ensures told { StaysTold (F.rest shelf.old) (F.rest shelf.new) }
@@ -70,11 +71,11 @@ pub fn compare<F: Shelf>(
     let Ok((mut window, mut numbers)) = room(alloc, n) else {
         return Err(CompareFault::NoMemory);
     };
-    numbers.number(cert.leaves(), n);
+    numbers.number(leaves, n);
     let planes = Planes::none();
     let lines = MeshLines::new(MeshView {
         wedges: w,
-        leaves: cert.leaves(),
+        leaves,
         numbers: &numbers,
         spacing,
         planes: &planes,

@@ -8,7 +8,7 @@ use Rattle.bintree_laws.proofs.LevelLemmas.{level-le}
 use Rattle.roam_edge.specs.Shelf.{NamedFile, bytes_of}
 use Rattle.pgm_grid.specs.Progress.{grid_of}
 use Rattle.run_laws.specs.declared.status.Status.{Status}
-use Rattle.word_laws.specs.Words.{Checking, Check, OnGrid}
+use Rattle.word_laws.specs.Words.{Checking, Check, FitChecking, CheckFit, OnGrid}
 use Rattle.run_laws.specs.Act.{Told}
 use Rattle.run_laws.specs.Outcome.{text_outcome}
 use Rattle.run_laws.specs.Promise.{Seen, CommandReadFault, CommandNoMemory}
@@ -42,6 +42,10 @@ check-ends before now old new name c files grid judgement text middle end status
 same-check : (name other : List ℕ) (c check : Checking) → OnGrid name (Check c) ≡ OnGrid other (Check check) → c ≡ check
 same-check name other c check e = cc
 
+-- and none is a check of a fitted mesh
+not-fit : (name other : List ℕ) (c : Checking) (check : FitChecking) → OnGrid name (Check c) ≡ OnGrid other (CheckFit check) → ⊥
+not-fit name other c check e = cc
+
 -- the grid of one is that of the other
 same-found : (name other : List ℕ) (c check : Checking) (grid : HeightField) (files : List NamedFile) → OnGrid name (Check c) ≡ OnGrid other (Check check)
     → grid_of (bytes_of files name) ≡ Ok grid → grid_of (bytes_of files other) ≡ Ok grid
@@ -65,6 +69,7 @@ behind-memory before old new name c grid count opens low high found faultless = 
     same-found name other c check grid files e (found files told),
     λ three. (let P : Checking → Type 0 = λ d. IsFaultlessFile d grid files in subst P (same-check name other c check e) (faultless three files told)),
   );
+  fit_in_order = λ other check files e told two. absurd (not-fit name other c check e);
 }
 
 -- memory ran out behind the grid

@@ -208,7 +208,7 @@ fn difference<F: Shelf>(
     let Ok(()) = shelf.open_named(words.mesh) else {
         return Err(CheckStop::Failed);
     };
-    match compare(alloc, wedges, cert, words.spacing, shelf) {
+    match compare(alloc, wedges, cert.leaves(), words.spacing, shelf) {
         Ok(place) => Ok(place),
         Err(CompareFault::NoMemory) => Err(CheckStop::NoMemory),
         Err(CompareFault::Failed) => Err(CheckStop::Failed),

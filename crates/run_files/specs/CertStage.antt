@@ -1,11 +1,12 @@
 -- How far a certificate was read, and what the calls do that read it.
--- Words: place_seen, IsCounted, TakesCert, EndsCert.
-use Rattle.std.specs.Prelude.{◌≡◌, ℕ, ◌≤◌, List, ◌++◌, length, None, Result, Ok, Err, OnOk, IfOk}
+-- Words: place_seen, IsCounted, refuses, TakesCert, EndsCert.
+use Rattle.std.specs.Prelude.{◌≡◌, ℕ, ◌≤◌, List, length, None, Result}
 use Rattle.roam_script.specs.declared.limits.TheConstants.{MOST_LINE_BYTES}
 use Rattle.cert_text.specs.Certificate.{Certificate}
 use Rattle.cert_text.specs.Laws.{line_count}
 use Rattle.cert_text.specs.declared.limits.TheConstants.{MOST_LEAVES, MOST_REASONS}
-use Rattle.run_laws.specs.CertFile.{CertPlace, HasCertCome, cert_in}
+use Rattle.cert_text.specs.CertReader.{nothing_read, cert_line_in}
+use Rattle.run_laws.specs.CertFile.{CertPlace, cert_in, TakesLines, EndsLines}
 use Rattle.run_files.specs.declared.cert_file.CertStage.{CertStage}
 use Rattle.run_files.specs.declared.cert_file.CertStop.{CertStop}
 use Rattle.run_files.specs.declared.cert_file.CertStop.TheVariants.{BadLine}
@@ -22,12 +23,14 @@ pub record IsCounted (stage : CertStage) : Type 0 where
   pub few_reasons : length stage.reader.read.reasons ≤ MOST_REASONS
   pub short : length stage.part.items ≤ MOST_LINE_BYTES
 
+-- the answer that tells a line that is refused
+abbrev pub refuses : ℕ → CertStop
+refuses line = BadLine line
+
 -- what taking bytes does, by its answer: a place was reached, or a line is refused, whatever follows
-pub record TakesCert {T : Type 0} (n : ℕ) (read : List ℕ) (stage : CertStage) (answer : Result T CertStop) : Type 0 where
-  pub ok : OnOk answer (HasCertCome n read (place_seen stage))
-  pub bad : (line : ℕ) → answer ≡ Err (BadLine line) → (more : List ℕ) → cert_in n (read ++ more) ≡ Err line
+abbrev pub TakesCert : {T : Type 0} → ℕ → List ℕ → CertStage → Result T CertStop → Type 0
+TakesCert n read stage answer = TakesLines (cert_line_in n) nothing_read (cert_in n) refuses read (place_seen stage) answer
 
 -- what the end of a file comes to, by the answer
-pub record EndsCert (n : ℕ) (file : List ℕ) (answer : Result Certificate CertStop) : Type 0 where
-  pub ok : IfOk answer (λ cert. cert_in n file ≡ Ok cert)
-  pub bad : (line : ℕ) → answer ≡ Err (BadLine line) → cert_in n file ≡ Err line
+abbrev pub EndsCert : ℕ → List ℕ → Result Certificate CertStop → Type 0
+EndsCert n file answer = EndsLines (cert_in n) refuses file answer

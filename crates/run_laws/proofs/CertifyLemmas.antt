@@ -32,7 +32,7 @@ use Rattle.run_laws.proofs.PictureLemmas.{no-members, BudgetFramesAreBest}
 abbrev pub IsOneText : Outcome → Type 0
 IsOneText end = (bytes : List ℕ) × (status : Status) × (files : ℕ) × (end ≡ text_outcome bytes status files)
 
-compared-text : (mesh text line : List ℕ) (end : Outcome) → IsCompared mesh text line end → IsOneText end
+pub compared-text : (mesh text line : List ℕ) (end : Outcome) → IsCompared mesh text line end → IsOneText end
 compared-text mesh text line end (inl same) = (line, Done, 3, same.1)
 compared-text mesh text line end (inr differs) = (rejection (MeshDiffers differs.0), Rejected, 3, differs.2)
 
@@ -51,7 +51,7 @@ make-text m grid end is = (cert_text is.0, Done, 1, is.2)
 
 -- a check has one outcome
 
-compared-unique : (mesh text line : List ℕ) (end other : Outcome) → IsCompared mesh text line end → IsCompared mesh text line other → end ≡ other
+pub compared-unique : (mesh text line : List ℕ) (end other : Outcome) → IsCompared mesh text line end → IsCompared mesh text line other → end ≡ other
 compared-unique mesh text line end other (inl f) (inl g) = f.1 ∙ sym g.1
 compared-unique mesh text line end other (inl f) (inr g) = absurd (difference-same mesh text g.0 g.1 f.0)
 compared-unique mesh text line end other (inr f) (inl g) = absurd (difference-same mesh text f.0 f.1 g.0)
@@ -75,7 +75,7 @@ check-unique c grid (Err line) mesh end other f g = f ∙ sym g
 
 -- and it has one
 
-compared-exists : (mesh text line : List ℕ) → (end : Outcome) × IsCompared mesh text line end
+pub compared-exists : (mesh text line : List ℕ) → (end : Outcome) × IsCompared mesh text line end
 compared-exists mesh text line = elim (same-or-different mesh text) [
   | inl same ↦ (text_outcome line Done 3, inl (same, refl))
   | inr one ↦ (text_outcome (rejection (MeshDiffers one.0)) Rejected 3, inr (one.0, one.1, refl))
@@ -134,7 +134,7 @@ module _ (c : Checking) (grid : HeightField) (cert : Certificate) (mesh : List �
 
 -- the mesh of a check that is done
 
-not-done : (end : Outcome) (bytes : List ℕ) (files : ℕ) → end ≡ text_outcome bytes Rejected files → end.status ≡ Done → ⊥
+pub not-done : (end : Outcome) (bytes : List ℕ) (files : ℕ) → end ≡ text_outcome bytes Rejected files → end.status ≡ Done → ⊥
 not-done end bytes files is done = differ (sym (ap (λ (o : Outcome). o.status) is) ∙ done)
   where
     differ : Rejected ≡ Done → ⊥

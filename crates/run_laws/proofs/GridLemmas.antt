@@ -12,7 +12,7 @@ use Rattle.pgm_grid.specs.Progress.{grid_of}
 use Rattle.run_laws.specs.declared.status.Status.{Status}
 use Rattle.run_laws.specs.declared.status.Status.TheVariants as ends
 use Rattle.run_laws.specs.Walk.{Walk, start_walk}
-use Rattle.word_laws.specs.Words.{Show, Scripted, Job, Frames, Facts, Command, OnGrid, Make, Check, Fit, names_of}
+use Rattle.word_laws.specs.Words.{Show, Scripted, Job, Frames, Facts, Command, OnGrid, Make, Check, Fit, FitChecking, MakeFit, CheckFit, names_of}
 use Rattle.run_laws.specs.Picture.{Picture}
 use Rattle.run_laws.specs.Act.{Act, Told, told, Stands}
 use Rattle.run_laws.specs.ReportText.{info_line, grid_refusal}
@@ -111,6 +111,8 @@ one-open Facts = omega arith
 one-open (Make m) = omega arith
 one-open (Check c) = omega arith
 one-open (Fit f) = omega arith
+one-open (MakeFit m) = omega arith
+one-open (CheckFit c) = omega arith
 
 -- memory ran out at the grid
 pub grid-memory : (before : Told) (old new : Seen) (name : List ℕ) (job : Job) → new.opens ≡ old.opens + 1
@@ -126,6 +128,7 @@ grid-memory before old new name job opened header = record {
       let P : List ℕ → Type 0 = λ l. HasReadHeader (bytes_of files l) new.rest in
       subst P (same-name name other job job' e) (header files told_files);
   in_order = λ other c files e told_files two. absurd (omega (arith, two));
+  fit_in_order = λ other c files e told_files two. absurd (omega (arith, two));
 }
 
 -- a run is complete only by a status that is

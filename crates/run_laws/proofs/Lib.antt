@@ -8,6 +8,7 @@ pub mod DifferenceLemmas
 pub mod CertifyLemmas
 pub mod CertFileLemmas
 pub mod FitLemmas
+pub mod FitCertifyLemmas
 pub mod OutcomeLemmas
 pub mod MadeLemmas
 pub mod HeadlineLemmas
@@ -17,6 +18,7 @@ pub mod CutShortLemmas
 pub mod FitRunLemmas
 pub mod ShownLemmas
 pub mod FileLemmas
+pub mod StageLemmas
 pub mod GridLemmas
 pub mod StatementLemmas
 mod GeneratedLemmas

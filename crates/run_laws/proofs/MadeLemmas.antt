@@ -1,5 +1,5 @@
 -- A certificate that is made is read back from its text, and a check of its mesh accepts it.
-use Rattle.std.proofs.Common.{◌≡◌, ◌≢◌, ℕ, ◌+◌, ◌≤◌, List, [], ◌∷◌, ◌++◌, Option, Some, None, Result, Ok, Err, refl, sym, ◌∙◌, ap, subst, arith, append_assoc, ◌^◌}
+use Rattle.std.proofs.Common.{◌≡◌, ◌≢◌, ℕ, ◌+◌, ◌≤◌, true, List, [], ◌∷◌, ◌++◌, Option, Some, None, Result, Ok, Err, refl, sym, ◌∙◌, ap, subst, arith, append_assoc, ◌^◌}
 use Rattle.std.specs.Prelude.{unsigned_abs}
 use Rattle.std.specs.List.{AllByRecursion, flat_map}
 use Rattle.std.proofs.lemmas.List.Elements.{recursion_from_All, All-from_recursion}
@@ -11,19 +11,25 @@ use Rattle.mesh_defs.specs.Priority.{worst_of}
 use Rattle.mesh_defs.specs.State.{State, priority_in, text_in}
 use Rattle.certificate_laws.specs.declared.reason.Reason.{Reason}
 use Rattle.certificate_laws.specs.Certificate.{AreReasons, IsSound}
+use Rattle.page_laws.specs.Lines.{IsOneLine, lines_from}
 use Rattle.cert_text.specs.Certificate.{Certificate}
 use Rattle.cert_text.specs.CertReader.{ReadSoFar, read_so_far, nothing_read, cert_line_in}
 use Rattle.cert_text.specs.CertText.{cert_text, cert_lines}
-use Rattle.cert_text.specs.Laws.{IsCertificateOf, lines_read, WrittenLinesAreRead, WrittenLinesAreEnded, IsOneLine, WrittenLinesAreLines}
+use Rattle.cert_text.specs.Laws.{IsCertificateOf, lines_read, WrittenLinesAreRead, WrittenLinesAreEnded, WrittenLinesAreLines}
+use Rattle.fit_certificate_laws.specs.Certificate.{FitCertificate}
+use Rattle.fit_cert_text.specs.FitCertReader.{fit_line_in}
+use Rattle.fit_cert_text.specs.FitCertReader as fit
+use Rattle.fit_cert_text.specs.FitCertText.{fit_cert_text, fit_cert_lines}
+use Rattle.fit_cert_text.specs.Laws as fit_text
 use Rattle.roam_edge.specs.Shelf.{NamedFile, bytes_of}
 use Rattle.run_laws.specs.Walk.{lines_of}
 use Rattle.word_laws.specs.Words.{Making, Checking}
-use Rattle.run_laws.specs.CertFile.{said_behind, cert_in}
+use Rattle.run_laws.specs.CertFile.{lines_behind, said_behind, cert_of, cert_in, fit_cert_of, fit_cert_in}
 use Rattle.run_laws.specs.Certify.{seen_from, makes_at, IsMade, IsFaultless}
 use Rattle.run_laws.specs.Promise.{IsAcceptedCheck}
 use Rattle.run_laws.proofs.LineLemmas.{lines_of-ends}
 use Rattle.run_laws.proofs.OutcomeLemmas.{IsWithinReach}
-use Rattle.run_laws.proofs.CertFileLemmas.{cert_in-said}
+use Rattle.run_laws.proofs.CertFileLemmas.{file-said, cert-format, fit-format}
 
 -- lines that are ended are cut into these lines again
 lines_of-lines : (lines : List (List ℕ)) → AllByRecursion IsOneLine lines → lines_of (flat_map (λ line. line ++ 10 ∷ []) lines) ≡ lines
@@ -34,18 +40,30 @@ lines_of-lines (line ∷ lines) one =
     ∙ ap (λ (l : List (List ℕ)). line ∷ l) (lines_of-lines lines one.1))
 
 -- lines that may all stand are read
-read-said : (n number : ℕ) (said last : ReadSoFar) (lines : List (List ℕ)) → lines_read n said lines ≡ Some last → said_behind n number said lines ≡ Ok last
-read-said n number said last [] is = of-some said is
+read-said : {S : Type 0} (step : S → List ℕ → Option S) (number : ℕ) (said last : S) (lines : List (List ℕ)) → lines_from step said lines ≡ Some last
+    → lines_behind step number said lines ≡ Ok last
+read-said {S = S} step number said last [] is = of-some said is
   where
-    of-some : (s : ReadSoFar) → Some s ≡ Some last → let answer : Result ReadSoFar ℕ = Ok s in answer ≡ Ok last
+    of-some : (s : S) → Some s ≡ Some last → let answer : Result S ℕ = Ok s in answer ≡ Ok last
     of-some s e = cc
-read-said n number said last (bytes ∷ lines) is = go (cert_line_in n said bytes) (λ next e. read-said n (number + 1) next last lines e) is
+read-said {S = S} step number said last (bytes ∷ lines) is = go (step said bytes) (λ next e. read-said step (number + 1) next last lines e) is
   where
-    go : (answer : Option ReadSoFar) → ((next : ReadSoFar) → lines_read n next lines ≡ Some last → said_behind n (number + 1) next lines ≡ Ok last)
-        → (elim answer as (λ _. Option ReadSoFar) [ None ↦ None | Some next ↦ lines_read n next lines ]) ≡ Some last
-        → (elim answer as (λ _. Result ReadSoFar ℕ) [ None ↦ Err number | Some next ↦ said_behind n (number + 1) next lines ]) ≡ Ok last
+    go : (answer : Option S) → ((next : S) → lines_from step next lines ≡ Some last → lines_behind step (number + 1) next lines ≡ Ok last)
+        → (elim answer as (λ _. Option S) [ None ↦ None | Some next ↦ lines_from step next lines ]) ≡ Some last
+        → (elim answer as (λ _. Result S ℕ) [ None ↦ Err number | Some next ↦ lines_behind step (number + 1) next lines ]) ≡ Ok last
     go None rest e = absurd (none-some last e)
     go (Some next) rest e = rest next e
+
+-- the lines of a certificate are read one behind the other
+lines-one : (n : ℕ) (said : ReadSoFar) (lines : List (List ℕ)) → lines_from (cert_line_in n) said lines ≡ lines_read n said lines
+lines-one n said [] = refl
+lines-one n said (bytes ∷ lines) = go (cert_line_in n said bytes) (λ next. lines-one n next lines)
+  where
+    go : (answer : Option ReadSoFar) → ((next : ReadSoFar) → lines_from (cert_line_in n) next lines ≡ lines_read n next lines)
+        → (elim answer as (λ _. Option ReadSoFar) [ None ↦ None | Some next ↦ lines_from (cert_line_in n) next lines ])
+        ≡ (elim answer as (λ _. Option ReadSoFar) [ None ↦ None | Some next ↦ lines_read n next lines ])
+    go None rest = refl
+    go (Some next) rest = rest next
 
 -- the triangles of reasons may be split
 reasons-may : (n worst : ℕ) (priority : ℕ → ℕ) (before reasons : List Reason) → AreReasons n priority worst before reasons
@@ -53,15 +71,27 @@ reasons-may : (n worst : ℕ) (priority : ℕ → ℕ) (before reasons : List Re
 reasons-may n worst priority before [] are = tt
 reasons-may n worst priority before (r ∷ reasons) are = (are.0.splittable, reasons-may n worst priority (before ++ r ∷ []) reasons are.1)
 
+-- a certificate of a fitted mesh is read back from its text
+pub fit-back : fit_text.WrittenLinesAreRead → fit_text.WrittenLinesAreEnded → fit_text.WrittenLinesAreLines
+    → (n : ℕ) (cert : FitCertificate) → fit_text.IsCertificateOf n cert → fit_cert_in n (fit_cert_text cert) ≡ Ok cert
+fit-back read ended whole n cert is =
+    let all : fit.ReadSoFar = fit.read_so_far (Some cert.tolerance) true cert.needed cert.beyond in
+    let step : fit.ReadSoFar → List ℕ → Option fit.ReadSoFar = fit_line_in n in
+    file-said step fit.nothing_read fit_cert_of (fit_cert_in n) (fit-format n) (fit_cert_text cert) (Ok all)
+    (ap (λ (l : List ℕ). lines_behind step 1 fit.nothing_read (lines_of l)) (ended cert)
+    ∙ (ap (λ (l : List (List ℕ)). lines_behind step 1 fit.nothing_read l)
+    (lines_of-lines (fit_cert_lines cert) (recursion_from_All IsOneLine (fit_cert_lines cert) (whole n cert is)))
+    ∙ read-said step 1 fit.nothing_read all (fit_cert_lines cert) (read n cert is)))
+
 module _ (read : WrittenLinesAreRead) (ended : WrittenLinesAreEnded) (whole : WrittenLinesAreLines) where
   -- a certificate of the grid is read back from its text
   pub cert-back : (n : ℕ) (cert : Certificate) → IsCertificateOf n cert → cert_in n (cert_text cert) ≡ Ok cert
   cert-back n cert is =
       let all : ReadSoFar = read_so_far (Some cert.camera) cert.leaves cert.reasons in
-      cert_in-said n (cert_text cert) (Ok all)
+      file-said (cert_line_in n) nothing_read cert_of (cert_in n) (cert-format n) (cert_text cert) (Ok all)
       (ap (λ (l : List ℕ). said_behind n 1 nothing_read (lines_of l)) (ended cert)
       ∙ (ap (λ (l : List (List ℕ)). said_behind n 1 nothing_read l) (lines_of-lines (cert_lines cert) (recursion_from_All IsOneLine (cert_lines cert) (whole n cert is)))
-      ∙ read-said n 1 nothing_read all (cert_lines cert) (read n cert is)))
+      ∙ read-said (cert_line_in n) 1 nothing_read all (cert_lines cert) (lines-one n nothing_read (cert_lines cert) ∙ read n cert is)))
 
   module _ (m : Making) (grid : HeightField) (cert : Certificate) (range : (1 ≤ grid.n) × (grid.n ≤ 11)) (near : IsWithinReach m) (made : IsMade m grid cert) where
     abbrev state : State

@@ -19,16 +19,18 @@ use Rattle.cert_text.specs.Certificate.{Certificate}
 use Rattle.roam_gen.specs.Generated.{made_grid, made_lines}
 use Rattle.run_laws.specs.declared.status.Status.TheVariants.{Done, Usage, GridRefused}
 use Rattle.run_laws.specs.Walk.{Walk, start_walk}
-use Rattle.word_laws.specs.Words.{Show, AsMeshes, AsStrips, AsLeast, AsMeasures, AsSums, is_of_engine, Scripted, Making, Target, AtError, InBudget, Job, Frames, Facts, Make, Check, Fit, Command, OnGrid, Generated, greatest_level, greatest_seed, number_word, try_command, within, least_budget, greatest_budget, is_coordinate, budget_word, spacing_word, tolerance_word, is_prefix, in_reach, coordinate_word, camera_word, frames_command, least_command, meshes_command, make_command, check_command, error_word, target_word, fit_command, fit_words, command_of}
-use Rattle.run_laws.specs.CertFile.{cert_in}
+use Rattle.word_laws.specs.Words.{Show, AsMeshes, AsStrips, AsLeast, AsMeasures, AsSums, is_of_engine, Scripted, Making, Target, AtError, InBudget, Job, Frames, Facts, Make, Check, Fit, MakeFit, CheckFit, fit_make_command, fit_check_command, Command, OnGrid, Generated, greatest_level, greatest_seed, number_word, try_command, within, least_budget, greatest_budget, is_coordinate, budget_word, spacing_word, tolerance_word, is_prefix, in_reach, coordinate_word, camera_word, frames_command, least_command, meshes_command, make_command, check_command, error_word, target_word, fit_command, fit_words, command_of}
+use Rattle.fit_certificate_laws.specs.Certificate.{FitCertificate}
+use Rattle.run_laws.specs.CertFile.{cert_in, fit_cert_in}
 use Rattle.run_laws.specs.Picture.{Picture, ArePictures, IsCertified}
 use Rattle.run_laws.specs.ReportText.{info_line, grid_refusal}
-use Rattle.run_laws.specs.Outcome.{Outcome, plain_outcome, text_outcome, stop_status, engine_for, frames_outcome, script_walk, made_budget, made_spacing, made_walk, HasOneOutcome, IsFramesOutcome, IsScriptOutcome, IsCheckOutcome, IsJobOutcome, IsGridOutcome, IsCommandOutcome, IsWordsOutcome, IsOutcome}
+use Rattle.run_laws.specs.Outcome.{Outcome, plain_outcome, text_outcome, stop_status, engine_for, frames_outcome, script_walk, made_budget, made_spacing, made_walk, HasOneOutcome, IsFramesOutcome, IsScriptOutcome, IsCheckOutcome, IsFitCheckOutcome, IsJobOutcome, IsGridOutcome, IsCommandOutcome, IsWordsOutcome, IsOutcome}
 use Rattle.run_laws.specs.Promise.{IsAcceptedJob, IsAcceptedInput, IsAccepted}
 use Rattle.run_laws.specs.Laws.{FramesExist, RunsAreUnique, LevelsAreInRange, AreStates, BudgetsAreTwo}
 use Rattle.run_laws.proofs.PictureLemmas.{FramesAreUnique, SetsAreLists, ArePictures-unique, pictures_of, no-members}
 use Rattle.run_laws.proofs.CertifyLemmas.{IsOneText, make-text, check-text, check-unique, check-exists, check-done, CertificatesExist, make-exists}
 use Rattle.run_laws.proofs.FitLemmas.{TakesTwo, fit-unique, fit-exists}
+use Rattle.run_laws.proofs.FitCertifyLemmas.{fit_make-text, fit_check-text, fit_check-unique, fit_check-exists, fit_check-done, fit_make-exists}
 use Rattle.run_laws.proofs.WalkLemmas.{walk_of-states, made-states, along-stop}
 
 -- what is accepted ends with Done
@@ -44,6 +46,10 @@ job-done (Check c) grid files end good is =
     let P : Result Certificate ℕ → Type 0 = λ r. IsCheckOutcome c grid r (bytes_of files c.mesh) end in
     check-done c grid good.0 (bytes_of files c.mesh) end good.2 good.3 (subst P good.1 is)
 job-done (Fit f) grid files end good is = status-of end _ is.2
+job-done (MakeFit m) grid files end good is = status-of end _ is.2
+job-done (CheckFit c) grid files end good is =
+    let P : Result FitCertificate ℕ → Type 0 = λ r. IsFitCheckOutcome c grid r (bytes_of files c.mesh) end in
+    fit_check-done c grid good.0 good.1 (bytes_of files c.mesh) end good.3 good.4 (subst P good.2 is)
 
 command-done : TextsAreRead → (command : Command) (files : List NamedFile) (end : Outcome) → IsAcceptedInput command files → IsCommandOutcome command files end → end.status ≡ Done
 command-done read (OnGrid name job) files end good is =
@@ -76,11 +82,16 @@ job-unique one lists runs (Make m) (Ok grid) files end other free f g = absurd f
 job-unique one lists runs (Check c) (Ok grid) files end other free f g =
     check-unique c grid (cert_in grid.n (bytes_of files c.certificate)) (bytes_of files c.mesh) end other f g
 job-unique one lists runs (Fit job) (Ok grid) files end other free f g = fit-unique job grid end other f g
+job-unique one lists runs (MakeFit m) (Ok grid) files end other free f g = absurd free
+job-unique one lists runs (CheckFit c) (Ok grid) files end other free f g =
+    fit_check-unique c grid (fit_cert_in grid.n (bytes_of files c.certificate)) (bytes_of files c.mesh) end other f g
 job-unique one lists runs (Frames s) (Err fault) files end other free f g = f ∙ sym g
 job-unique one lists runs Facts (Err fault) files end other free f g = f ∙ sym g
 job-unique one lists runs (Make m) (Err fault) files end other free f g = f ∙ sym g
 job-unique one lists runs (Check c) (Err fault) files end other free f g = f ∙ sym g
 job-unique one lists runs (Fit job) (Err fault) files end other free f g = f ∙ sym g
+job-unique one lists runs (MakeFit m) (Err fault) files end other free f g = f ∙ sym g
+job-unique one lists runs (CheckFit c) (Err fault) files end other free f g = f ∙ sym g
 
 words-unique : FramesAreUnique → SetsAreLists → RunsAreUnique → (command : Option Command) (files : List NamedFile) (end other : Outcome)
     → HasOneOutcome command → IsWordsOutcome command files end → IsWordsOutcome command files other → end ≡ other
@@ -106,6 +117,9 @@ job-engine one lists runs (Make m) (Ok grid) files end other f g = engine-of end
 job-engine one lists runs (Make m) (Err fault) files end other f g = engine-of end other (f ∙ sym g)
 job-engine one lists runs (Check c) r files end other f g = engine-of end other (job-unique one lists runs (Check c) r files end other tt f g)
 job-engine one lists runs (Fit job) r files end other f g = engine-of end other (job-unique one lists runs (Fit job) r files end other tt f g)
+job-engine one lists runs (MakeFit m) (Ok grid) files end other f g = engine-of end _ f.2 ∙ sym (engine-of other _ g.2)
+job-engine one lists runs (MakeFit m) (Err fault) files end other f g = engine-of end other (f ∙ sym g)
+job-engine one lists runs (CheckFit c) r files end other f g = engine-of end other (job-unique one lists runs (CheckFit c) r files end other tt f g)
 
 words-engine : FramesAreUnique → SetsAreLists → RunsAreUnique → (command : Option Command) (files : List NamedFile) (end other : Outcome)
     → IsWordsOutcome command files end → IsWordsOutcome command files other → end.engine ≡ other.engine
@@ -177,6 +191,8 @@ HasBudget Facts = Unit {0}
 HasBudget (Make m) = IsWithinReach m
 HasBudget (Check c) = Unit {0}
 HasBudget (Fit f) = TakesTwo f.target
+HasBudget (MakeFit m) = TakesTwo m.target
+HasBudget (CheckFit c) = Unit {0}
 
 abbrev CommandHasBudget : Command → Type 0
 CommandHasBudget (OnGrid name job) = HasBudget job
@@ -309,6 +325,22 @@ fit_words-budget i j k l m command is =
     fit_command-budget i j target (spacing_word m) command (λ t found. target-two k l t found)
     (met (is_prefix j) (fit_command i j target (spacing_word m)) command is)
 
+fit_make_command-budget : (i : List ℕ) (target : Option Target) (spacing : Option ℕ) (command : Command) → ((t : Target) → target ≡ Some t → TakesTwo t)
+    → fit_make_command i target spacing ≡ Some command → CommandHasBudget command
+fit_make_command-budget i None spacing command two is = absurd (none-some command is)
+fit_make_command-budget i (Some target) None command two is = absurd (none-some command is)
+fit_make_command-budget i (Some target) (Some spacing) command two is =
+    let P : Option Command → Type 0 = λ c. IfSome c CommandHasBudget in
+    subst P is (two target refl)
+
+fit_check_command-budget : (i j k : List ℕ) (target : Option Target) (spacing : Option ℕ) (command : Command)
+    → fit_check_command i j k target spacing ≡ Some command → CommandHasBudget command
+fit_check_command-budget i j k None spacing command is = absurd (none-some command is)
+fit_check_command-budget i j k (Some target) None command is = absurd (none-some command is)
+fit_check_command-budget i j k (Some target) (Some spacing) command is =
+    let P : Option Command → Type 0 = λ c. IfSome c CommandHasBudget in
+    subst P is tt
+
 words-budget : (words : List (List ℕ)) (command : Command) → command_of words ≡ Some command → CommandHasBudget command
 words-budget [] command is = absurd (none-some command is)
 words-budget (word ∷ []) command is = absurd (none-some command is)
@@ -326,18 +358,31 @@ words-budget (word ∷ (i ∷ (j ∷ (k ∷ (l ∷ []))))) command is =
 words-budget (word ∷ (i ∷ (j ∷ (k ∷ (l ∷ (m ∷ [])))))) command is =
     let meshes : Option Command = meshes_command word i j k l m in
     let behind : Option Command = if is_prefix k then meshes else None in
-    elim (either (bytes_eq word (codes "fit")) (fit_words i j k l m) behind command is) [
+    let target : Option Target = target_word k l in
+    let makes : Bool = bytes_eq word (codes "certify") && bytes_eq i (codes "make-fit") in
+    let made : Option Command = fit_make_command j target (spacing_word m) in
+    elim (either (bytes_eq word (codes "fit")) (fit_words i j k l m) (if makes then made else behind) command is) [
       | inl p ↦ fit_words-budget i j k l m command p
-      | inr p ↦ meshes_command-budget word i j k l m command (met (is_prefix k) meshes command p)
+      | inr p ↦ elim (either makes made behind command p) [
+        | inl q ↦ fit_make_command-budget j target (spacing_word m) command (λ t found. target-two k l t found) q
+        | inr q ↦ meshes_command-budget word i j k l m command (met (is_prefix k) meshes command q)
+      ]
     ]
 words-budget (word ∷ (i ∷ (j ∷ (k ∷ (l ∷ (m ∷ (o ∷ []))))))) command is =
     check_command-budget j k l (budget_word m) (spacing_word o) command
     (met (bytes_eq word (codes "certify") && bytes_eq i (codes "check")) (check_command j k l (budget_word m) (spacing_word o)) command is)
 words-budget (word ∷ (i ∷ (j ∷ (k ∷ (l ∷ (m ∷ (o ∷ (p ∷ [])))))))) command is =
     let place : Option CameraAt = camera_word (coordinate_word k) (coordinate_word l) (coordinate_word m) in
-    make_command-budget j (coordinate_word k) (coordinate_word l) (coordinate_word m) (budget_word o) (spacing_word p) command
-    (in_reach-near (signed_in k)) (in_reach-near (signed_in l)) (in_reach-near (signed_in m)) (λ number found. within-range least_budget greatest_budget number (number_in 19 o) found)
-    (met (bytes_eq word (codes "certify") && bytes_eq i (codes "make")) (make_command j place (budget_word o) (spacing_word p)) command is)
+    let target : Option Target = target_word m o in
+    let checks : Bool = bytes_eq word (codes "certify") && bytes_eq i (codes "check-fit") in
+    let checked : Option Command = fit_check_command j k l target (spacing_word p) in
+    elim (either (bytes_eq word (codes "certify") && bytes_eq i (codes "make")) (make_command j place (budget_word o) (spacing_word p))
+    (if checks then checked else None) command is) [
+      | inl f ↦ make_command-budget j (coordinate_word k) (coordinate_word l) (coordinate_word m) (budget_word o) (spacing_word p) command
+          (in_reach-near (signed_in k)) (in_reach-near (signed_in l)) (in_reach-near (signed_in m))
+          (λ number found. within-range least_budget greatest_budget number (number_in 19 o) found) f
+      | inr f ↦ fit_check_command-budget j k l target (spacing_word p) command (met checks checked command f)
+    ]
 words-budget (word ∷ (i ∷ (j ∷ (k ∷ (l ∷ (m ∷ (o ∷ (p ∷ (more ∷ words))))))))) command is = absurd (none-some command is)
 
 -- the budget of a job of words is at least 2
@@ -394,11 +439,16 @@ job-exists two frames made Facts (Ok grid) files low range = (text_outcome (info
 job-exists two frames made (Make m) (Ok grid) files low range = make-exists made m grid (range grid refl) low.low
 job-exists two frames made (Check c) (Ok grid) files low range = check-exists c grid (cert_in grid.n (bytes_of files c.certificate)) (bytes_of files c.mesh)
 job-exists two frames made (Fit f) (Ok grid) files low range = fit-exists f grid low
+job-exists two frames made (MakeFit m) (Ok grid) files low range = fit_make-exists m grid low
+job-exists two frames made (CheckFit c) (Ok grid) files low range =
+    fit_check-exists c grid (fit_cert_in grid.n (bytes_of files c.certificate)) (bytes_of files c.mesh)
 job-exists two frames made (Frames s) (Err fault) files low range = (text_outcome (grid_refusal fault) GridRefused 1, refl)
 job-exists two frames made Facts (Err fault) files low range = (text_outcome (grid_refusal fault) GridRefused 1, refl)
 job-exists two frames made (Make m) (Err fault) files low range = (text_outcome (grid_refusal fault) GridRefused 1, refl)
 job-exists two frames made (Check c) (Err fault) files low range = (text_outcome (grid_refusal fault) GridRefused 1, refl)
 job-exists two frames made (Fit f) (Err fault) files low range = (text_outcome (grid_refusal fault) GridRefused 1, refl)
+job-exists two frames made (MakeFit m) (Err fault) files low range = (text_outcome (grid_refusal fault) GridRefused 1, refl)
+job-exists two frames made (CheckFit c) (Err fault) files low range = (text_outcome (grid_refusal fault) GridRefused 1, refl)
 
 words-exist : BudgetsAreTwo → FramesExist → CertificatesExist → LevelsAreInRange → (command : Option Command) (files : List NamedFile)
     → ((c : Command) → command ≡ Some c → CommandHasBudget c) → (end : Outcome) × IsWordsOutcome command files end
@@ -453,9 +503,14 @@ job-certified two one (Fit f) (Ok grid) files end low some is =
     subst P (sym is.2) tt
 job-certified two one (Frames s) (Err fault) files end low some is = text-certified end (refused-text fault end is)
 job-certified two one Facts (Err fault) files end low some is = text-certified end (refused-text fault end is)
+job-certified two one (MakeFit m) (Ok grid) files end low some is = text-certified end (fit_make-text m grid end is)
+job-certified two one (CheckFit c) (Ok grid) files end low some is =
+    text-certified end (fit_check-text c grid (fit_cert_in grid.n (bytes_of files c.certificate)) (bytes_of files c.mesh) end is)
 job-certified two one (Make m) (Err fault) files end low some is = text-certified end (refused-text fault end is)
 job-certified two one (Check c) (Err fault) files end low some is = text-certified end (refused-text fault end is)
 job-certified two one (Fit f) (Err fault) files end low some is = text-certified end (refused-text fault end is)
+job-certified two one (MakeFit m) (Err fault) files end low some is = text-certified end (refused-text fault end is)
+job-certified two one (CheckFit c) (Err fault) files end low some is = text-certified end (refused-text fault end is)
 
 words-certified : BudgetsAreTwo → MeshesAreCertified → (command : Option Command) (files : List NamedFile) (end : Outcome) → ((c : Command) → command ≡ Some c → CommandHasBudget c)
     → IsTrue (is_some end.engine) → IsWordsOutcome command files end → AllByRecursion IsCertified end.pictures

@@ -1,6 +1,6 @@
 -- Certificates as a run makes and checks them: over a grid as it was read, at a budget, a spacing and a camera, without planes.
 -- This project's own.
--- Words: seen_from, makes_at, checks_at, IsMade, IsFaultless, IsFirstDifference.
+-- Words: seen_from, makes_at, checks_at, IsMade, IsFaultless, IsFitMade, IsFitFaultless, IsFirstDifference.
 use Rattle.std.specs.Prelude.{◌≡◌, ◌≢◌, ℕ, ◌<◌, List, length, take, slice_get}
 use Rattle.mesh_defs.specs.HeightField.{HeightField}
 use Rattle.mesh_defs.specs.BoundingBox.{CameraAt}
@@ -8,7 +8,10 @@ use Rattle.mesh_defs.specs.BestMesh.{IsBestMesh}
 use Rattle.mesh_defs.specs.State.{State, start_state, with_camera, priority_in}
 use Rattle.certificate_laws.specs.Certificate.{IsSound}
 use Rattle.cert_text.specs.Certificate.{Certificate}
-use Rattle.word_laws.specs.Words.{Making, Checking}
+use Rattle.fit_certificate_laws.specs.Certificate.{FitCertificate}
+use Rattle.fit_certificate_laws.specs.Certificate as fits
+use Rattle.word_laws.specs.Words.{Making, Checking, FitMaking, FitChecking}
+use Rattle.run_laws.specs.Fit.{goal_of}
 
 -- the grid seen from a camera, before any line of a script
 abbrev pub seen_from : HeightField → ℕ → ℕ → CameraAt → State
@@ -33,6 +36,14 @@ pub record IsMade (m : Making) (grid : HeightField) (cert : Certificate) : Type 
 -- no part of the certificate fails
 abbrev pub IsFaultless : Checking → HeightField → Certificate → Type 0
 IsFaultless c grid cert = IsSound grid.n c.budget (priority_in (checks_at c grid cert.camera)) cert.leaves cert.reasons
+
+-- A certificate of a fitted mesh that may be made: a sound one for what the words say.
+abbrev pub IsFitMade : FitMaking → HeightField → FitCertificate → Type 0
+IsFitMade m grid cert = (triangles : List ℕ) × fits.IsSound grid.n grid.heights (goal_of grid.n m.target) cert triangles
+
+-- no part of it fails: it is a sound one of these triangles
+abbrev pub IsFitFaultless : FitChecking → HeightField → FitCertificate → List ℕ → Type 0
+IsFitFaultless c grid cert triangles = fits.IsSound grid.n grid.heights (goal_of grid.n c.target) cert triangles
 
 -- Two texts are the same up to this place, counted from 0, and there they differ, or only one goes on.
 pub record IsFirstDifference (these those : List ℕ) (at : ℕ) : Type 0 where

@@ -1,12 +1,14 @@
 -- What small texts of certificates are read as, and what some words are, worked by hand from the format.
--- Words: origin, wanted, base_certificate, and an example a word.
+-- Words: origin, wanted, base_certificate, off_middle, halves_certificate, and an example a word.
 use Rattle.std.specs.Prelude.{◌≡◌, ℕ, List, [], ◌∷◌, ◌++◌, replicate, Some, None, Result, Ok, Err, codes, pos, neg_ℤ}
 use Rattle.mesh_defs.specs.BoundingBox.{CameraAt}
 use Rattle.certificate_laws.specs.declared.reason.Reason.{Reason}
 use Rattle.certificate_laws.specs.declared.reason.Kind.TheVariants.{Want, Mate}
 use Rattle.cert_text.specs.Certificate.{Certificate}
-use Rattle.word_laws.specs.Words.{Make, Check, OnGrid, command_of}
-use Rattle.run_laws.specs.CertFile.{cert_in}
+use Rattle.fit_certificate_laws.specs.declared.reason.Off.{Off}
+use Rattle.fit_certificate_laws.specs.Certificate.{FitCertificate}
+use Rattle.word_laws.specs.Words.{Make, Check, AtError, InBudget, MakeFit, CheckFit, OnGrid, command_of}
+use Rattle.run_laws.specs.CertFile.{cert_in, fit_cert_in}
 
 abbrev pub origin : CameraAt
 origin = record { x = pos 0; y = pos 0; z = pos 0 }
@@ -46,3 +48,39 @@ WordsOfCertify =
     ≡ Some (OnGrid (codes "g") (Check (record { mesh = codes "m"; certificate = codes "c"; budget = 2; spacing = 1 }))))
     × (command_of (codes "certify" ∷ (codes "check" ∷ (codes "g" ∷ (codes "m" ∷ (codes "c" ∷ (codes "1" ∷ (codes "1" ∷ []))))))) ≡ None)
     × (command_of (codes "certify" ∷ (codes "look" ∷ (codes "g" ∷ (codes "m" ∷ (codes "c" ∷ (codes "2" ∷ (codes "1" ∷ []))))))) ≡ None)
+
+-- the lower half, off in the middle of nine points
+abbrev pub off_middle : Off
+off_middle = record { triangle = 2; x = 1; y = 1 }
+
+-- the two base triangles, with this tolerance and these reasons behind them
+abbrev pub halves_certificate : ℕ → List Off → Result FitCertificate ℕ
+halves_certificate own why = Ok (record { tolerance = own; needed = []; beyond = why })
+
+-- with and without an LF at the end, with CRs, blanks and TABs, and without a reason
+abbrev pub FitCertificatesAreRead : Type 0
+FitCertificatesAreRead =
+    (fit_cert_in 1 (codes "tolerance 20\nmesh\noff 2 1 1") ≡ halves_certificate 20 (off_middle ∷ []))
+    × (fit_cert_in 1 (codes "tolerance\t20 \r\n mesh\r\noff 2  1\t1\r\n") ≡ halves_certificate 20 (off_middle ∷ []))
+    × (fit_cert_in 1 (codes "tolerance 20\nmesh\n") ≡ halves_certificate 20 [])
+
+-- no line at all, no tolerance, a second one, a blank line, a reason before the tolerance, no line of the mesh, a second one, a triangle
+-- that may not be split, and a column past the grid
+abbrev pub FitCertificatesAreRefused : Type 0
+FitCertificatesAreRefused =
+    (fit_cert_in 1 [] ≡ Err 1) × (fit_cert_in 1 (codes "mesh\n") ≡ Err 1)
+    × (fit_cert_in 1 (codes "tolerance 20\ntolerance 20\n") ≡ Err 2) × (fit_cert_in 1 (codes "tolerance 20\n\nmesh\n") ≡ Err 2)
+    × (fit_cert_in 1 (codes "off 2 1 1\ntolerance 20\nmesh\n") ≡ Err 1) × (fit_cert_in 1 (codes "tolerance 20\noff 2 1 1\n") ≡ Err 3)
+    × (fit_cert_in 1 (codes "tolerance 20\nmesh\nmesh\n") ≡ Err 3) × (fit_cert_in 1 (codes "tolerance 20\nmesh\noff 8 1 1\n") ≡ Err 3)
+    × (fit_cert_in 1 (codes "tolerance 20\nmesh\noff 2 3 1\n") ≡ Err 3)
+
+-- an error with a point, a budget, and words that are none
+abbrev pub WordsOfCertifyFit : Type 0
+WordsOfCertifyFit =
+    (command_of (codes "certify" ∷ (codes "make-fit" ∷ (codes "g" ∷ (codes "error" ∷ (codes "2.5" ∷ (codes "1" ∷ []))))))
+    ≡ Some (OnGrid (codes "g") (MakeFit (record { target = AtError 2500; spacing = 1 }))))
+    × (command_of (codes "certify" ∷ (codes "check-fit" ∷ (codes "g" ∷ (codes "m" ∷ (codes "c" ∷ (codes "budget" ∷ (codes "2" ∷ (codes "1024" ∷ []))))))))
+    ≡ Some (OnGrid (codes "g") (CheckFit (record { mesh = codes "m"; certificate = codes "c"; target = InBudget 2; spacing = 1024 }))))
+    × (command_of (codes "certify" ∷ (codes "make-fit" ∷ (codes "g" ∷ (codes "budget" ∷ (codes "1" ∷ (codes "1" ∷ [])))))) ≡ None)
+    × (command_of (codes "certify" ∷ (codes "check-fit" ∷ (codes "g" ∷ (codes "m" ∷ (codes "c" ∷ (codes "error" ∷ (codes "65536" ∷ (codes "1" ∷ [])))))))) ≡ None)
+    × (command_of (codes "certify" ∷ (codes "check-fit" ∷ (codes "g" ∷ (codes "m" ∷ (codes "c" ∷ (codes "2" ∷ (codes "1" ∷ []))))))) ≡ None)

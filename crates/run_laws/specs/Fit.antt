@@ -1,6 +1,6 @@
 -- A mesh that is fitted to a height field, whatever it is seen from: the fewest triangles for an error, or the least error for a
 -- budget. This project's own form.
--- Words: tolerance_of, IsFitFor, IsFitted, IsFewestFor, IsClosestFor, IsBestFit, fit_text.
+-- Words: tolerance_of, goal_of, IsFitFor, IsFitted, IsFewestFor, IsClosestFor, IsBestFit, fit_text.
 use Rattle.std.specs.Prelude.{◌≡◌, ℕ, ◌*◌, ◌^◌, ◌/◌, ◌≤◌, List, [], length}
 use Rattle.mesh_defs.specs.HeightField.{HeightField}
 use Rattle.mesh_defs.specs.Tiling.{IsConforming}
@@ -11,12 +11,19 @@ use Rattle.deviation_laws.specs.PlaneHeight.{deviation_of}
 use Rattle.least_laws.specs.Least.{IsLeastMesh}
 use Rattle.fit_laws.specs.Error.{error_of}
 use Rattle.fit_laws.specs.Budget.{IsBudgetMesh}
+use Rattle.fit_certificate_laws.specs.declared.reason.Target.{Target as Goal}
+use Rattle.fit_certificate_laws.specs.declared.reason.Target.TheVariants as goal
 use Rattle.word_laws.specs.Words.{Target, AtError, InBudget}
 
 -- The tolerance of so many thousandths of a unit of height, in units of 2 ^ -n: errors are whole in these, so rounding down
 -- loses none.
 abbrev pub tolerance_of : (n thousandths : ℕ) → ℕ
 tolerance_of n thousandths = thousandths * 2 ^ n / 1000
+
+-- the target of a certificate of the mesh
+abbrev pub goal_of : ℕ → Target → Goal
+goal_of n (AtError thousandths) = goal.Error (tolerance_of n thousandths)
+goal_of n (InBudget budget) = goal.Budget budget
 
 -- the list is a least mesh for the error, or a mesh of the budget with the least greatest error
 abbrev pub IsFitFor : Target → HeightField → List ℕ → Type 0

@@ -1,7 +1,7 @@
 -- The headline: each frame's mesh is a best mesh within the budget in force, whatever the mesh before; or the least mesh of a
 -- tolerance. A mesh that is fitted is a best one for its error or its budget.
 -- Words: IsBestIn, IsBestStripIn, IsLeastIn, IsGoodText, IsGoodFrame, AreGoodFrames, IsScriptRunOf, IsRunOf, KeepsGoodMeshes,
--- IsCheckOf, IsCertifiedMesh, IsFitRunOf, IsFitMeshOf, AreFitMeshes, KeepsFitMesh.
+-- IsCheckOf, IsCertifiedMesh, IsFitCheckOf, IsCertifiedFit, IsFitRunOf, IsFitMeshOf, AreFitMeshes, KeepsFitMesh.
 use Rattle.std.specs.Prelude.{◌≡◌, ⊤, ℕ, ◌+◌, ◌≤◌, Bool, true, IsTrue, IsSome, List, [], ◌∷◌, ◌++◌, length, count_by, nat_eq, All, Contains, Option, Some}
 use Rattle.mesh_defs.specs.HeightField.{HeightField, IsHeightField}
 use Rattle.mesh_defs.specs.BestMesh.{IsBestMesh}
@@ -18,10 +18,11 @@ use Rattle.run_laws.specs.declared.status.Status.TheVariants.{Done}
 use Rattle.tiling_laws.specs.Ancestors.{AreLeaves}
 use Rattle.strip_laws.specs.Strip.{strip_of, IsRing}
 use Rattle.least_laws.specs.Least.{IsLeastMesh}
-use Rattle.word_laws.specs.Words.{Show, AsMeshes, AsStrips, AsLeast, AsMeasures, AsSums, Scripted, Checking, Fitting, Frames, Check, Fit, OnGrid, prefix_of, command_of}
-use Rattle.run_laws.specs.ReportText.{certified_line, fit_line}
+use Rattle.deviation_laws.specs.PlaneHeight.{deviation_of}
+use Rattle.word_laws.specs.Words.{Show, AsMeshes, AsStrips, AsLeast, AsMeasures, AsSums, Scripted, Checking, Fitting, FitChecking, Frames, Check, Fit, CheckFit, OnGrid, prefix_of, command_of}
+use Rattle.run_laws.specs.ReportText.{certified_line, fit_line, certified_fit_line}
 use Rattle.run_laws.specs.Certify.{checks_at}
-use Rattle.run_laws.specs.Fit.{IsBestFit, fit_text}
+use Rattle.run_laws.specs.Fit.{IsFitFor, IsBestFit, fit_text}
 use Rattle.run_laws.specs.Act.{Told}
 use Rattle.obj_write.specs.Written.{mesh_with, Grows}
 use Rattle.run_laws.specs.Outcome.{script_walk}
@@ -108,6 +109,22 @@ pub record IsCertifiedMesh (c : Checking) (grid : HeightField) (mesh line : List
   pub optimal : (others : List ℕ) → IsConforming grid.n others → length others ≤ c.budget
       → worst_of (priority_in (checks_at c grid camera)) triangles ≤ worst_of (priority_in (checks_at c grid camera)) others
   pub told : line ≡ certified_line camera (length triangles) (worst_of (priority_in (checks_at c grid camera)) triangles)
+
+-- The words are a check of a fitted mesh; the file of its grid is a text of this grid.
+pub record IsFitCheckOf (words : List (List ℕ)) (files : List NamedFile) (c : FitChecking) (grid : HeightField) : Type 0 where
+  pub grid_name : List ℕ
+  pub is_command : command_of words ≡ Some (OnGrid grid_name (CheckFit c))
+  pub valid : IsHeightField grid
+  pub file_text : IsFileText grid (bytes_of files grid_name)
+
+-- A fitted mesh was certified by this line of the report: its bytes are the text of a list that is a best one for the error or the
+-- budget of the words, whoever made it, and the line tells the number of triangles and how far the surface is from them.
+pub record IsCertifiedFit (c : FitChecking) (grid : HeightField) (mesh line : List ℕ) : Type 0 where
+  pub triangles : List ℕ
+  pub text : mesh ≡ fit_text c.spacing grid triangles
+  pub best : IsBestFit c.target grid triangles
+  pub fit : IsFitFor c.target grid triangles
+  pub told : line ≡ certified_fit_line grid.n (length triangles) (deviation_of grid.n grid.heights triangles)
 
 -- The words are a fit; the file of its grid is a text of this grid.
 pub record IsFitRunOf (words : List (List ℕ)) (files : List NamedFile) (f : Fitting) (grid : HeightField) : Type 0 where

@@ -1,6 +1,7 @@
 -- Laws of walks, pictures and outcomes.
 -- Words: WalksGoOn, PicturesGoOn, FramesExistFrom, FramesExist, RunsAreUnique, SetsStayClosed, LevelsAreInRange, BudgetsAreTwo, AreStates, KeepsStates, OutcomesAreUnique, OutcomesExist,
--- AcceptedIsDone, EnginesAreUnique, PicturesAreCertified, HeadlineFollows, CertifiedFollows, TolerancesAreExact, FitsAreBest, FittedFollows, MadeIsAccepted, TurnsAreCounted.
+-- AcceptedIsDone, EnginesAreUnique, PicturesAreCertified, HeadlineFollows, CertifiedFollows, FitCertifiedFollows, TolerancesAreExact, FitsAreBest, FittedFollows, MadeIsAccepted, FitIsReadBack,
+-- TurnsAreCounted.
 use Rattle.std.specs.Prelude.{◌≡◌, ⊤, ℕ, ◌*◌, ◌^◌, ◌≤◌, ◌↔◌, Bool, IsTrue, is_some, List, [], ◌∷◌, ◌++◌, All, Option, Some, Ok}
 use Rattle.mesh_defs.specs.HeightField.{HeightField}
 use Rattle.mesh_defs.specs.State.{State, priority_in, text_in}
@@ -24,14 +25,18 @@ use Rattle.run_laws.specs.Walk.{Walk, walk_of, AreWhole}
 use Rattle.obj_write.specs.Written.{Grows}
 use Rattle.cert_text.specs.Certificate.{Certificate}
 use Rattle.cert_text.specs.CertText.{cert_text}
-use Rattle.word_laws.specs.Words.{Show, Scripted, Making, Checking, Target, Fitting, Make, OnGrid, command_of}
+use Rattle.fit_certificate_laws.specs.Certificate.{FitCertificate}
+use Rattle.fit_cert_text.specs.FitCertText.{fit_cert_text}
+use Rattle.fit_cert_text.specs.Laws.{IsCertificateOf}
+use Rattle.run_laws.specs.CertFile.{fit_cert_in}
+use Rattle.word_laws.specs.Words.{Show, Scripted, Making, Checking, Target, Fitting, FitChecking, Make, OnGrid, command_of}
 use Rattle.run_laws.specs.Certify.{makes_at, IsMade}
 use Rattle.run_laws.specs.Act.{Told}
 use Rattle.run_laws.specs.Picture.{Picture, ArePictures, IsCertified, last_members}
 use Rattle.run_laws.specs.Turns.{left_turns, right_turns}
 use Rattle.run_laws.specs.Outcome.{Outcome, IsOutcome, HasOneOutcome}
 use Rattle.run_laws.specs.Promise.{Seen, EndsRight, LeavesAtReadFault, LeavesAtNoMemory, IsAcceptedCheck, IsAccepted}
-use Rattle.run_laws.specs.Headline.{IsRunOf, KeepsGoodMeshes, IsCheckOf, IsCertifiedMesh, IsFitRunOf, KeepsFitMesh}
+use Rattle.run_laws.specs.Headline.{IsRunOf, KeepsGoodMeshes, IsCheckOf, IsCertifiedMesh, IsFitCheckOf, IsCertifiedFit, IsFitRunOf, KeepsFitMesh}
 use Rattle.run_laws.specs.Fit.{tolerance_of, IsFitFor, IsBestFit}
 
 -- a walk over whole lines goes on with what follows them
@@ -125,6 +130,16 @@ abbrev pub CertifiedFollows : Type 0
 CertifiedFollows = (words : List (List ℕ)) (files : List NamedFile) (c : Checking) (grid : HeightField) (before now : Told) (old new : Seen) (status : Status)
     → IsCheckOf words files c grid → EndsRight before now old new words files status → status ≡ Done
     → (line : List ℕ) × Grows before.report now.report line × IsCertifiedMesh c grid (bytes_of files c.mesh) line
+
+-- the same of a check of a fitted mesh
+abbrev pub FitCertifiedFollows : Type 0
+FitCertifiedFollows = (words : List (List ℕ)) (files : List NamedFile) (c : FitChecking) (grid : HeightField) (before now : Told) (old new : Seen) (status : Status)
+    → IsFitCheckOf words files c grid → EndsRight before now old new words files status → status ≡ Done
+    → (line : List ℕ) × Grows before.report now.report line × IsCertifiedFit c grid (bytes_of files c.mesh) line
+
+-- the text of a certificate of a fitted mesh, of no more than a reader takes, is read back as it
+abbrev pub FitIsReadBack : Type 0
+FitIsReadBack = (n : ℕ) (cert : FitCertificate) → IsCertificateOf n cert → fit_cert_in n (fit_cert_text cert) ≡ Ok cert
 
 -- an error is within the tolerance exactly where it is at most so many thousandths
 abbrev pub TolerancesAreExact : Type 0

@@ -14,17 +14,21 @@ use Rattle.certificate_laws.specs.declared.reason.Verdict.TheVariants as verdict
 use Rattle.certificate_laws.specs.Certificate.{IsVerdict}
 use Rattle.cert_text.specs.Certificate.{Certificate}
 use Rattle.cert_text.specs.CertText.{cert_text}
+use Rattle.fit_certificate_laws.specs.declared.reason.Verdict as fit_verdict
+use Rattle.fit_certificate_laws.specs.declared.reason.Verdict.TheVariants as fitted
+use Rattle.fit_certificate_laws.specs.Certificate.{FitCertificate, IsVerdictOf}
+use Rattle.fit_cert_text.specs.FitCertText.{fit_cert_text}
 use Rattle.roam_gen.specs.Generated.{made_grid, made_lines}
 use Rattle.run_laws.specs.declared.status.Status.{Status}
 use Rattle.run_laws.specs.declared.status.Status.TheVariants.{Done, Usage, GridRefused, ScriptRefused, Rejected}
 use Rattle.run_laws.specs.Walk.{Refusal, Walk, start_walk, walk_along, walk_of}
-use Rattle.word_laws.specs.Words.{Show, AsMeshes, AsStrips, AsLeast, AsMeasures, AsSums, Scripted, Making, Checking, Fitting, Job, Frames, Facts, Make, Check, Fit, Command, OnGrid, Generated, command_of}
-use Rattle.run_laws.specs.CertFile.{cert_in}
-use Rattle.run_laws.specs.Certify.{checks_at, IsMade, IsFirstDifference}
-use Rattle.run_laws.specs.Fit.{IsFitted, fit_text}
+use Rattle.word_laws.specs.Words.{Show, AsMeshes, AsStrips, AsLeast, AsMeasures, AsSums, Scripted, Making, Checking, Fitting, Job, Frames, Facts, Make, Check, Fit, FitMaking, FitChecking, MakeFit, CheckFit, Command, OnGrid, Generated, command_of}
+use Rattle.run_laws.specs.CertFile.{cert_in, fit_cert_in}
+use Rattle.run_laws.specs.Certify.{checks_at, IsMade, IsFitMade, IsFirstDifference}
+use Rattle.run_laws.specs.Fit.{goal_of, IsFitted, fit_text}
 use Rattle.run_laws.specs.Act.{Act, WholeMesh, ReportText}
 use Rattle.run_laws.specs.Picture.{Picture, triangles_of, strip_triangles, ArePictures, last_members}
-use Rattle.run_laws.specs.ReportText.{frame_line, strip_line, least_line, measure_line, fit_line, try_line, info_line, grid_refusal, line_refusal, certified_line, rejection}
+use Rattle.run_laws.specs.ReportText.{frame_line, strip_line, least_line, measure_line, fit_line, try_line, info_line, grid_refusal, line_refusal, certified_line, rejection, certified_fit_line, fit_rejection}
 
 -- what an engine holds at the end: the state, how far the camera went, the frames made, the set of the
 -- last one, and the sums of their splits and merges
@@ -172,6 +176,24 @@ IsCheckOutcome c grid (Ok cert) mesh end =
     (is : Verdict) × IsVerdict grid.n c.budget (priority_in state) cert.leaves cert.reasons is × IsVerdictOutcome state cert mesh is end
 IsCheckOutcome c grid (Err line) mesh end = end ≡ text_outcome (rejection (BadLine line)) Rejected 2
 
+-- a certificate of a fitted mesh is written: any that may be made
+abbrev pub IsFitMakeOutcome : FitMaking → HeightField → Outcome → Type 0
+IsFitMakeOutcome m grid end = (cert : FitCertificate) × IsFitMade m grid cert × (end ≡ text_outcome (fit_cert_text cert) Done 1)
+
+-- what the verdict on a certificate of a fitted mesh leads to, of which these are the triangles: only behind one without a fault the
+-- file of the mesh is opened
+abbrev pub IsFitVerdictOutcome : FitChecking → HeightField → List ℕ → List ℕ → fit_verdict.Verdict → Outcome → Type 0
+IsFitVerdictOutcome c grid triangles mesh (fitted.Certified count deviation) end =
+    IsCompared mesh (fit_text c.spacing grid triangles) (certified_fit_line grid.n count deviation) end
+IsFitVerdictOutcome c grid triangles mesh (fitted.Rejected why) end = end ≡ text_outcome (fit_rejection why) Rejected 2
+
+-- what a check of a fitted mesh does with a certificate and the bytes of a mesh, or with the number of the line that is refused
+abbrev pub IsFitCheckOutcome : FitChecking → HeightField → Result FitCertificate ℕ → List ℕ → Outcome → Type 0
+IsFitCheckOutcome c grid (Ok cert) mesh end =
+    (is : fit_verdict.Verdict) × (triangles : List ℕ) × IsVerdictOf grid.n grid.heights (goal_of grid.n c.target) cert is triangles
+    × IsFitVerdictOutcome c grid triangles mesh is end
+IsFitCheckOutcome c grid (Err line) mesh end = end ≡ text_outcome (rejection (BadLine line)) Rejected 2
+
 -- what a job does with an accepted grid
 abbrev pub IsJobOutcome : Job → HeightField → List NamedFile → Outcome → Type 0
 IsJobOutcome (Frames s) grid files end = IsScriptOutcome s grid (bytes_of files s.script) end
@@ -179,6 +201,9 @@ IsJobOutcome Facts grid files end = end ≡ text_outcome (info_line grid) Done 1
 IsJobOutcome (Make m) grid files end = IsMakeOutcome m grid end
 IsJobOutcome (Check c) grid files end = IsCheckOutcome c grid (cert_in grid.n (bytes_of files c.certificate)) (bytes_of files c.mesh) end
 IsJobOutcome (Fit f) grid files end = IsFitOutcome f grid end
+IsJobOutcome (MakeFit m) grid files end = IsFitMakeOutcome m grid end
+IsJobOutcome (CheckFit c) grid files end =
+    IsFitCheckOutcome c grid (fit_cert_in grid.n (bytes_of files c.certificate)) (bytes_of files c.mesh) end
 
 -- what a job does with the bytes of a grid, once they were read or refused
 abbrev pub IsGridOutcome : Job → Result HeightField PgmFault → List NamedFile → Outcome → Type 0
@@ -208,4 +233,6 @@ HasOneOutcome (Some (OnGrid grid Facts)) = ⊤
 HasOneOutcome (Some (OnGrid grid (Make m))) = ⊥
 HasOneOutcome (Some (OnGrid grid (Check c))) = ⊤
 HasOneOutcome (Some (OnGrid grid (Fit f))) = ⊤
+HasOneOutcome (Some (OnGrid grid (MakeFit m))) = ⊥
+HasOneOutcome (Some (OnGrid grid (CheckFit c))) = ⊤
 HasOneOutcome (Some (Generated n seed)) = ⊤

@@ -1,7 +1,7 @@
 -- What a run of `roam` promises, by its status.
 -- Words: Seen, seen, AreFiles, is_complete, ends_script, EndsAs, EndsRight, HasEnded, may_end, OpensForStatus,
--- IsUndecided, ScriptHasRead, CheckHasRead, JobHasRead, HasRead, FileReadFault, CommandReadFault, LeavesAtReadFault, least_open,
--- most_open_job, most_open, HasReadHeader, CheckHasCome, CommandNoMemory, LeavesAtNoMemory, IsAcceptedCheck, IsAcceptedJob, IsAcceptedInput, IsAccepted, leaves_engine.
+-- IsUndecided, ScriptHasRead, CheckHasRead, FitCheckHasRead, JobHasRead, HasRead, FileReadFault, CommandReadFault, LeavesAtReadFault, least_open,
+-- most_open_job, most_open, HasReadHeader, CheckHasCome, FitCheckHasCome, CommandNoMemory, LeavesAtNoMemory, IsAcceptedCheck, IsAcceptedFitCheck, IsAcceptedJob, IsAcceptedInput, IsAccepted, leaves_engine.
 use Rattle.std.specs.Prelude.{◌≡◌, ◌≢◌, ⊤, ℕ, zero, suc, ◌+◌, ◌<◌, ◌≤◌, Bool, true, false, ◌&&◌, nat_lt, IsTrue, List, [], ◌++◌, length, Option, Some, None, Ok, Err, slice_get}
 use Rattle.mesh_defs.specs.HeightField.{HeightField, IsHeightField}
 use Rattle.roam_edge.specs.Shelf.{NamedFile, bytes_of}
@@ -12,12 +12,14 @@ use Rattle.pgm_grid.specs.PgmText.{IsFileText, HasHeader}
 use Rattle.pgm_grid.specs.Progress.{grid_of}
 use Rattle.mesh_defs.specs.State.{text_in}
 use Rattle.cert_text.specs.Certificate.{Certificate}
+use Rattle.fit_certificate_laws.specs.Certificate.{FitCertificate}
 use Rattle.run_laws.specs.declared.status.Status.{Status}
 use Rattle.run_laws.specs.declared.status.Status.TheVariants.{Done, NoMemory, Usage, GridRefused, ScriptRefused, ReadFault, WriteFault, Rejected}
 use Rattle.run_laws.specs.Walk.{AreWhole, HasBegun}
-use Rattle.word_laws.specs.Words.{Scripted, Checking, Job, Frames, Facts, Make, Check, Fit, Command, OnGrid, Generated, names_of, file_count, has_script, is_check, is_of_engine, command_of}
-use Rattle.run_laws.specs.CertFile.{cert_in, CertHasRead}
-use Rattle.run_laws.specs.Certify.{checks_at, IsFaultless}
+use Rattle.word_laws.specs.Words.{Scripted, Checking, Job, Frames, Facts, Make, Check, Fit, FitChecking, MakeFit, CheckFit, Command, OnGrid, Generated, names_of, file_count, has_script, is_check, is_of_engine, command_of}
+use Rattle.run_laws.specs.CertFile.{cert_in, CertHasRead, fit_cert_in, FitCertHasRead}
+use Rattle.run_laws.specs.Certify.{checks_at, IsFaultless, IsFitFaultless}
+use Rattle.run_laws.specs.Fit.{fit_text}
 use Rattle.run_laws.specs.Picture.{Picture, ArePictures}
 use Rattle.run_laws.specs.Act.{Act, Told, Stands, IsCutShort}
 use Rattle.run_laws.specs.Outcome.{Outcome, shown_acts, script_walk, IsOutcome}
@@ -120,6 +122,13 @@ CheckHasRead c grid files (suc k) read =
     (cert : Certificate) × (cert_in grid.n (bytes_of files c.certificate) ≡ Ok cert) × IsFaultless c grid cert
     × IsPrefix read (text_in (checks_at c grid cert.camera) cert.leaves)
 
+-- the same of a check of a fitted mesh
+abbrev pub FitCheckHasRead : FitChecking → HeightField → List NamedFile → ℕ → List ℕ → Type 0
+FitCheckHasRead c grid files zero read = FitCertHasRead grid.n read
+FitCheckHasRead c grid files (suc k) read =
+    (cert : FitCertificate) × (triangles : List ℕ) × (fit_cert_in grid.n (bytes_of files c.certificate) ≡ Ok cert)
+    × IsFitFaultless c grid cert triangles × IsPrefix read (fit_text c.spacing grid triangles)
+
 -- so much of the job's file at this place, counted from 0, was read, and these acts were done
 abbrev pub JobHasRead : Job → HeightField → List NamedFile → ℕ → List ℕ → List Act → Type 0
 JobHasRead (Frames s) grid files k read acts = ScriptHasRead s grid read acts
@@ -127,6 +136,8 @@ JobHasRead Facts grid files k read acts = ⊥
 JobHasRead (Make m) grid files k read acts = ⊥
 JobHasRead (Check c) grid files k read acts = CheckHasRead c grid files k read × (acts ≡ [])
 JobHasRead (Fit f) grid files k read acts = ⊥
+JobHasRead (MakeFit m) grid files k read acts = ⊥
+JobHasRead (CheckFit c) grid files k read acts = FitCheckHasRead c grid files k read × (acts ≡ [])
 
 -- Of the command's file at this place, counted from 0, these bytes were read, and no refusal was met; these
 -- acts are what the run has done by then.
@@ -176,6 +187,8 @@ most_open_job Facts = 1
 most_open_job (Make m) = 1
 most_open_job (Check c) = 3
 most_open_job (Fit f) = 1
+most_open_job (MakeFit m) = 1
+most_open_job (CheckFit c) = 3
 
 abbrev pub most_open : Command → ℕ
 most_open (OnGrid name job) = most_open_job job
@@ -192,6 +205,12 @@ abbrev pub CheckHasCome : List ℕ → Checking → List NamedFile → ℕ → T
 CheckHasCome name c files opened = 2 ≤ opened → (grid : HeightField) × (grid_of (bytes_of files name) ≡ Ok grid)
     × (3 ≤ opened → (cert : Certificate) × (cert_in grid.n (bytes_of files c.certificate) ≡ Ok cert) × IsFaultless c grid cert)
 
+-- the same of a check of a fitted mesh
+abbrev pub FitCheckHasCome : List ℕ → FitChecking → List NamedFile → ℕ → Type 0
+FitCheckHasCome name c files opened = 2 ≤ opened → (grid : HeightField) × (grid_of (bytes_of files name) ≡ Ok grid)
+    × (3 ≤ opened → (cert : FitCertificate) × (triangles : List ℕ) × (fit_cert_in grid.n (bytes_of files c.certificate) ≡ Ok cert)
+    × IsFitFaultless c grid cert triangles)
+
 -- Memory ran out, which is free. It does so only before a script is opened and before anything is written, and if the command
 -- names a grid not before a whole accepted header of it was read.
 pub record CommandNoMemory (before now : Told) (old new : Seen) (command : Command) : Type 0 where
@@ -204,6 +223,8 @@ pub record CommandNoMemory (before now : Told) (old new : Seen) (command : Comma
       → opened ≡ 1 → HasReadHeader (bytes_of files name) new.rest
   pub in_order : (name : List ℕ) (c : Checking) (files : List NamedFile) → command ≡ OnGrid name (Check c) → old.files ≡ Some files
       → CheckHasCome name c files opened
+  pub fit_in_order : (name : List ℕ) (c : FitChecking) (files : List NamedFile) → command ≡ OnGrid name (CheckFit c) → old.files ≡ Some files
+      → FitCheckHasCome name c files opened
 
 -- so only for words of a command
 pub record LeavesAtNoMemory (before now : Told) (old new : Seen) (words : List (List ℕ)) : Type 0 where
@@ -217,6 +238,12 @@ IsAcceptedCheck c grid files =
     (cert : Certificate) × (cert_in grid.n (bytes_of files c.certificate) ≡ Ok cert) × IsFaultless c grid cert
     × (bytes_of files c.mesh ≡ text_in (checks_at c grid cert.camera) cert.leaves)
 
+-- the same of a check of a fitted mesh
+abbrev pub IsAcceptedFitCheck : FitChecking → HeightField → List NamedFile → Type 0
+IsAcceptedFitCheck c grid files =
+    (cert : FitCertificate) × (triangles : List ℕ) × (fit_cert_in grid.n (bytes_of files c.certificate) ≡ Ok cert)
+    × IsFitFaultless c grid cert triangles × (bytes_of files c.mesh ≡ fit_text c.spacing grid triangles)
+
 -- what a job reads is accepted: each line of its script, or the certificate and the mesh of a check
 abbrev pub IsAcceptedJob : Job → HeightField → List NamedFile → Type 0
 IsAcceptedJob (Frames s) grid files = (script_walk s grid (bytes_of files s.script)).stop ≡ None
@@ -224,6 +251,8 @@ IsAcceptedJob Facts grid files = ⊤
 IsAcceptedJob (Make m) grid files = ⊤
 IsAcceptedJob (Check c) grid files = IsAcceptedCheck c grid files
 IsAcceptedJob (Fit f) grid files = ⊤
+IsAcceptedJob (MakeFit m) grid files = ⊤
+IsAcceptedJob (CheckFit c) grid files = IsAcceptedFitCheck c grid files
 
 -- its grid is a file text, and what its job reads is accepted; a generated run reads nothing
 abbrev pub IsAcceptedInput : Command → List NamedFile → Type 0
@@ -242,5 +271,7 @@ leaves_engine (Some (OnGrid name Facts)) status = false
 leaves_engine (Some (OnGrid name (Make m))) status = false
 leaves_engine (Some (OnGrid name (Check c))) status = false
 leaves_engine (Some (OnGrid name (Fit f))) status = false
+leaves_engine (Some (OnGrid name (MakeFit m))) status = false
+leaves_engine (Some (OnGrid name (CheckFit c))) status = false
 leaves_engine (Some (Generated n seed)) status = ends_script status
 leaves_engine None status = false

@@ -1,6 +1,7 @@
 -- The lines of the report. This project's own; each ends with one LF (10).
 -- Words: blocked_text, marks_text, frame_line, strip_line, least_line, measure_line, fit_line, all_triangles, worst_in, count_blocked, sums_line,
--- try_line, info_line, grid_fault_text, grid_refusal, script_fault_text, line_refusal, certified_line, reject_text, rejection.
+-- try_line, info_line, grid_fault_text, grid_refusal, script_fault_text, line_refusal, certified_line, reject_text, rejection,
+-- certified_fit_line, fit_reject_text, fit_rejection.
 use Rattle.std.specs.Prelude.{ℕ, ◌^◌, max, is_some, List, [], ◌∷◌, ◌++◌, length, map, sum_by, count_by, Option, Some, None, codes, decimal}
 use Rattle.mesh_defs.specs.declared.mark.Mark.TheVariants.{Inside, Cut, Outside}
 use Rattle.mesh_defs.specs.HeightField.{HeightField, side_of}
@@ -16,6 +17,8 @@ use Rattle.roam_script.specs.declared.script_fault.ScriptFault.{ScriptFault}
 use Rattle.roam_script.specs.declared.script_fault.ScriptFault.TheVariants.{LineTooLong, UnknownCommand, WrongFields, BadNumber, OutOfRange, TooManyLines, TooManyFrames, TooManyPlanes}
 use Rattle.certificate_laws.specs.declared.reason.Reject.{Reject}
 use Rattle.certificate_laws.specs.declared.reason.Reject.TheVariants.{BadLine, NotConforming, OverBudget, BadReason, TooFewReasons, MeshDiffers}
+use Rattle.fit_certificate_laws.specs.declared.reason.Reject as fits
+use Rattle.fit_certificate_laws.specs.declared.reason.Reject.TheVariants as fit_reject
 use Rattle.roam_num.specs.Places.{exact_decimal}
 use Rattle.cert_text.specs.CertText.{number_text}
 use Rattle.run_laws.specs.Walk.{Refusal}
@@ -161,3 +164,21 @@ reject_text (MeshDiffers place) = codes "mesh differs at " ++ decimal place
 -- `rejected: TEXT`
 abbrev pub rejection : Reject → List ℕ
 rejection why = codes "rejected: " ++ reject_text why ++ codes "\n"
+
+-- `certified fit triangles T deviation K over M error D`: how many triangles a fitted mesh has, and how far the surface is from it, as
+-- in the line of `fit`
+abbrev pub certified_fit_line : ℕ → ℕ → ℕ → List ℕ
+certified_fit_line n triangles deviation =
+    codes "certified fit triangles " ++ decimal triangles ++ codes " deviation " ++ decimal deviation ++ codes " over " ++ decimal (2 ^ n)
+    ++ codes " error " ++ exact_decimal deviation n ++ codes "\n"
+
+-- which test of a certificate of a fitted mesh failed first; reasons are counted from 1
+abbrev pub fit_reject_text : fits.Reject → List ℕ
+fit_reject_text fit_reject.OtherTolerance = codes "other tolerance"
+fit_reject_text (fit_reject.BadReason index) = codes "bad reason " ++ decimal index
+fit_reject_text fit_reject.OverTolerance = codes "over tolerance"
+fit_reject_text fit_reject.OverBudget = codes "over budget"
+fit_reject_text fit_reject.TooFewReasons = codes "too few reasons"
+
+abbrev pub fit_rejection : fits.Reject → List ℕ
+fit_rejection why = codes "rejected: " ++ fit_reject_text why ++ codes "\n"

@@ -10,12 +10,12 @@ use Rattle.roam_edge.specs.Fault.{IsInTime}
 use Rattle.obj_write.specs.Written.{Grows}
 use Rattle.run_laws.specs.declared.status.Status.{Status}
 use Rattle.run_laws.specs.declared.status.Status.TheVariants.{Done, NoMemory, Usage, ReadFault, WriteFault}
-use Rattle.word_laws.specs.Words.{Scripted, Checking, Fitting, command_of, file_count}
+use Rattle.word_laws.specs.Words.{Scripted, Checking, Fitting, FitChecking, command_of, file_count}
 use Rattle.run_laws.specs.Act.{Stands, IsCutShort}
 use Rattle.run_laws.specs.Picture.{IsCertified}
 use Rattle.run_laws.specs.Outcome.{EngineEnd, Outcome, IsOutcome}
 use Rattle.run_laws.specs.Promise.{AreFiles, is_complete, HasEnded, may_end, OpensForStatus, LeavesAtReadFault, LeavesAtNoMemory, leaves_engine}
-use Rattle.run_laws.specs.Headline.{IsRunOf, KeepsGoodMeshes, IsCheckOf, IsCertifiedMesh, IsFitRunOf, KeepsFitMesh}
+use Rattle.run_laws.specs.Headline.{IsRunOf, KeepsGoodMeshes, IsCheckOf, IsCertifiedMesh, IsFitCheckOf, IsCertifiedFit, IsFitRunOf, KeepsFitMesh}
 use Rattle.run_laws.specs.Moment.{Moment}
 
 -- The meshes.
@@ -30,13 +30,15 @@ pub record KeepsBestMeshes (before now : Moment) (words : List (List ℕ)) (stat
       → before.shelf.files ≡ Some files → before.sinks.meshes ≡ Some all → IsFitRunOf words files f grid
       → KeepsFitMesh f grid before.sinks now.sinks all status
 
--- where `certify check` is done, the report got the line that its mesh is certified, and such a mesh is optimal: none of the budget has
--- a lower worst priority
-abbrev pub CertifiesMesh : Moment → Moment → List (List ℕ) → Status → Type 0
-CertifiesMesh before now words status =
-    (files : List NamedFile) (c : Checking) (grid : HeightField) → before.shelf.files ≡ Some files
-    → IsCheckOf words files c grid → status ≡ Done → (line : List ℕ)
-    × Grows before.sinks.report now.sinks.report line × IsCertifiedMesh c grid (bytes_of files c.mesh) line
+-- Where a check is done, the report got a line by which its mesh is certified, and such a mesh is optimal; one of a fitted mesh is the
+-- least for its error or the best for its budget.
+pub record CertifiesMesh (before now : Moment) (words : List (List ℕ)) (status : Status) : Type 0 where
+  pub of_view : (files : List NamedFile) (c : Checking) (grid : HeightField) → before.shelf.files ≡ Some files
+      → IsCheckOf words files c grid → status ≡ Done → (line : List ℕ)
+      × Grows before.sinks.report now.sinks.report line × IsCertifiedMesh c grid (bytes_of files c.mesh) line
+  pub of_fit : (files : List NamedFile) (c : FitChecking) (grid : HeightField) → before.shelf.files ≡ Some files
+      → IsFitCheckOf words files c grid → status ≡ Done → (line : List ℕ)
+      × Grows before.sinks.report now.sinks.report line × IsCertifiedFit c grid (bytes_of files c.mesh) line
 
 -- what each frame of an engine tells of blocking proves that its mesh is optimal
 abbrev pub TellsCertificates : List (List ℕ) → Type 0

@@ -1,11 +1,12 @@
 //! Laws of the definitions, as clauses of functions with empty bodies.
 
 ghost use Rattle.run_laws.specs.Examples.{WrongFieldsStop, FirstLinesAreRefused, CountsAreBounded, SeventhPlaneStops, BudgetsAreInForce, AreasAreRaised, WaysAreAddedUp, TurnsOfStrips, MeshesAreMeasured};
-ghost use Rattle.run_laws.specs.CertifyExamples.{CertificatesAreRead, CertificatesAreRefused, WordsOfCertify};
-ghost use Rattle.run_laws.specs.Laws.{WalksGoOn, PicturesGoOn, FramesExistFrom, RunsAreUnique, SetsStayClosed, LevelsAreInRange, BudgetsAreTwo, OutcomesAreUnique, OutcomesExist, AcceptedIsDone, EnginesAreUnique, PicturesAreCertified, HeadlineFollows, CertifiedFollows, TolerancesAreExact, FitsAreBest, FittedFollows, MadeIsAccepted, TurnsAreCounted};
+ghost use Rattle.run_laws.specs.CertifyExamples.{CertificatesAreRead, CertificatesAreRefused, WordsOfCertify, FitCertificatesAreRead, FitCertificatesAreRefused, WordsOfCertifyFit};
+ghost use Rattle.run_laws.specs.Laws.{WalksGoOn, PicturesGoOn, FramesExistFrom, RunsAreUnique, SetsStayClosed, LevelsAreInRange, BudgetsAreTwo, OutcomesAreUnique, OutcomesExist, AcceptedIsDone, EnginesAreUnique, PicturesAreCertified, HeadlineFollows, CertifiedFollows, FitCertifiedFollows, TolerancesAreExact, FitsAreBest, FittedFollows, MadeIsAccepted, FitIsReadBack, TurnsAreCounted};
 
 use cert_text::text_laws;
 use closure_laws::{frame_laws, member_laws};
+use fit_cert_text::fit_text_laws;
 use frame_steps as steps;
 use pgm_grid::grids_and_texts;
 use plain_mesh::falling_laws;
@@ -51,20 +52,25 @@ pub fn run_laws()
 }
 
 /// A mesh that is fitted is a best one for its error or its budget: the tolerance is exact, and what the definitions of `fit_laws` say
-/// holds in the words of distances from the surface; so the mesh of a run of `fit` is one, if it is finished.
+/// holds in the words of distances from the surface; so the mesh of a run of `fit` is one, if it is finished, and so is one that
+/// `certify check-fit` certifies.
 pub fn fitting_laws()
     ensures tolerance { TolerancesAreExact }
     ensures best { FitsAreBest }
     ensures fitted { FittedFollows }
+    ensures certified { FitCertifiedFollows }
 {
     grids_and_texts();
 }
 
-/// What `certify make` writes for a grid `certify check` accepts, with the mesh that it is of.
+/// What `certify make` writes for a grid `certify check` accepts, with the mesh that it is of; and the text of a certificate of a
+/// fitted mesh is read back as it.
 pub fn certify_laws()
     ensures accepted { MadeIsAccepted }
+    ensures fit_read_back { FitIsReadBack }
 {
     text_laws();
+    fit_text_laws();
 }
 
 /// How many turns a strip takes to either side is what the tests of turns count.
@@ -88,6 +94,9 @@ pub fn certify_examples()
     ensures read { CertificatesAreRead }
     ensures refused { CertificatesAreRefused }
     ensures words { WordsOfCertify }
+    ensures fit_read { FitCertificatesAreRead }
+    ensures fit_refused { FitCertificatesAreRefused }
+    ensures fit_words { WordsOfCertifyFit }
 {}
 
 /// What small meshes are measured to be, worked by hand: the turns of strips, deviations and thicknesses.

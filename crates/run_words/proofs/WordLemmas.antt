@@ -1,18 +1,12 @@
--- Words that are no command, and the eight words of `certify make`.
+-- Words that are no command, and commands of eight words.
 use Rattle.std.proofs.Common.{◌≡◌, ℕ, ◌<◌, if◌then◌else◌, List, [], ◌∷◌, length, get_or, map, Option, None, codes, bytes_eq, refl, arith, ◌≤◌, true, ◌&&◌}
 use Rattle.std.proofs.lemmas.Bool.{cond-true}
-use Rattle.word_laws.specs.Words.{budget_word, spacing_word, command_of, Command, coordinate_word, camera_word, make_command}
-
--- the command that eight texts are
-abbrev pub make_of : List ℕ → List ℕ → List ℕ → List ℕ → List ℕ → List ℕ → List ℕ → List ℕ → Option Command
-make_of word task grid x y z budget spacing =
-    if bytes_eq word (codes "certify") && bytes_eq task (codes "make")
-    then make_command grid (camera_word (coordinate_word x) (coordinate_word y) (coordinate_word z)) (budget_word budget) (spacing_word spacing) else None
+use Rattle.word_laws.specs.Words.{command_of, Command, eight_command}
 
 -- the entries of a list of eight
 pub eight-words : {W : Type 0} (f : W → List ℕ) (ws : List W) (a b c d e h i j : W) → 8 ≤ length ws → length ws < 9 → a ≡ get_or ws 0 a → b ≡ get_or ws 1 b → c ≡ get_or ws 2 c → d ≡ get_or ws 3 d
     → e ≡ get_or ws 4 e → h ≡ get_or ws 5 h → i ≡ get_or ws 6 i → j ≡ get_or ws 7 j
-    → command_of (map f ws) ≡ make_of (f a) (f b) (f c) (f d) (f e) (f h) (f i) (f j)
+    → command_of (map f ws) ≡ eight_command (f a) (f b) (f c) (f d) (f e) (f h) (f i) (f j)
 eight-words f [] a b c d e h i j low high p q r s t u v w = absurd (omega (arith, low))
 eight-words f (k ∷ []) a b c d e h i j low high p q r s t u v w = absurd (omega (arith, low))
 eight-words f (k ∷ (l ∷ [])) a b c d e h i j low high p q r s t u v w = absurd (omega (arith, low))
@@ -24,11 +18,21 @@ eight-words f (k ∷ (l ∷ (m ∷ (n ∷ (o ∷ (x ∷ (y ∷ []))))))) a b c d
 eight-words f (k ∷ (l ∷ (m ∷ (n ∷ (o ∷ (x ∷ (y ∷ (z ∷ [])))))))) a b c d e h i j low high p q r s t u v w = rw (p, q, r, s, t, u, v, w) refl
 eight-words f (k ∷ (l ∷ (m ∷ (n ∷ (o ∷ (x ∷ (y ∷ (z ∷ (more ∷ rest))))))))) a b c d e h i j low high p q r s t u v w = absurd (omega (arith, high))
 
--- that of `certify` and `make`
-pub make-of : (word task grid x y z budget spacing : List ℕ) → (bytes_eq word (codes "certify") && bytes_eq task (codes "make")) ≡ true
-    → make_of word task grid x y z budget spacing
-    ≡ make_command grid (camera_word (coordinate_word x) (coordinate_word y) (coordinate_word z)) (budget_word budget) (spacing_word spacing)
-make-of word task grid x y z budget spacing is = cond-true _ _ _ is
+-- nine words are none, and no list of eight has fewer
+pub none-of-nine : {W : Type 0} (f : W → List ℕ) (ws : List W) → 8 < length ws → command_of (map f ws) ≡ None
+none-of-nine f [] many = absurd (omega (arith, many))
+none-of-nine f (k ∷ []) many = absurd (omega (arith, many))
+none-of-nine f (k ∷ (l ∷ [])) many = absurd (omega (arith, many))
+none-of-nine f (k ∷ (l ∷ (m ∷ []))) many = absurd (omega (arith, many))
+none-of-nine f (k ∷ (l ∷ (m ∷ (n ∷ [])))) many = absurd (omega (arith, many))
+none-of-nine f (k ∷ (l ∷ (m ∷ (n ∷ (o ∷ []))))) many = absurd (omega (arith, many))
+none-of-nine f (k ∷ (l ∷ (m ∷ (n ∷ (o ∷ (x ∷ [])))))) many = absurd (omega (arith, many))
+none-of-nine f (k ∷ (l ∷ (m ∷ (n ∷ (o ∷ (x ∷ (y ∷ []))))))) many = absurd (omega (arith, many))
+none-of-nine f (k ∷ (l ∷ (m ∷ (n ∷ (o ∷ (x ∷ (y ∷ (z ∷ [])))))))) many = absurd (omega (arith, many))
+none-of-nine f (k ∷ (l ∷ (m ∷ (n ∷ (o ∷ (x ∷ (y ∷ (z ∷ (more ∷ rest))))))))) many = refl
+
+pub none-of-eight : {W : Type 0} (f : W → List ℕ) (ws : List W) → 8 ≤ length ws → length ws < 8 → command_of (map f ws) ≡ None
+none-of-eight f ws many few = absurd (omega (arith, many, few))
 
 -- there are too few or too many
 

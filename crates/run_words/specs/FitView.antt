@@ -1,12 +1,14 @@
 -- The words of `fit` in the words of a run, and what the code knows of their numbers.
--- Words: target_seen, IsTarget, fitting_seen, IsFitting.
-use Rattle.std.specs.Prelude.{◌≤◌}
+-- Words: target_seen, IsTarget, fitting_seen, IsFitting, fit_making_seen, fit_checking_seen, AreFitBounds.
+use Rattle.std.specs.Prelude.{ℕ, ◌≤◌}
 use Rattle.wedgie_tree.specs.declared.wedges.TheConstants.{GREATEST_SPACING}
-use Rattle.word_laws.specs.Words.{Fitting, least_budget, greatest_budget, greatest_error}
+use Rattle.word_laws.specs.Words.{Fitting, FitMaking, FitChecking, least_budget, greatest_budget, greatest_error}
 use Rattle.word_laws.specs.Words as words
 use Rattle.run_words.specs.declared.fit_words.FitWords.{FitWords}
 use Rattle.run_words.specs.declared.fit_words.Target.{Target}
 use Rattle.run_words.specs.declared.fit_words.Target.TheVariants.{AtError, InBudget}
+use Rattle.run_words.specs.declared.certify_words.FitMakeWords.{FitMakeWords}
+use Rattle.run_words.specs.declared.certify_words.FitCheckWords.{FitCheckWords}
 use Rattle.run_words.specs.ShowView.{IsPrefixLength}
 
 -- what a mesh is fitted to
@@ -29,3 +31,17 @@ pub record IsFitting (w : FitWords) : Type 0 where
   pub bound : IsTarget w.target
   pub spacing_low : 1 ≤ w.spacing
   pub spacing_high : w.spacing ≤ GREATEST_SPACING
+
+-- what a certificate of a fitted mesh is made for
+abbrev pub fit_making_seen : FitMakeWords → FitMaking
+fit_making_seen w = record { target = target_seen w.target; spacing = w.spacing }
+
+-- what a fitted mesh is checked by
+abbrev pub fit_checking_seen : FitCheckWords → FitChecking
+fit_checking_seen w = record { mesh = w.mesh.now; certificate = w.certificate.now; target = target_seen w.target; spacing = w.spacing }
+
+-- the numbers of such words lie within their bounds
+pub record AreFitBounds (target : Target) (spacing : ℕ) : Type 0 where
+  pub bound : IsTarget target
+  pub spacing_low : 1 ≤ spacing
+  pub spacing_high : spacing ≤ GREATEST_SPACING

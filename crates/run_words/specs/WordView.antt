@@ -5,12 +5,12 @@ use Rattle.mesh_defs.specs.declared.level.TheConstants.{GREATEST_LEVEL}
 use Rattle.wedgie_tree.specs.declared.wedges.TheConstants.{GREATEST_SPACING}
 use Rattle.run_words.specs.declared.words.FrameWords.{FrameWords}
 use Rattle.run_words.specs.declared.words.Command.{Command}
-use Rattle.run_words.specs.declared.words.Command.TheVariants.{Frames, Info, Try, Make, Check, Fit}
+use Rattle.run_words.specs.declared.words.Command.TheVariants.{Frames, Info, Try, Make, Check, Fit, MakeFit, CheckFit}
 use Rattle.run_words.specs.declared.showing.Making.{Making}
 use Rattle.run_words.specs.declared.showing.Making.TheVariants.{ByEngine, ByTolerance}
 use Rattle.run_words.specs.ShowView.{IsPrefixLength, show_seen, IsShowing}
 use Rattle.run_words.specs.CertifyView.{making_seen, checking_seen, AreInBounds}
-use Rattle.run_words.specs.FitView.{fitting_seen, IsFitting}
+use Rattle.run_words.specs.FitView.{fitting_seen, IsFitting, fit_making_seen, fit_checking_seen, AreFitBounds}
 use Rattle.word_laws.specs.Words as words
 
 -- how frames are shown
@@ -39,6 +39,8 @@ command_seen (Try n seed) = words.Generated n seed
 command_seen (Make w) = words.OnGrid w.grid.now (words.Make (making_seen w))
 command_seen (Check w) = words.OnGrid w.grid.now (words.Check (checking_seen w))
 command_seen (Fit w) = words.OnGrid w.grid.now (words.Fit (fitting_seen w))
+command_seen (MakeFit w) = words.OnGrid w.grid.now (words.MakeFit (fit_making_seen w))
+command_seen (CheckFit w) = words.OnGrid w.grid.now (words.CheckFit (fit_checking_seen w))
 
 -- budget and spacing lie within their bounds, and the prefix, where there is one, has an accepted length
 pub record IsFrameCommand (command : FrameWords) : Type 0 where
@@ -48,7 +50,7 @@ pub record IsFrameCommand (command : FrameWords) : Type 0 where
   pub spacing_low : 1 ≤ command.spacing
   pub spacing_high : command.spacing ≤ GREATEST_SPACING
 
--- a command lies within its bounds: of frames its words, of `try` its level, of `certify` budget and spacing, of `fit` its words
+-- a command lies within its bounds: of frames its words, of `try` its level, of `certify` its numbers, of `fit` its words
 abbrev pub IsAccepted : Command → Type 0
 IsAccepted (Frames command) = IsFrameCommand command
 IsAccepted (Info grid) = Unit {0}
@@ -56,3 +58,5 @@ IsAccepted (Try n seed) = (1 ≤ n) × (n ≤ GREATEST_LEVEL)
 IsAccepted (Make w) = AreInBounds w.budget w.spacing
 IsAccepted (Check w) = AreInBounds w.budget w.spacing
 IsAccepted (Fit w) = IsFitting w
+IsAccepted (MakeFit w) = AreFitBounds w.target w.spacing
+IsAccepted (CheckFit w) = AreFitBounds w.target w.spacing

@@ -1,10 +1,11 @@
-//! The words of `certify make` and `certify check`.
+//! The words of `certify`.
 
 ghost use Rattle.std.specs.Prelude.{◌≡◌, ◌≤◌, ◌^◌, ◌&&◌, IfSome, length, map, string_bytes, codes, bytes_eq, unsigned_abs};
 ghost use Rattle.std.specs.Option.{option_map};
-ghost use Rattle.word_laws.specs.Words.{budget_word, spacing_word, coordinate_word, camera_word, make_command, check_command, command_of};
+ghost use Rattle.word_laws.specs.Words.{budget_word, spacing_word, coordinate_word, camera_word, make_command, check_command, target_word, fit_make_command, fit_check_command, eight_command, command_of};
 ghost use Rattle.run_words.specs.WordView.{command_seen, IsAccepted};
 
+use crate::fit_words::{Target, target_in};
 use crate::words::{Command, GREATEST_BUDGET, LEAST_BUDGET, small_number};
 use roam_num::read_signed;
 use view_priority::Camera;
@@ -38,6 +39,32 @@ pub struct CheckWords<'a> {
     pub spacing: u32,
 }
 
+/// The words of `certify make-fit GRID error E SPACING` and of `certify make-fit GRID budget BUDGET SPACING`.
+#[derive(Clone, Copy)]
+pub struct FitMakeWords<'a> {
+    /// The name of the grid's file.
+    pub grid: &'a str,
+    /// What the mesh is fitted to.
+    pub target: Target,
+    /// The world units of a grid step, on which no certificate depends.
+    pub spacing: u32,
+}
+
+/// The words of `certify check-fit GRID OBJ CERT error E SPACING` and of `certify check-fit GRID OBJ CERT budget BUDGET SPACING`.
+#[derive(Clone, Copy)]
+pub struct FitCheckWords<'a> {
+    /// The name of the grid's file.
+    pub grid: &'a str,
+    /// The name of the mesh's file.
+    pub mesh: &'a str,
+    /// The name of the certificate's file.
+    pub certificate: &'a str,
+    /// What the mesh is fitted to.
+    pub target: Target,
+    /// The world units of a grid step.
+    pub spacing: u32,
+}
+
 /// The greatest size of a coordinate of a camera.
 const REACH: u64 = 1 << 30;
 
@@ -50,7 +77,7 @@ pub(crate) fn certify_in(words: &[String]) -> Option<Command<'_>>
     if words.len() == 7 {
         check_words(words)
     } else {
-        make_words(words)
+        long_words(words)
     }
 }
 
@@ -78,31 +105,52 @@ fn check_words(words: &[String]) -> Option<Command<'_>>
 }
 
 /// The command that 8 words or more are.
-fn make_words(words: &[String]) -> Option<Command<'_>>
+fn long_words(words: &[String]) -> Option<Command<'_>>
     requires many { 8 ≤ length words.now }
     ensures value { option_map command_seen result ≡ command_of (map string_bytes words.now) }
     ensures accepted { IfSome result IsAccepted }
 {
     match words {
-        [first, task, grid, x, y, z, budget, spacing] => {
-            if !is_task(first.as_str(), task.as_str(), "make") {
-                return None;
-            }
-            make_in(
-                grid.as_str(),
-                x.as_str(),
-                y.as_str(),
-                z.as_str(),
-                budget.as_str(),
-                spacing.as_str(),
-            )
-        }
+        [first, task, grid, i, j, k, number, spacing] => eight_words(
+            first.as_str(),
+            task.as_str(),
+            grid.as_str(),
+            i.as_str(),
+            j.as_str(),
+            k.as_str(),
+            number.as_str(),
+            spacing.as_str(),
+        ),
         _ => None,
     }
 }
 
+/// The command of eight words: `certify make` or `certify check-fit`.
+fn eight_words<'a>(
+    first: &str,
+    task: &str,
+    grid: &'a str,
+    i: &'a str,
+    j: &'a str,
+    k: &str,
+    number: &str,
+    spacing: &str,
+) -> Option<Command<'a>>
+    ensures value { option_map command_seen result ≡
+        eight_command first.now task.now grid.now i.now j.now k.now number.now spacing.now }
+    ensures accepted { IfSome result IsAccepted }
+{
+    if is_task(first, task, "make") {
+        make_in(grid, i, j, k, number, spacing)
+    } else if is_task(first, task, "check-fit") {
+        check_fit_in(grid, i, j, k, number, spacing)
+    } else {
+        None
+    }
+}
+
 /// Whether the first two words are `certify` and this one.
-fn is_task(first: &str, task: &str, name: &str) -> bool
+pub(crate) fn is_task(first: &str, task: &str, name: &str) -> bool
     ensures { result ≡ (bytes_eq first.now (codes "certify") && bytes_eq task.now name.now) }
 {
     first == "certify" && task == name
@@ -147,6 +195,46 @@ fn check_in<'a>(
         mesh,
         certificate,
         budget: small_number(budget, LEAST_BUDGET, GREATEST_BUDGET)?,
+        spacing: small_number(spacing, 1, GREATEST_SPACING)?,
+    }))
+}
+
+/// A certificate of a fitted mesh is made, if what the mesh is fitted to and the spacing are numbers within their bounds.
+pub(crate) fn make_fit_in<'a>(
+    grid: &'a str,
+    word: &str,
+    number: &str,
+    spacing: &str,
+) -> Option<Command<'a>>
+    ensures value { option_map command_seen result ≡
+        fit_make_command grid.now (target_word word.now number.now) (spacing_word spacing.now) }
+    ensures accepted { IfSome result IsAccepted }
+{
+    Some(Command::MakeFit(FitMakeWords {
+        grid,
+        target: target_in(word, number)?,
+        spacing: small_number(spacing, 1, GREATEST_SPACING)?,
+    }))
+}
+
+/// A fitted mesh is checked by a certificate, if what it is fitted to and the spacing are numbers within their bounds.
+fn check_fit_in<'a>(
+    grid: &'a str,
+    mesh: &'a str,
+    certificate: &'a str,
+    word: &str,
+    number: &str,
+    spacing: &str,
+) -> Option<Command<'a>>
+    ensures value { option_map command_seen result ≡ fit_check_command
+        grid.now mesh.now certificate.now (target_word word.now number.now) (spacing_word spacing.now) }
+    ensures accepted { IfSome result IsAccepted }
+{
+    Some(Command::CheckFit(FitCheckWords {
+        grid,
+        mesh,
+        certificate,
+        target: target_in(word, number)?,
         spacing: small_number(spacing, 1, GREATEST_SPACING)?,
     }))
 }

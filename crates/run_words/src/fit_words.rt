@@ -59,7 +59,7 @@ pub(crate) fn fit_in<'a>(
 }
 
 /// What a mesh is fitted to, by a word and a number.
-fn target_in(word: &str, number: &str) -> Option<Target>
+pub(crate) fn target_in(word: &str, number: &str) -> Option<Target>
     ensures value { option_map target_seen result ≡ target_word word.now number.now }
     ensures accepted { IfSome result IsTarget }
 {

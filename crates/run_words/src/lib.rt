@@ -10,7 +10,7 @@ mod fit_words;
 mod showing;
 mod words;
 
-pub use certify_words::{CheckWords, MakeWords};
+pub use certify_words::{CheckWords, FitCheckWords, FitMakeWords, MakeWords};
 pub use fit_words::{FitWords, Target};
 pub use showing::{Making, Showing};
 pub use words::{Command, FrameWords, command_in};

@@ -2,12 +2,14 @@
 
 ghost use Rattle.std.specs.Prelude.{◌≡◌, ◌≤◌, if◌then◌else◌, true, map, string_bytes, IfSome, ◌<◌, ◌&&◌, ◌==◌, length, codes, bytes_eq};
 ghost use Rattle.std.specs.Option.{option_map};
-ghost use Rattle.word_laws.specs.Words.{AsMeasures, Facts, OnGrid, budget_word, command_of, fit_words, frames_command, greatest_level, greatest_seed, least_budget, greatest_budget, least_command, meshes_command, number_word, spacing_word, tolerance_word, try_command};
+ghost use Rattle.word_laws.specs.Words.{AsMeasures, Facts, OnGrid, budget_word, command_of, frames_command, greatest_level, greatest_seed, least_budget, greatest_budget, least_command, meshes_command, six_command, number_word, spacing_word, tolerance_word, try_command};
 ghost use Rattle.word_laws.specs.Words.{is_prefix as is_prefix_seen};
 ghost use Rattle.run_words.specs.ShowView.{IsPrefixLength};
 ghost use Rattle.run_words.specs.WordView.{command_seen, show_for, IsMaking, IsAccepted};
 
-use crate::certify_words::{CheckWords, MakeWords, certify_in};
+use crate::certify_words::{
+    CheckWords, FitCheckWords, FitMakeWords, MakeWords, certify_in, is_task, make_fit_in,
+};
 use crate::fit_words::{FitWords, fit_in};
 use crate::showing::{Making, Showing};
 use mesh_defs::GREATEST_LEVEL;
@@ -31,6 +33,11 @@ pub enum Command<'a> {
     Check(CheckWords<'a>),
     /// `fit GRID PREFIX error E SPACING` and `fit GRID PREFIX budget BUDGET SPACING`: the best mesh for an error or a budget.
     Fit(FitWords<'a>),
+    /// `certify make-fit GRID error E SPACING` and `certify make-fit GRID budget BUDGET SPACING`: a certificate of a fitted mesh.
+    MakeFit(FitMakeWords<'a>),
+    /// `certify check-fit GRID OBJ CERT error E SPACING` and `certify check-fit GRID OBJ CERT budget BUDGET SPACING`: whether such a
+    /// certificate is sound, and a mesh the one that it is of.
+    CheckFit(FitCheckWords<'a>),
 }
 
 /// The words of a command that makes the frames of a script.
@@ -150,7 +157,7 @@ fn measure_in<'a>(
     }
 }
 
-/// The command of six words: that fits a mesh, or one that writes a mesh for each frame.
+/// The command of six words: that fits a mesh, that makes a certificate of such a mesh, or one that writes a mesh for each frame.
 fn mesh_in<'a>(
     word: &str,
     grid: &'a str,
@@ -159,14 +166,14 @@ fn mesh_in<'a>(
     number: &str,
     spacing: &str,
 ) -> Option<Command<'a>>
-    ensures value { option_map command_seen result ≡ (if bytes_eq word.now (codes "fit")
-        then fit_words grid.now name.now third.now number.now spacing.now
-        else (if is_prefix_seen third.now
-        then meshes_command word.now grid.now name.now third.now number.now spacing.now else None)) }
+    ensures value { option_map command_seen result ≡
+        six_command word.now grid.now name.now third.now number.now spacing.now }
     ensures accepted { IfSome result IsAccepted }
 {
     if word == "fit" {
         fit_in(grid, name, third, number, spacing)
+    } else if is_task(word, grid, "make-fit") {
+        make_fit_in(name, third, number, spacing)
     } else {
         meshes_in(word, grid, name, third, number, spacing)
     }

@@ -64,7 +64,7 @@ fn quarters_beside(
     let wedges = middle(alloc)?;
     let cert = certificate(alloc, 1, &QUARTERS)?;
     let mut file = Dripping::new(bytes, at_once, fails);
-    let answer = compare(alloc, &wedges, &cert, spacing, &mut file);
+    let answer = compare(alloc, &wedges, cert.leaves(), spacing, &mut file);
     Ok((answer, file.unread.len(), file.faults))
 }
 
@@ -173,7 +173,7 @@ fn written_beside(alloc: Global) -> Result<Option<Result<Option<u64>, CompareFau
         return Ok(None);
     }
     let mut file = Dripping::new(out.bytes(0), 1000, 0);
-    Ok(Some(compare(alloc, &wedges, &cert, 7, &mut file)))
+    Ok(Some(compare(alloc, &wedges, cert.leaves(), 7, &mut file)))
 }
 
 /// 2,048 triangles, whose text is written in pieces and read in others.

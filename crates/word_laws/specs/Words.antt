@@ -1,8 +1,9 @@
 -- The words of a command line that are a command. This project's own.
--- Words: Show, Scripted, Making, Checking, Target, Fitting, Job, Command, job_files, names_of, file_count, is_scripted, has_script, is_check, is_of_engine,
+-- Words: Show, Scripted, Making, Checking, Target, Fitting, FitMaking, FitChecking, Job, Command, job_files, names_of, file_count, is_scripted, has_script, is_check, is_of_engine,
 -- prefix_of, is_prefix, within, number_word, least_budget, greatest_budget, greatest_spacing, greatest_level, greatest_seed,
 -- greatest_tolerance, greatest_error, greatest_coordinate, is_coordinate, budget_word, spacing_word, tolerance_word, error_word, in_reach, coordinate_word, frames_command, least_command, meshes_command, try_command,
--- camera_word, make_command, check_command, target_word, fit_command, fit_words, command_of.
+-- camera_word, make_command, check_command, target_word, fit_command, fit_words, fit_make_command, fit_check_command, six_command, eight_command,
+-- command_of.
 use Rattle.std.specs.Prelude.{ℕ, ◌^◌, Bool, true, false, ◌&&◌, nat_le, if◌then◌else◌, List, [], ◌∷◌, length, Option, Some, None, codes, bytes_eq, ℤ, unsigned_abs}
 use Rattle.std.specs.Option.{option_map}
 use Rattle.mesh_defs.specs.BoundingBox.{CameraAt}
@@ -52,14 +53,28 @@ pub record Fitting : Type 0 where
   pub target : Target
   pub spacing : ℕ
 
--- what is done with a grid: the frames of a script, a line of facts, a certificate, a check of a mesh by one, or a mesh that is
--- fitted to it
+-- a certificate of a fitted mesh is made: what the mesh is fitted to, and how many world units a grid step has
+pub record FitMaking : Type 0 where
+  pub target : Target
+  pub spacing : ℕ
+
+-- a fitted mesh is checked by a certificate: the names of both files, what it is fitted to, and how many world units a grid step has
+pub record FitChecking : Type 0 where
+  pub mesh : List ℕ
+  pub certificate : List ℕ
+  pub target : Target
+  pub spacing : ℕ
+
+-- what is done with a grid: the frames of a script, a line of facts, a certificate, a check of a mesh by one, a mesh that is
+-- fitted to it, a certificate of such a mesh, or a check of such a mesh by one
 pub data Job : Type 0 where
   Frames : (scripted : Scripted) → Job
   Facts : Job
   Make : (making : Making) → Job
   Check : (checking : Checking) → Job
   Fit : (fitting : Fitting) → Job
+  MakeFit : (making : FitMaking) → Job
+  CheckFit : (checking : FitChecking) → Job
 
 -- a command: a job on the grid of this name; or a generated run
 pub data Command : Type 0 where
@@ -73,6 +88,8 @@ job_files Facts = []
 job_files (Make m) = []
 job_files (Check c) = c.certificate ∷ (c.mesh ∷ [])
 job_files (Fit f) = []
+job_files (MakeFit m) = []
+job_files (CheckFit c) = c.certificate ∷ (c.mesh ∷ [])
 
 -- the names of a command's files; the grid comes first
 abbrev pub names_of : Command → List (List ℕ)
@@ -91,6 +108,8 @@ is_scripted Facts = false
 is_scripted (Make m) = false
 is_scripted (Check c) = false
 is_scripted (Fit f) = false
+is_scripted (MakeFit m) = false
+is_scripted (CheckFit c) = false
 
 abbrev pub has_script : Command → Bool
 has_script (OnGrid grid job) = is_scripted job
@@ -103,6 +122,8 @@ is_check (OnGrid grid Facts) = false
 is_check (OnGrid grid (Make m)) = false
 is_check (OnGrid grid (Check c)) = true
 is_check (OnGrid grid (Fit f)) = false
+is_check (OnGrid grid (MakeFit m)) = false
+is_check (OnGrid grid (CheckFit c)) = true
 is_check (Generated n seed) = false
 
 -- an engine makes the frames that are shown so; the meshes of a tolerance are made without one
@@ -247,23 +268,47 @@ abbrev pub fit_words : List ℕ → List ℕ → List ℕ → List ℕ → List 
 fit_words grid_name begin word number step =
     if is_prefix begin then fit_command grid_name begin (target_word word number) (spacing_word step) else None
 
+-- a certificate of a fitted mesh is made, if what the mesh is fitted to and the spacing are there
+abbrev pub fit_make_command : List ℕ → Option Target → Option ℕ → Option Command
+fit_make_command grid_name (Some goal) (Some s) = Some (OnGrid grid_name (MakeFit (record { target = goal; spacing = s })))
+fit_make_command grid_name _ _ = None
+
+-- a fitted mesh is checked by a certificate, if what it is fitted to and the spacing are there
+abbrev pub fit_check_command : List ℕ → List ℕ → List ℕ → Option Target → Option ℕ → Option Command
+fit_check_command grid_name mesh_name cert_name (Some goal) (Some s) =
+    Some (OnGrid grid_name (CheckFit (record { mesh = mesh_name; certificate = cert_name; target = goal; spacing = s })))
+fit_check_command grid_name mesh_name cert_name _ _ = None
+
+-- of six words: a mesh is fitted, a certificate of such a mesh is made, or a mesh is written for each frame
+abbrev pub six_command : List ℕ → List ℕ → List ℕ → List ℕ → List ℕ → List ℕ → Option Command
+six_command word i j k number step =
+    if bytes_eq word (codes "fit") then fit_words i j k number step
+    else if bytes_eq word (codes "certify") && bytes_eq i (codes "make-fit") then fit_make_command j (target_word k number) (spacing_word step)
+    else if is_prefix k then meshes_command word i j k number step
+    else None
+
+-- of eight words: a certificate is made, or a fitted mesh is checked by one
+abbrev pub eight_command : List ℕ → List ℕ → List ℕ → List ℕ → List ℕ → List ℕ → List ℕ → List ℕ → Option Command
+eight_command word task grid_name i j k number step =
+    if bytes_eq word (codes "certify") && bytes_eq task (codes "make")
+    then make_command grid_name (camera_word (coordinate_word i) (coordinate_word j) (coordinate_word k)) (budget_word number) (spacing_word step)
+    else if bytes_eq word (codes "certify") && bytes_eq task (codes "check-fit")
+    then fit_check_command grid_name i j (target_word k number) (spacing_word step)
+    else None
+
 -- The command that the words are, None of other words: `info GRID`, `try N SEED`, `mesh GRID SCRIPT PREFIX BUDGET SPACING`,
 -- `strip GRID SCRIPT PREFIX BUDGET SPACING`, `least GRID SCRIPT PREFIX TOLERANCE SPACING`, `measure GRID SCRIPT BUDGET SPACING`,
--- `certify check GRID OBJ CERT BUDGET SPACING`, `certify make GRID X Y Z BUDGET SPACING`, `fit GRID PREFIX error E SPACING`, or
--- `fit GRID PREFIX budget BUDGET SPACING`.
+-- `certify check GRID OBJ CERT BUDGET SPACING`, `certify make GRID X Y Z BUDGET SPACING`, `fit GRID PREFIX TARGET SPACING`,
+-- `certify check-fit GRID OBJ CERT TARGET SPACING`, or `certify make-fit GRID TARGET SPACING`, where TARGET is the two words `error E` or
+-- `budget BUDGET`.
 abbrev pub command_of : List (List ℕ) → Option Command
 command_of (word ∷ (i ∷ [])) = if bytes_eq word (codes "info") then Some (OnGrid i Facts) else None
 command_of (word ∷ (i ∷ (j ∷ []))) =
     if bytes_eq word (codes "try") then try_command (number_word 1 greatest_level i) (number_word 0 greatest_seed j) else None
 command_of (word ∷ (i ∷ (j ∷ (k ∷ (l ∷ []))))) =
     if bytes_eq word (codes "measure") then frames_command i j AsMeasures (budget_word k) (spacing_word l) else None
-command_of (word ∷ (i ∷ (j ∷ (k ∷ (l ∷ (m ∷ [])))))) =
-    if bytes_eq word (codes "fit") then fit_words i j k l m
-    else if is_prefix k then meshes_command word i j k l m
-    else None
+command_of (word ∷ (i ∷ (j ∷ (k ∷ (l ∷ (m ∷ [])))))) = six_command word i j k l m
 command_of (word ∷ (i ∷ (j ∷ (k ∷ (l ∷ (m ∷ (o ∷ []))))))) =
     if bytes_eq word (codes "certify") && bytes_eq i (codes "check") then check_command j k l (budget_word m) (spacing_word o) else None
-command_of (word ∷ (i ∷ (j ∷ (k ∷ (l ∷ (m ∷ (o ∷ (p ∷ [])))))))) =
-    if bytes_eq word (codes "certify") && bytes_eq i (codes "make")
-    then make_command j (camera_word (coordinate_word k) (coordinate_word l) (coordinate_word m)) (budget_word o) (spacing_word p) else None
+command_of (word ∷ (i ∷ (j ∷ (k ∷ (l ∷ (m ∷ (o ∷ (p ∷ [])))))))) = eight_command word i j k l m o p
 command_of _ = None

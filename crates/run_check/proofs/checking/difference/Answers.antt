@@ -4,7 +4,7 @@ use Rattle.run_check.proofs.JudgingLemmas.{leaf-levels}
 use Rattle.run_check.proofs.checking.difference.Goals as goal
 
 pub compare-requires-clause-levels : goal.compare-requires-clause-levels
-compare-requires-clause-levels g c = leaf-levels _ _ c.requires.leaves
+compare-requires-clause-levels g c = rw c.leaves.ensures.value (leaf-levels _ _ c.requires.leaves)
 
 pub returns-in-Ok-compare-clause-ended : goal.returns-in-Ok-compare-clause-ended
 returns-in-Ok-compare-clause-ended g c none =

@@ -1,5 +1,6 @@
 use Rattle.run_laws.proofs.FitLemmas.{tolerance-exact, fit-best}
 use Rattle.run_laws.proofs.FitRunLemmas.{fit-keeps}
+use Rattle.run_laws.proofs.FitCertifyLemmas.{fit_mesh-certified}
 use Rattle.run_laws.proofs.laws.fitting_laws.Goals as goal
 
 pub returns-clause-tolerance : goal.returns-clause-tolerance
@@ -11,3 +12,7 @@ returns-clause-best c = fit-best
 pub returns-clause-fitted : goal.returns-clause-fitted
 returns-clause-fitted c words files f grid before now old new all status run there ends read memory =
     fit-keeps c.grids_and_texts.ensures.texts words files f grid run before now old new all there status ends read memory
+
+pub returns-clause-certified : goal.returns-clause-certified
+returns-clause-certified c words files check grid before now old new status is ends done =
+    fit_mesh-certified c.grids_and_texts.ensures.texts words files check grid is before now old new status ends done

@@ -1,0 +1,4 @@
+pub mod FitCertStageLemmas
+pub mod FitJudgingLemmas
+pub mod FitMakingLemmas
+pub mod TextLemmas

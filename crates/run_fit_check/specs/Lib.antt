@@ -1,0 +1,2 @@
+pub mod FitCertStage
+pub mod FitJudging
