@@ -1,19 +1,70 @@
 -- A certificate of a fitted mesh and a mesh are judged: what the calls of a check come to.
-use Rattle.std.proofs.Common.{◌≡◌, ℕ, ◌+◌, ◌*◌, ◌≤◌, inl, inr, List, [], ◌∷◌, Some, None, Ok, All, refl, subst, arith}
+use Rattle.std.proofs.Common.{◌≡◌, ◌≢◌, ℕ, ◌+◌, ◌≤◌, Bool, inl, inr, List, [], Option, Some, None, Ok, take, slice_get, refl, sym, ◌∙◌, ap, subst, arith}
 use Rattle.mesh_defs.specs.HeightField.{HeightField}
 use Rattle.roam_edge.specs.Shelf.{NamedFile, bytes_of}
 use Rattle.pgm_grid.specs.Progress.{grid_of}
+use Rattle.fit_certificate_laws.specs.declared.reason.Target.{Target as Goal}
+use Rattle.fit_certificate_laws.specs.declared.reason.Verdict.TheVariants as verdict
+use Rattle.fit_certificate_laws.specs.Certificate.{FitCertificate, IsSound}
 use Rattle.run_laws.specs.declared.status.Status.{Status}
 use Rattle.word_laws.specs.Words.{Checking, Check, FitChecking, CheckFit, OnGrid}
 use Rattle.run_laws.specs.Act.{Told}
-use Rattle.run_laws.specs.Outcome.{text_outcome}
+use Rattle.run_laws.specs.FileStop.{StopsReading}
+use Rattle.run_laws.specs.Fit.{goal_of, fit_text}
+use Rattle.run_laws.specs.Outcome.{text_outcome, IsFitCheckOutcome}
 use Rattle.run_laws.specs.Promise.{Seen, CommandReadFault, CommandNoMemory}
 use Rattle.run_laws.proofs.ActLemmas.{stands-nothing}
 use Rattle.run_fit_check.specs.declared.verdict_report.Judgement.{Judgement}
+use Rattle.run_fit_check.specs.declared.verdict_report.Judgement.TheVariants.{Certified, MeshDiffers}
 use Rattle.run_laws.specs.Maker.{DoesAs}
 use Rattle.run_laws.specs.Leaving.{CommandEnds}
-use Rattle.run_fit_check.specs.FitJudging.{judged_text, judged_status, opened_for, judged_outcome, IsJudged, IsFaultlessFile, JudgesNoMemory, JudgesFault}
+use Rattle.run_fit_check.specs.FitJudging.{judged_text, judged_status, opened_for, judged_outcome, IsJudged, IsFaultlessFile, JudgesNoMemory, MeshHasRead, JudgesFault, IsSoundFor, StopsFitMesh}
 use Rattle.run_laws.proofs.GridLemmas.{ends-as, file-fault, same-name}
+
+-- The triangles are those of a certificate without a fault, of so many that are off by so much.
+module _ (c : FitChecking) (grid : HeightField) (cert : FitCertificate) (count deviation : ℕ) (triangles : List ℕ) (sound : IsSoundFor c grid cert count deviation)
+    (made : (target : Goal) (mesh : List ℕ) → IsSound grid.n grid.heights target cert mesh → triangles ≡ mesh) where
+  mesh-is : triangles ≡ sound.0
+  mesh-is = made (goal_of grid.n c.target) sound.0 sound.1
+
+  -- the file has their text
+  pub same-judged : (bytes : List ℕ) → fit_text c.spacing grid triangles ≡ bytes
+      → IsFitCheckOutcome c grid (Ok cert) bytes (judged_outcome grid.n (Certified count deviation))
+  same-judged bytes same = (
+    verdict.Certified count deviation,
+    sound.0,
+    (sound.1, sound.2, sound.3),
+    inl (sym same ∙ ap (fit_text c.spacing grid) mesh-is, refl),
+  )
+
+  -- the file differs from it first at this place
+  pub differs-judged : (bytes : List ℕ) (place : ℕ) → take place (fit_text c.spacing grid triangles) ≡ take place bytes
+      → slice_get (fit_text c.spacing grid triangles) place ≢ slice_get bytes place
+      → IsFitCheckOutcome c grid (Ok cert) bytes (judged_outcome grid.n (MeshDiffers place))
+  differs-judged bytes place same differ = (
+    verdict.Certified count deviation,
+    sound.0,
+    (sound.1, sound.2, sound.3),
+    inr (
+      place,
+      record {
+        same = sym same ∙ ap (λ (l : List ℕ). take place (fit_text c.spacing grid l)) mesh-is;
+        differ = λ e. differ (ap (λ (l : List ℕ). slice_get (fit_text c.spacing grid l) place) mesh-is ∙ sym e);
+      },
+      refl,
+    ),
+  )
+
+  -- a read of the file failed
+  pub stops-fit : (told : Option (List NamedFile)) (rest : Option (List ℕ)) (ended : Bool)
+      → ((files : List NamedFile) → told ≡ Some files → StopsReading (MeshHasRead (fit_text c.spacing grid triangles)) (bytes_of files c.mesh) rest ended)
+      → StopsFitMesh c grid cert told rest ended
+  stops-fit told rest ended stops = (
+    sound.0,
+    sound.1,
+    λ files is_told.
+        subst (λ (l : List ℕ). StopsReading (MeshHasRead (fit_text c.spacing grid l)) (bytes_of files c.mesh) rest ended) mesh-is (stops files is_told),
+  )
 
 -- a judgement ends a check
 pub check-ends : (before now : Told) (old new : Seen) (name : List ℕ) (c : FitChecking) (files : List NamedFile) (grid : HeightField) (judgement : Judgement) (text : List ℕ) (middle : ℕ) (end status : Status)

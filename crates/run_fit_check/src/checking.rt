@@ -203,6 +203,7 @@ fn judge_mesh<F: Shelf>(
     ensures in_time { IsInTime (F.late shelf.old) (F.faults shelf.old) (F.late shelf.new) }
 {
     difference_laws();
+    let _level = wedges.grid().n();
     let Ok(mesh) = mesh_of(alloc, wedges.grid(), cert) else {
         return Err(CheckStop::NoMemory);
     };

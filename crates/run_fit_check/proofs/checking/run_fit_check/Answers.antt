@@ -13,7 +13,7 @@ returns-in-Ok-judge-clause-outcome g c meshes count files told_files =
     let j = c.in-Ok-judge.judgement in
     let judged = rw c.in-Ok-build.ensures at (c.in-Ok-judge.ensures.ok files (c.in-Ok.ensures.files ∙ told_files)) in
     check-ends _ _ _ _ c.args.words.now.grid.now check files c.in-Ok.grid j c.as_slice.result.now (g.F.Shelf.opens c.read_grid.new.shelf) c.status.result _
-    (c.in-Ok.ensures.ok files told_files) judged (c.as_slice.ensures.value ∙ c.judgement_report.ensures ∙ ap (λ k. judged_text k j) c.n.ensures.value) c.status.ensures
+    (c.in-Ok.ensures.ok files told_files) judged (c.as_slice.ensures.value ∙ c.judgement_report.ensures ∙ ap (λ k. judged_text k j) c.n-n.ensures.value) c.status.ensures
     (next_count-one _ _ c.requires.opens c.in-Ok.ensures.opens) c.in-Ok-judge.ensures.opens (c.end_with_text.ensures.ends meshes count (opened_for j))
 
 pub returns-in-Err-NoMemory-judge-clause-no_memory : goal.returns-in-Err-NoMemory-judge-clause-no_memory

@@ -1,10 +1,29 @@
-use Rattle.std.proofs.Common.{◌≡◌, take, rules, arith, ◌∙◌}
+use Rattle.std.proofs.Common.{◌≡◌, [], take, rules, arith, sym, ◌∙◌, subst}
 use Rattle.std.proofs.lemmas.Grind.{common_steps}
 use Rattle.std.proofs.lemmas.Result.{err_from_is_err_and}
 use Rattle.run_files.specs.declared.cert_file.CertStop.TheVariants.{BadLine}
+use Rattle.fit_cert_text.specs.FitCertReader.{nothing_read, fit_line_in}
+use Rattle.run_laws.specs.CertFile.{FitCertPlace, HasFitCertCome}
+use Rattle.run_laws.proofs.CertFileLemmas.{come-begin}
 use Rattle.run_laws.proofs.FileLemmas.{piece-read, stops-unopened}
 use Rattle.run_fit_check.proofs.FitCertStageLemmas.{cert-more, cert-refused, cert-ok, cert-bad, cert-nothing}
 use Rattle.run_fit_check.proofs.fit_cert_file.read_fit_cert.Goals as goal
+
+pub pieces-init : goal.pieces-init
+pieces-init g c = record {
+  reading = record {
+    bytes = [];
+    come = subst (λ (here : FitCertPlace). HasFitCertCome c.args.n [] here) (sym c.new-stage.ensures.place) (come-begin (fit_line_in c.args.n) nothing_read);
+    in_file = search rules;
+  };
+  level = c.new-stage.ensures.n;
+  counted = c.new-stage.ensures.counted;
+  open_file = search rules;
+  files = search rules;
+  opens = search rules;
+  faults = search rules;
+  in_time = search rules;
+}
 
 pub returns-in_default-clause-undecided : goal.returns-in_default-clause-undecided
 returns-in_default-clause-undecided g c is all told = stops-unopened _ _ _ _ (grind (arith, common_steps)) (cert-nothing c.args.n)
@@ -35,6 +54,7 @@ pieces-preserved g c = record {
   files = search rules;
   opens = search rules;
   faults = search rules;
+  in_time = search rules;
 }
 
 pub returns-in_err-take_piece-clause-bad_line : goal.returns-in_err-take_piece-clause-bad_line

@@ -1,5 +1,5 @@
 use Rattle.std.proofs.Common.{◌≡◌, ◌+◌, ◌-◌, ◌*◌, false, length}
-use Rattle.roam_edge.specs.Fault.{next_count}
+use Rattle.roam_edge.specs.Fault.{next_count, IsInTime}
 use Rattle.roam_script.specs.declared.limits.TheConstants.{MOST_LINE_BYTES}
 use Rattle.fit_certificate_laws.specs.declared.limits.TheConstants.{MOST_REASONS}
 use Rattle.run_fit_check.specs.FitCertStage.{IsCounted}
@@ -16,6 +16,7 @@ invariant-pieces g l = record {
   files : g.F.Shelf.files l.shelf ≡ g.F.Shelf.files l.fn.shelf;
   opens : g.F.Shelf.opens l.shelf ≡ next_count (g.F.Shelf.opens l.fn.shelf);
   faults : g.F.Shelf.faults l.shelf ≡ g.F.Shelf.faults l.fn.shelf;
+  in_time : IsInTime (g.F.Shelf.late l.fn.shelf) (g.F.Shelf.faults l.fn.shelf) (g.F.Shelf.late l.shelf);
 }
 
 -- each byte makes a line longer, or is the last of an accepted line

@@ -12,8 +12,8 @@ returns-in-Ok-certificate_of-clause-outcome g c meshes count files told_files =
     (c.in-Ok.ensures.ok files told_files) c.in-Ok-certificate_of.ensures
     (next_count-one _ _ c.requires.opens c.in-Ok.ensures.opens) (c.end_with_cert.ensures.ends meshes count 1)
 
-pub returns-in-Err-clause-no_memory : goal.returns-in-Err-clause-no_memory
-returns-in-Err-clause-no_memory g c is meshes count =
+pub returns-in-Ok-clause-no_memory : goal.returns-in-Ok-clause-no_memory
+returns-in-Ok-clause-no_memory g c is meshes count =
     let job : Job = MakeFit (fit_making_seen c.args.words.now) in
     grid-memory _ _ _ c.args.words.now.grid.now job (next_count-one _ _ c.requires.opens c.in-Ok.ensures.opens) c.in-Ok.ensures.header
 
@@ -29,8 +29,8 @@ returns-in-Err-Failed-clause-read_fault g c is meshes count =
     grid-fault _ _ _ c.args.words.now.grid.now job (next_count-one _ _ c.requires.opens c.in-Err-Failed.ensures.opens)
     (c.in-Err-Failed.ensures.undecided (ap Err c.in-Err-Failed.field-0-is))
 
-pub returns-in-Err-Refused-clause-outcome : goal.returns-in-Err-Refused-clause-outcome
-returns-in-Err-Refused-clause-outcome g c meshes count files told_files =
+pub returns-clause-outcome : goal.returns-clause-outcome
+returns-clause-outcome g c meshes count files told_files =
     let job : Job = MakeFit (fit_making_seen c.args.words.now) in
     refused-ends _ _ _ _ c.args.words.now.grid.now job files c.in-Err-Refused.fault c.as_slice.result.now _
     (c.in-Err-Refused.ensures.refused c.in-Err-Refused.fault (ap Err c.in-Err-Refused.field-0-is) files told_files)
