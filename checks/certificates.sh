@@ -1,7 +1,7 @@
 # shellcheck shell=bash disable=SC2154
 # Certificates, good and damaged, before checkers that have nothing of the program: certificates.py and, of fitted meshes,
 # fit_certificates.py, copied into an empty folder and run by Python without the folder's modules. Line and status are the wanted
-# ones; of the first, the program's own too. The fitted meshes are the program's.
+# ones, and those of the program's own check. The fitted meshes are the program's.
 # Sourced by checks/run.
 
 mkdir -- "$room/certificates" "$room/certificates/alone" && cd -- "$room/certificates" || exit 1
@@ -66,7 +66,7 @@ judged a_certificate_of_the_programs_own 0 'certified camera -7 5 30 triangles 1
 sed 's/88/87/' plain.pgm >other.pgm
 judged a_certificate_of_another_grid 7 'rejected: *' "$PWD/other.pgm" "$PWD/small000001.obj" "$PWD/small.cert" 12 3
 
-# fit_judged NAME STATUS LINE GRID MESH CERT error|budget NUMBER SPACING: one check of a fitted mesh. LINE may end with `*`.
+# fit_judged NAME STATUS LINE GRID MESH CERT error|budget NUMBER SPACING: one check of a fitted mesh, of both. LINE may end with `*`.
 fit_judged() {
   local name=$1 status=$2 line=$3 why=() told
   shift 3
@@ -74,6 +74,7 @@ fit_judged() {
   [ $? -eq "$status" ] || why+=("the checker's status is not $status")
   # shellcheck disable=SC2053
   [[ $told == $line ]] || why+=("the checker says '$told', not '$line'")
+  [ "$("$program" certify check-fit "$@" 2>/dev/null)" = "$told" ] || why+=("the program says something else than '$told'")
   decide "$name" ${why[0]+"${why[@]}"}
 }
 
@@ -125,7 +126,18 @@ for target in 'error 0' 'error 12.5' 'error 70' 'budget 2' 'budget 9' 'budget 20
     line=$(sed 's/^fit \(triangles [0-9]*\) vertices [0-9]*/certified fit \1/' told)
   # shellcheck disable=SC2086
   fit_judged "a_certificate_made_of_a_fit_of_${target/ /_}" 0 "$line" "$PWD/plain.pgm" "$PWD/fitted000001.obj" "$PWD/made_cert" $target 3
+  # shellcheck disable=SC2086
+  "$program" certify make-fit plain.pgm $target 3 >own_cert
+  # shellcheck disable=SC2086
+  fit_judged "the_programs_own_certificate_of_a_fit_of_${target/ /_}" 0 "$line" "$PWD/plain.pgm" "$PWD/fitted000001.obj" "$PWD/own_cert" $target 3
 done
+
+# The example's certificate is the program's.
+if "$program" certify make-fit grid.pgm budget 2000 90 | cmp -s - fit_cert; then
+  ok the_certificate_of_the_example_is_the_programs
+else
+  wrong the_certificate_of_the_example_is_the_programs 'it is another one'
+fi
 
 # Random grids and words of `fit` (random_run.py): what Python makes is certified with the numbers of the program's line, and with a
 # tolerance that is one more it is not. Words that are no command are left out.

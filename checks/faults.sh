@@ -77,6 +77,10 @@ printf 'frame\nfly\n' >s
 under 'exec >&-' mesh g s out 2 1
 expect 6 1 '' 'roam: cannot write the report: Bad file descriptor'
 
+start a_fit_certificate_to_a_report_that_is_closed
+under 'exec >&-' certify make-fit g error 1 1
+expect 6 0 '' 'roam: cannot write the report: Bad file descriptor'
+
 # Who reads the report went away, as behind `| head`: the run ends without a word.
 start a_report_that_nobody_reads
 find . -mindepth 1 >"$room/before"
@@ -142,6 +146,15 @@ if [ -r /proc/self/mem ] && ! head -c 1 /proc/self/mem >/dev/null 2>&1; then
   start info_on_a_grid_that_cannot_be_read
   run info /proc/self/mem
   expect 5 0 '' "roam: cannot read the grid '/proc/self/mem': Input/output error"
+
+  start a_fit_certificate_that_cannot_be_read
+  run certify check-fit g o /proc/self/mem error 1 1
+  expect 5 0 '' "roam: cannot read the certificate '/proc/self/mem': Input/output error"
+
+  start a_fitted_mesh_that_cannot_be_read
+  printf 'tolerance 0\nmesh\n' >c
+  run certify check-fit g /proc/self/mem c error 0 1
+  expect 5 0 '' "roam: cannot read the mesh '/proc/self/mem': Input/output error"
 
   start a_script_that_cannot_be_read
   run mesh g /proc/self/mem out 2 1

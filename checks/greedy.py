@@ -4,15 +4,16 @@
 usage: checks/greedy.py WORD ..    the words of the program
 
 Slow and plain: it looks at every triangle, every diamond and every point (terrain.py, frames.py, strips.py, fitting.py,
-certifying.py).
+certifying.py, fit_certifying.py).
 Exit statuses are those of the program: 2 where the words are no command, 4 where a line of a script is refused, 5 where a
 file cannot be read, 6 where a mesh cannot be written, 7 where a certificate is rejected. Grids are raw PGM files
-without comments; no grid is refused. `certify make` writes a sound certificate, of which there are many."""
+without comments; no grid is refused. `certify make` and `certify make-fit` write a sound certificate, of which there are many."""
 import re
 import sys
 from fractions import Fraction
 
 import certifying
+import fit_certifying
 import fitting
 import generated
 from frames import View, frame_of, least_split, leaves_of, mesh_text, run_of_steps, vertices_of
@@ -133,16 +134,21 @@ def thousandths(word):
     return count
 
 
-def fit(grid, prefix, kind, bound, spacing):
+def goal_words(kind, bound):
+    """The thousandths of an error, and a budget; None of the one that the words do not say."""
     if kind not in ("error", "budget"):
         raise Usage
-    prefix, bound = prefix_word(prefix), (thousandths if kind == "error" else budget_word)(bound)
-    terrain = Terrain(read_grid(grid), spacing_word(spacing), MOST_TRIANGLES)
+    return (thousandths(bound), None) if kind == "error" else (None, budget_word(bound))
+
+
+def fit(grid, prefix, kind, bound, spacing):
+    prefix, (error, budget), spacing = prefix_word(prefix), goal_words(kind, bound), spacing_word(spacing)
+    terrain = Terrain(read_grid(grid), spacing, MOST_TRIANGLES)
     errors = fitting.Errors(terrain)
-    if kind == "error":
-        split = fitting.fit_error(terrain, errors, Fraction(bound * terrain.m, 1000))
+    if budget is None:
+        split = fitting.fit_error(terrain, errors, Fraction(error * terrain.m, 1000))
     else:
-        split = fitting.fit_budget(terrain, errors, bound)
+        split = fitting.fit_budget(terrain, errors, budget)
     leaves = leaves_of(split)
     off = deviation(terrain, leaves)
     write_mesh(prefix, 1, mesh_text(terrain, leaves))
@@ -155,6 +161,10 @@ def certify(action, *words):
         return certify_make(*words)
     if action == "check" and len(words) == 5:
         return certify_check(*words)
+    if action == "make-fit" and len(words) == 4:
+        return certify_make_fit(*words)
+    if action == "check-fit" and len(words) == 6:
+        return certify_check_fit(*words)
     raise Usage
 
 
@@ -176,6 +186,24 @@ def certify_check(grid, mesh_name, certificate, budget, spacing):
         print(f"rejected: {why}")
         return 7
     print("certified camera %d %d %d" % terrain.camera, f"triangles {len(leaves)} worst {worst}")
+
+
+def certify_make_fit(grid, kind, bound, spacing):
+    (error, budget), spacing = goal_words(kind, bound), spacing_word(spacing)
+    terrain = Terrain(read_grid(grid), spacing, MOST_TRIANGLES)
+    print(fit_certifying.made(terrain, fitting.Errors(terrain), error, budget), end="")
+
+
+def certify_check_fit(grid, mesh_name, certificate, kind, bound, spacing):
+    (error, budget), spacing = goal_words(kind, bound), spacing_word(spacing)
+    terrain = Terrain(read_grid(grid), spacing, MOST_TRIANGLES)
+    try:
+        leaves = fit_certifying.check(terrain, fit_certifying.read(read(certificate), terrain), error, budget)
+        certifying.compare(terrain, leaves, read(mesh_name))
+    except certifying.Rejected as why:
+        print(f"rejected: {why}")
+        return 7
+    print(fit_certifying.certified_line(terrain, leaves))
 
 
 def info(grid):
@@ -200,7 +228,7 @@ def try_(n, seed):
 
 # By its word: a command, and how many words may follow.
 COMMANDS = {"mesh": (mesh, [5]), "info": (info, [1]), "try": (try_, [2]), "least": (least, [5]), "strip": (strip, [5]),
-            "measure": (measure, [4]), "certify": (certify, [6, 7]), "fit": (fit, [5])}
+            "measure": (measure, [4]), "certify": (certify, [5, 6, 7]), "fit": (fit, [5])}
 
 
 def main(words):

@@ -37,6 +37,7 @@ if cc -O1 -shared -fPIC -o refuse.so refuse.c -ldl 2>said; then
   { printf 'P5\n3 3\n65535\n'; head -c 9 /dev/zero; printf '\012'; head -c 8 /dev/zero; } >hill
   printf '%s\n' 'v 0 0 0' 'v 2 0 0' 'v 0 2 0' 'v 2 2 0' 'f 1 2 3' 'f 4 3 2' >o
   printf '%s\n' 'camera 0 0 0' 'leaf 2' 'leaf 3' 'want 2' >c
+  printf '%s\n' 'tolerance 20' mesh 'off 2 1 1' >f
 
   while read -r name words; do
     why=()
@@ -67,6 +68,9 @@ fit_of_an_error fit g out error 0 1
 fit_of_a_budget fit g out budget 9 1
 certify_make certify make hill 0 0 0 4 1
 certify_check certify check hill o c 2 1
+certify_make_fit certify make-fit hill budget 2 1
+certify_make_fit_of_an_error certify make-fit hill error 0 1
+certify_check_fit certify check-fit hill o f budget 2 1
 TABLE
 else
   skip memory "the C compiler makes no library to load before a program"

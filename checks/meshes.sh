@@ -4,7 +4,7 @@
 # start and run it uses; wants python3.
 
 # The commands whose random runs are compared.
-compared=(mesh strip measure least fit certify)
+compared=(mesh strip measure least fit certify certify_fit)
 
 # Python itself, since python3 may be a script that looks for it, which is slow to start so often.
 python=$(python3 -c 'import sys; print(sys.executable)')
@@ -190,6 +190,51 @@ random_damage() {
   differences certify check g out000001.obj c "${limits[@]}" >../why
 }
 
+# random_fit_certificate KIND SEED: the words of a random fit. The program's mesh is certified by what the program makes and by what the
+# plain program makes, by the two alike and, of the first, by a checker that shares nothing with either.
+random_fit_certificate() {
+  random_folder "$1" "$2" fit || return
+  local maker target=("${words[@]:3}") told
+  if ! "$program" "${words[@]}" >line 2>said; then
+    differences certify make-fit g "${target[@]}" >../why
+    return
+  fi
+  mkdir made plain && ln g made && ln g plain && ln out000001.obj made/o && ln out000001.obj plain/o || return
+  {
+    "$program" certify make-fit g "${target[@]}" >made/c || echo "'${words[*]}': exit status $?"
+    "$python" "$checks/greedy.py" certify make-fit g "${target[@]}" >plain/c || echo "'${words[*]}': exit status $? of the plain program"
+    cmp -s <(head -n 1 made/c) <(head -n 1 plain/c) || echo "'${words[*]}': the tolerance differs"
+    for maker in made plain; do
+      cd "$maker" || return
+      differences certify check-fit g o c "${target[@]}"
+      grep -q '^certified fit ' report || echo "'${words[*]}', $maker: the report is '$(head -c 200 report)'"
+      cd ..
+    done
+    told=$("$python" "$checks/fit_certificates.py" g out000001.obj made/c "${target[@]}")
+    [ "$told" = "$(cat made/report)" ] || echo "'${words[*]}': fit_certificates.py says '$told'"
+  } >../found
+  mv ../found ../why
+}
+
+# random_fit_damage KIND SEED: such a certificate, or its mesh, in which something was changed; of each eight seeds one is checked for a
+# budget of one more, or an error of 1 more, and one for one less.
+random_fit_damage() {
+  random_folder "$1" "$2" fit || return
+  local target=("${words[@]:3}")
+  if ! "$python" "$checks/greedy.py" "${words[@]}" >said 2>&1; then
+    differences certify check-fit g o c "${target[@]}" >../why
+    return
+  fi
+  "$python" "$checks/greedy.py" certify make-fit g "${target[@]}" >c &&
+    "$python" "$checks/random_run.py" "$2" damage_fit || return
+  mv out000001.obj o
+  case $(($2 % 8)) in
+    0) target[1]=$((${target[1]%.*} + 1)) ;;
+    4) target[1]=$((${target[1]%.*} - 1)) ;;
+  esac
+  differences certify check-fit g o c "${target[@]}" >../why
+}
+
 # random_runs HOW KIND: runs with the seeds 1, 2, .. by HOW, as many at a time as there are processors.
 random_runs() {
   local seed line found=()
@@ -214,6 +259,10 @@ for command in "${compared[@]}"; do
     certify)
       random_runs random_certificate certify
       random_runs random_damage damage
+      ;;
+    certify_fit)
+      random_runs random_fit_certificate certify_fit
+      random_runs random_fit_damage damage_fit
       ;;
     least) random_runs random_least least ;;
     *) random_runs random_script "$command" ;;

@@ -670,6 +670,98 @@ cp "$room/report" c
 run certify check g out000001.obj c 9 1
 expect 0 0 'certified camera 0 0 0 triangles 9 worst 436906\n'
 
+# --- Certificates of fitted meshes, over the same nine points: each half is off by 20 over 2 in the middle. ---
+
+# NAME, the certificate's lines (as printf's %b), what the mesh is fitted to, status, report
+while IFS='|' read -r name lines target wanted report; do
+  start "$name"
+  hill
+  printf '%b' "$lines" >c
+  # shellcheck disable=SC2086 # two words
+  run certify check-fit g o c $target 1
+  expect "$wanted" 0 "$report\n"
+done <<'TABLE'
+halves_certified_for_a_budget|tolerance 20\nmesh\noff 2 1 1\n|budget 2|0|certified fit triangles 2 deviation 20 over 2 error 10
+halves_certified_for_a_budget_of_3|tolerance 20\nmesh\noff 3 1 1\n|budget 3|0|certified fit triangles 2 deviation 20 over 2 error 10
+halves_certified_for_an_error|tolerance 20\nmesh\n|error 10|0|certified fit triangles 2 deviation 20 over 2 error 10
+halves_certified_for_an_error_between_two_tolerances|tolerance 20\nmesh\n|error 10.499|0|certified fit triangles 2 deviation 20 over 2 error 10
+a_fit_certificate_with_cr_and_no_last_lf|\ttolerance 20\r\n mesh\r\noff  2\t1 1 \r|budget 2|0|certified fit triangles 2 deviation 20 over 2 error 10
+a_fit_certificate_of_another_error|tolerance 20\nmesh\n|error 9.999|7|rejected: other tolerance
+a_fit_certificate_of_a_lesser_tolerance|tolerance 19\nmesh\n|budget 2|7|rejected: over tolerance
+a_fit_reason_that_is_not_off|tolerance 20\noff 2 1 1\nmesh\n|budget 2|7|rejected: bad reason 1
+a_fit_reason_at_a_point_that_is_not_off|tolerance 19\noff 2 1 0\nmesh\n|budget 4|7|rejected: bad reason 1
+a_fit_reason_at_a_point_of_the_other_half|tolerance 0\noff 2 2 2\nmesh\n|budget 4|7|rejected: bad reason 1
+a_fit_reason_of_a_triangle_that_is_no_leaf|tolerance 0\noff 4 1 1\nmesh\n|budget 4|7|rejected: bad reason 1
+a_fit_reason_that_the_one_before_forced|tolerance 19\noff 2 1 1\noff 3 1 1\nmesh\n|budget 4|7|rejected: bad reason 2
+a_fit_reason_behind_the_mesh_that_is_forced|tolerance 20\nmesh\noff 2 1 1\noff 3 1 1\n|budget 2|7|rejected: bad reason 2
+more_triangles_than_the_budget_of_a_fit|tolerance 0\noff 2 1 1\nmesh\n|budget 3|7|rejected: over budget
+a_fit_reason_too_few|tolerance 20\nmesh\noff 2 1 1\n|budget 4|7|rejected: too few reasons
+a_fit_certificate_without_the_mesh|tolerance 20\noff 2 1 1\n|budget 2|7|rejected: bad line 3
+a_fit_certificate_with_the_mesh_twice|tolerance 20\nmesh\nmesh\n|budget 2|7|rejected: bad line 3
+a_fit_certificate_without_a_tolerance|mesh\n|budget 2|7|rejected: bad line 1
+a_fit_certificate_without_bytes||budget 2|7|rejected: bad line 1
+a_blank_line_of_a_fit_certificate|tolerance 20\n\nmesh\n|budget 2|7|rejected: bad line 2
+a_fit_reason_of_a_finest_triangle|tolerance 20\nmesh\noff 8 1 1\n|budget 2|7|rejected: bad line 3
+a_fit_reason_past_the_last_column|tolerance 20\nmesh\noff 2 3 1\n|budget 2|7|rejected: bad line 3
+a_fit_certificate_of_the_quarters|tolerance 0\noff 2 1 1\nmesh\n|budget 4|7|rejected: mesh differs at 18
+TABLE
+
+start quarters_certified_by_their_reason
+hill
+run fit g out error 0 1
+printf 'tolerance 0\noff 2 1 1\nmesh\n' >c
+mv out000001.obj o
+run certify check-fit g o c budget 4 1
+expect 0 0 'certified fit triangles 4 deviation 0 over 2 error 0\n'
+
+start a_fit_certificate_that_is_not_there
+hill
+run certify check-fit g o c budget 2 1
+expect 5 0 '' "roam: cannot open the certificate 'c': No such file or directory"
+
+start a_fitted_mesh_that_is_not_there
+hill
+rm o
+printf 'tolerance 20\nmesh\noff 2 1 1\n' >c
+run certify check-fit g o c budget 2 1
+expect 5 0 '' "roam: cannot open the mesh 'o': No such file or directory"
+
+start a_fitted_mesh_that_no_test_needs
+hill
+rm o
+printf 'tolerance 20\nmesh\n' >c
+run certify check-fit g o c budget 2 1
+expect 7 0 'rejected: too few reasons\n'
+
+start a_check_of_a_fit_over_a_grid_that_is_cut_short
+flat_grid 3 | head -c 30 >g
+run certify check-fit g o c budget 2 1
+expect 3 0 'grid refused: truncated\n'
+
+start a_fit_certificate_over_a_grid_that_is_not_there
+run certify make-fit none error 1 1
+expect 5 0 '' "roam: cannot open the grid 'none': No such file or directory"
+
+start a_fit_certificate_of_a_flat_grid
+run certify make-fit g error 0.001 1
+expect 0 0 'tolerance 0\nmesh\n'
+
+# Which points are named is left open; that they are off is not.
+for target in 'error 9.999' 'error 10' 'budget 2' 'budget 3' 'budget 4' 'budget 1048576'; do
+  start "a_fit_certificate_that_is_made_and_checked_for_${target/ /_}"
+  hill
+  # shellcheck disable=SC2086
+  run fit g out $target 1
+  line=$(sed 's/^fit \(triangles [0-9]*\) vertices [0-9]*/certified fit \1/' "$room/report")
+  mv out000001.obj o
+  # shellcheck disable=SC2086
+  run certify make-fit g $target 1
+  cp "$room/report" c
+  # shellcheck disable=SC2086
+  run certify check-fit g o c $target 1
+  expect 0 0 "$line\n"
+done
+
 # --- Words. ---
 
 long=$(printf '%0200d' 0)
@@ -742,12 +834,24 @@ usage an_error_with_a_sign "E is '-1': $error" fit g out error -1 1
 usage an_error_of_17_digits "E is '00000000000000001': $error" fit g out error 00000000000000001 1
 usage an_empty_error "E is '': $error" fit g out error '' 1
 usage fit_of_a_spacing_of_0 "SPACING is '0': a whole number from 1 to 1024 is wanted" fit g out error 1 0
-usage certify_alone "certify wants 'make' or 'check' behind it" certify
-usage certify_with_another_word "certify wants 'make' or 'check' behind it, and not 'see'" certify see g o c 2 1
+tasks="'make', 'check', 'make-fit' or 'check-fit'"
+usage certify_alone "certify wants $tasks behind it" certify
+usage certify_with_another_word "certify wants $tasks behind it, and not 'see'" certify see g o c 2 1
 usage a_check_without_a_spacing 'certify check wants 5 words behind it, 4 were given: GRID OBJ CERT BUDGET SPACING' certify check g o c 2
 usage a_camera_beyond_the_greatest "Z is '1073741825': $reach" certify make g 0 0 1073741825 2 1
 usage a_camera_that_is_no_number "Y is '+1': $reach" certify make g 0 +1 0 2 1
 usage a_certificate_of_budget_1 "BUDGET is '1': $budget" certify make g 0 0 0 1 1
+forms='certify make-fit wants 4 words behind it, COUNT given: GRID error E SPACING, or GRID budget BUDGET SPACING'
+usage a_fit_certificate_without_a_goal "${forms/COUNT/1 was}" certify make-fit g
+usage a_fit_certificate_without_a_spacing "${forms/COUNT/3 were}" certify make-fit g error 1
+usage a_fit_certificate_with_one_word_more "${forms/COUNT/5 were}" certify make-fit g error 1 1 1
+usage a_fit_certificate_with_another_word "certify make-fit wants 'error' or 'budget' behind GRID, and not 'errors'" certify make-fit g errors 1 1
+usage a_fit_certificate_of_budget_1 "BUDGET is '1': $budget" certify make-fit g budget 1 1
+usage a_fit_certificate_of_too_great_an_error "E is '65536': $error" certify make-fit g error 65536 1
+usage a_fit_certificate_of_a_spacing_of_0 "SPACING is '0': a whole number from 1 to 1024 is wanted" certify make-fit g budget 2 0
+usage a_check_of_a_fit_without_a_spacing 'certify check-fit wants 6 words behind it, 5 were given: GRID OBJ CERT error E SPACING, or GRID OBJ CERT budget BUDGET SPACING' certify check-fit g o c budget 2
+usage a_check_of_a_fit_by_the_words_of_a_check "certify check-fit wants 'error' or 'budget' behind GRID OBJ CERT, and not '2'" certify check-fit g o c 2 1
+usage a_check_of_a_fit_of_an_error_without_a_number "E is '-1': $error" certify check-fit g o c error -1 1
 
 # The forms of the words for whoever asks, without a complaint; the version is that of CHANGELOG.md.
 for words in --help -h help 'mesh --help'; do

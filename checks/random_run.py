@@ -6,6 +6,7 @@ usage: checks/random_run.py SEED COMMAND     mesh, least, strip or measure: a sc
        checks/random_run.py SEED fit         a grid alone, and the words of `fit`, for an error or a budget
        checks/random_run.py SEED certify     the words of `certify make`, and a script that makes the same frame
        checks/random_run.py SEED damage BUDGET   changes something in the certificate `c` or in the mesh `out000001.obj`
+       checks/random_run.py SEED damage_fit      the same of a certificate of a fitted mesh
 
 The side is 3 to 33, the spacing 1 to 1024. Cameras are inside, above and far outside, planes cut the terrain or leave it
 on one side; now and then a line is refused, and the script ends there, or the words are."""
@@ -155,6 +156,41 @@ def damaged_line(lines):
         lines[place] += " " * (roll.choice([199, 200, 201]) - len(lines[place]) - 1) + roll.choice([" ", "\r", "\t"])
 
 
+def damaged_fit_line(lines):
+    """The same of a certificate of a fitted mesh; and the point of a reason may be another."""
+    reasons = [i for i, entry in enumerate(lines) if entry.startswith("off")]
+    place, other = (roll.choice(roll.choice([reasons, reasons, range(len(lines))]) or range(len(lines))) for _ in range(2))
+    kind = roll.choice(["drop", "drop", "repeat", "exchange", "number", "number", "number", "word", "add", "end", "last", "long", "tolerance", "mesh"])
+    if kind == "drop":
+        del lines[place]
+    elif kind == "repeat":
+        lines.insert(other, lines[place])
+    elif kind == "exchange":
+        lines[place], lines[other] = lines[other], lines[place]
+    elif kind == "number":
+        fields = lines[place].split()
+        at = roll.randrange(len(fields) or 1)
+        if at > 0 and fields[at].isdigit():
+            number = int(fields[at])
+            fields[at] = roll.choice([number + 1, number - 1, number ^ 1, number // 2, 2 * number, roll.randint(0, m), roll.randint(0, 2 ** 25), f"0{number}"])
+        lines[place] = " ".join(str(field) for field in fields)
+    elif kind == "word":
+        lines[place] = " ".join([roll.choice(["off", "mesh", "tolerance", "Off"])] + lines[place].split()[1:])
+    elif kind == "add":
+        lines.insert(roll.choice([place, len(lines)]), roll.choice(["", "# comment", "mesh", "off 2 1 1", "off 3 1 1", "off 2 1", "tolerance 1", "mesh 1"]))
+    elif kind == "end":
+        del lines[roll.randrange(len(lines) + 1):]
+    elif kind == "last":
+        del lines[-1]
+    elif kind == "tolerance" and lines[0].startswith("tolerance ") and lines[0].split()[1].isdigit():
+        lines[0] = f"tolerance {max(0, int(lines[0].split()[1]) + roll.choice([-1, 1]))}"
+    elif kind == "mesh" and "mesh" in lines:
+        lines.remove("mesh")
+        lines.insert(roll.randint(1, len(lines)), "mesh")
+    else:
+        lines[place] += " " * (roll.choice([199, 200, 201]) - len(lines[place]) - 1) + roll.choice([" ", "\r", "\t"])
+
+
 def damage_mesh():
     mesh = bytearray(open("out000001.obj", "rb").read())
     place = roll.randrange(len(mesh))
@@ -168,14 +204,14 @@ def damage_mesh():
     open("out000001.obj", "wb").write(mesh)
 
 
-if command == "damage":
+if command in ("damage", "damage_fit"):
     if roll.random() < 0.2:
         damage_mesh()
     else:
         lines = open("c").read().split("\n")[:-1]
         for _ in range(roll.choice([1, 1, 2])):
             if lines:
-                damaged_line(lines)
+                (damaged_line if command == "damage" else damaged_fit_line)(lines)
         open("c", "w", newline="").write(roll.choice(["\n", "\n", "\r\n"]).join(lines) + roll.choice(["", "\n"]))
     sys.exit()
 

@@ -37,18 +37,25 @@ def doubled_area(p, q, r):
     return (q[0] - p[0]) * (r[1] - p[1]) - (r[0] - p[0]) * (q[1] - p[1])
 
 
+def off(terrain, a, point):
+    """m times the distance in height between the terrain and a triangle's plane at a point; None where the triangle does not hold it."""
+    apex, v0, v1 = corners = terrain.corners[a]
+    parts = [doubled_area(point, v0, v1), doubled_area(apex, point, v1), doubled_area(apex, v0, point)]
+    if min(parts) < 0:
+        return None
+    area = doubled_area(apex, v0, v1)
+    plane = terrain.m * sum(part * terrain.heights[corner] for part, corner in zip(parts, corners))
+    assert plane % area == 0
+    return abs(terrain.m * terrain.heights[point] - plane // area)
+
+
+def points_off(terrain, a):
+    """The points that a triangle holds, each with that distance."""
+    xs, ys = zip(*terrain.corners[a])
+    points = ((x, y) for x in range(min(xs), max(xs) + 1) for y in range(min(ys), max(ys) + 1))
+    return [(point, distance) for point in points for distance in [off(terrain, a, point)] if distance is not None]
+
+
 def deviation(terrain, leaves):
     """m times the greatest distance in height between the terrain and the planes of triangles, over all their points."""
-    greatest = 0
-    for a in leaves:
-        apex, v0, v1 = corners = terrain.corners[a]
-        area = doubled_area(apex, v0, v1)
-        for x in range(min(p[0] for p in corners), max(p[0] for p in corners) + 1):
-            for y in range(min(p[1] for p in corners), max(p[1] for p in corners) + 1):
-                parts = [doubled_area((x, y), v0, v1), doubled_area(apex, (x, y), v1), doubled_area(apex, v0, (x, y))]
-                if min(parts) < 0:
-                    continue
-                plane = terrain.m * sum(part * terrain.heights[corner] for part, corner in zip(parts, corners))
-                assert plane % area == 0
-                greatest = max(greatest, abs(terrain.m * terrain.heights[x, y] - plane // area))
-    return greatest
+    return max(distance for a in leaves for _, distance in points_off(terrain, a))

@@ -1,13 +1,12 @@
 -- What is written of a certificate is read back.
-use Rattle.std.proofs.Common.{◌≡◌, subst, ◌≢◌, ℕ, zero, suc, ◌+◌, ◌*◌, ◌-◌, ◌%◌, ◌^◌, ◌<◌, ◌≤◌, Bool, true, false, List, [], ◌∷◌, ◌++◌, length, map, get_or, Option, Some, None, ℤ, pos, negsuc, refl, sym, ap, ap₂, ◌∙◌, arith, append_assoc, length-append, lit<}
-use Rattle.std.specs.Prelude.{◌||◌, ◌&&◌, ◌==◌, option_map, if◌then◌else◌, codes, decimal, unsigned_abs, nat_lt, nat_le, All}
+use Rattle.std.proofs.Common.{◌≡◌, subst, ℕ, suc, ◌+◌, ◌*◌, ◌^◌, ◌<◌, ◌≤◌, Bool, true, List, [], ◌∷◌, ◌++◌, length, map, Option, Some, None, ℤ, pos, negsuc, refl, sym, ap, ap₂, ◌∙◌, arith, append_assoc, length-append, lit<}
+use Rattle.std.specs.Prelude.{◌&&◌, option_map, if◌then◌else◌, codes, decimal, unsigned_abs, nat_lt, nat_le, All}
 use Rattle.std.specs.List.{flat_map}
 use Rattle.std.specs.Fmt.{signed_decimal}
 use Rattle.std.proofs.lemmas.List.{append-nil}
 use Rattle.std.proofs.lemmas.List.Elements.{All-head, All-tail, All-cons, All-nil}
 use Rattle.std.proofs.lemmas.Grind.{flat_map-append}
-use Rattle.std.proofs.lemmas.Bool.{ne_eqb, cond-true, cond-false, lt-ltb, le-leb, le-ltb}
-use Rattle.std.proofs.lemmas.Fmt.{decimal_by_steps, decimal_nonempty, length-decimal-le}
+use Rattle.std.proofs.lemmas.Bool.{cond-true, cond-false, lt-ltb, le-leb, le-ltb}
 use Rattle.std.proofs.Math.Pow.{pow_mono}
 use Rattle.mesh_defs.specs.BoundingBox.{CameraAt}
 use Rattle.mesh_defs.specs.Triangle.{IsAddress, IsSplittable}
@@ -15,64 +14,19 @@ use Rattle.least_laws.proofs.SweepLemmas.{splittable-lt}
 use Rattle.view_priority.specs.Camera.{IsCamera}
 use Rattle.text_laws.specs.Numbers.{signed_in}
 use Rattle.text_laws.proofs.NumberLemmas.{decimal-back, signed-back}
-use Rattle.text_laws.specs.Fields.{without_last_cr, is_gap, fields_of}
-use Rattle.text_laws.proofs.FieldLemmas.{IsOther, fields-gap, fields-run}
+use Rattle.text_laws.specs.Fields.{without_last_cr, fields_of}
+use Rattle.page_laws.specs.Lines.{AreFrom, IsOneLine}
+use Rattle.page_laws.proofs.LineLemmas.{from-append, from-lower, from-decimal, fields-word, fields-end, cr-kept, decimal-some, decimal-short, lines-ended, no-end}
 use Rattle.certificate_laws.specs.declared.reason.Kind.{Kind}
 use Rattle.certificate_laws.specs.declared.reason.Kind.TheVariants.{Want, Parent, Mate}
 use Rattle.certificate_laws.specs.declared.reason.Reason.{Reason}
 use Rattle.cert_text.specs.declared.line.CertLine.{CertLine}
 use Rattle.cert_text.specs.declared.line.CertLine.TheVariants.{CameraLine, LeafLine, ReasonLine}
 use Rattle.cert_text.specs.Certificate.{Certificate}
-use Rattle.cert_text.specs.CertLine.{is_coordinate, camera_of, address_in, word_of, fields_line, line_in}
-use Rattle.cert_text.specs.CertReader.{ReadSoFar, read_so_far, nothing_read, taken, cert_line_in}
-use Rattle.cert_text.specs.CertText.{kind_text, number_text, address_text, line_text, ended, leaf_text, reason_text, cert_text, cert_lines}
-use Rattle.cert_text.specs.Laws.{IsCertificateOf, lines_read, IsOneLine}
-
--- the bytes of a text are no less than this
-abbrev AreFrom : ℕ → List ℕ → Type 0
-AreFrom low [] = Unit {0}
-AreFrom low (byte ∷ bytes) = (low ≤ byte) × AreFrom low bytes
-
-from-append : (low : ℕ) (xs ys : List ℕ) → AreFrom low xs → AreFrom low ys → AreFrom low (xs ++ ys)
-from-append low [] ys a b = b
-from-append low (x ∷ xs) ys a b = (a.0, from-append low xs ys a.1 b)
-
-from-lower : (low lower : ℕ) (xs : List ℕ) → lower ≤ low → AreFrom low xs → AreFrom lower xs
-from-lower low lower [] less a = tt
-from-lower low lower (x ∷ xs) less a = (let own = a.0 in omega arith, from-lower low lower xs less a.1)
-
--- digits and a minus
-from-decimal : (n : ℕ) → n < 2 ^ 64 → AreFrom 33 (decimal n)
-from-decimal = decimal_by_steps (λ n ds. AreFrom 33 ds) (λ n small. (omega arith, tt)) (λ n ds big rest. from-append 33 ds ((48 + n % 10) ∷ []) rest (omega arith, tt))
-
--- a byte of a field separates none
-big-other : (byte : ℕ) → 33 ≤ byte → is_gap byte ≡ false
-big-other byte big = ap₂ (λ (a b : Bool). a || b) (ne_eqb byte 32 (λ e. absurd (omega arith))) (ne_eqb byte 9 (λ e. absurd (omega arith)))
-
-all-other : (bytes : List ℕ) → AreFrom 33 bytes → All IsOther bytes
-all-other [] a = All-nil IsOther
-all-other (byte ∷ bytes) a = All-cons IsOther byte bytes (big-other byte a.0) (all-other bytes a.1)
-
--- a field, and what is behind its blank
-fields-word : (field rest : List ℕ) → 0 < length field → AreFrom 33 field → fields_of (field ++ 32 ∷ rest) ≡ field ∷ fields_of rest
-fields-word [] rest some a = absurd (omega arith)
-fields-word (byte ∷ run) rest some a =
-    fields-run byte run (32 ∷ rest) (big-other byte a.0) (all-other run a.1) refl ∙ ap (λ l. (byte ∷ run) ∷ l) (fields-gap 32 rest refl)
-
--- the last field
-fields-end : (field : List ℕ) → 0 < length field → AreFrom 33 field → fields_of field ≡ field ∷ []
-fields-end [] some a = absurd (omega arith)
-fields-end (byte ∷ run) some a =
-    ap (λ l. fields_of (byte ∷ l)) (sym (append-nil run)) ∙ fields-run byte run [] (big-other byte a.0) (all-other run a.1) refl
-
--- no CR is dropped
-at-no_cr : (bytes : List ℕ) (k : ℕ) → AreFrom 32 bytes → get_or bytes k 0 ≢ 13
-at-no_cr [] k a e = absurd (omega arith)
-at-no_cr (byte ∷ bytes) zero a e = let own = a.0 in absurd (omega arith)
-at-no_cr (byte ∷ bytes) (suc k) a e = at-no_cr bytes k a.1 e
-
-cr-kept : (bytes : List ℕ) → AreFrom 32 bytes → without_last_cr bytes ≡ bytes
-cr-kept bytes a = cond-false (get_or bytes (length bytes - 1) 0 == 13) _ bytes (ne_eqb (get_or bytes (length bytes - 1) 0) 13 (at-no_cr bytes (length bytes - 1) a))
+use Rattle.cert_text.specs.CertLine.{is_coordinate, camera_of, address_in, fields_line, line_in}
+use Rattle.cert_text.specs.CertReader.{ReadSoFar, read_so_far, nothing_read, taken}
+use Rattle.cert_text.specs.CertText.{kind_text, address_text, line_text, ended, leaf_text, reason_text, cert_text, cert_lines}
+use Rattle.cert_text.specs.Laws.{IsCertificateOf, lines_read}
 
 -- a line of not too many bytes is that of its fields
 line-of_fields : (n : ℕ) (bytes : List ℕ) (fields : List (List ℕ)) → length bytes ≤ 200 → AreFrom 32 bytes → fields_of bytes ≡ fields → line_in n bytes ≡ fields_line n fields
@@ -91,7 +45,7 @@ address-back end a low high most =
 -- the line of an address behind a word
 address-fields : (first : List ℕ) (a : ℕ) → 0 < length first → AreFrom 33 first → a < 2 ^ 64 → fields_of (address_text first a) ≡ first ∷ (decimal a ∷ [])
 address-fields first a some big fits =
-    fields-word first (decimal a) some big ∙ ap (λ l. first ∷ l) (fields-end (decimal a) (decimal_nonempty a fits) (from-decimal a fits))
+    fields-word first (decimal a) some big ∙ ap (λ l. first ∷ l) (fields-end (decimal a) (decimal-some a fits) (from-decimal a fits))
 
 address-from : (first : List ℕ) (a : ℕ) → AreFrom 33 first → a < 2 ^ 64 → AreFrom 32 (address_text first a)
 address-from first a big fits = from-append 32 first (32 ∷ decimal a) (from-lower 33 32 first (omega arith) big)
@@ -99,7 +53,7 @@ address-from first a big fits = from-append 32 first (32 ∷ decimal a) (from-lo
 
 address-short : (first : List ℕ) (a : ℕ) → length first ≤ 6 → a < 2 ^ 24 → length (address_text first a) ≤ 200
 address-short first a short fits =
-    let own = length-decimal-le 19 a (lit< tt) (omega arith) (omega arith) in
+    let own = decimal-short a (omega arith) in
     let all = length-append first (32 ∷ decimal a) in omega arith
 
 -- a leaf, and each kind of reason
@@ -156,12 +110,12 @@ from-signed (pos n) fits = from-decimal n (omega arith)
 from-signed (negsuc n) fits = (omega arith, from-decimal (suc n) (omega arith))
 
 signed-some : (v : ℤ) → unsigned_abs v ≤ 2 ^ 30 → 0 < length (signed_decimal v)
-signed-some (pos n) fits = decimal_nonempty n (omega arith)
+signed-some (pos n) fits = decimal-some n (omega arith)
 signed-some (negsuc n) fits = omega arith
 
 signed-short : (v : ℤ) → unsigned_abs v ≤ 2 ^ 30 → length (signed_decimal v) ≤ 20
-signed-short (pos n) fits = let own = length-decimal-le 19 n (lit< tt) (omega arith) (omega arith) in omega arith
-signed-short (negsuc n) fits = let own = length-decimal-le 19 (suc n) (lit< tt) (omega arith) (omega arith) in omega arith
+signed-short (pos n) fits = let own = decimal-short n (omega arith) in omega arith
+signed-short (negsuc n) fits = let own = decimal-short (suc n) (omega arith) in omega arith
 
 camera-shape : (seen_from : CameraAt) → line_text (CameraLine seen_from)
     ≡ codes "camera" ++ 32 ∷ (signed_decimal seen_from.x ++ 32 ∷ (signed_decimal seen_from.y ++ 32 ∷ signed_decimal seen_from.z))
@@ -274,10 +228,6 @@ lines-back n cert is =
 
 -- lines that are ended
 
-lines-ended : {A : Type 0} (f : A → List ℕ) (xs : List A) → flat_map (λ line. line ++ 10 ∷ []) (map f xs) ≡ flat_map (λ x. f x ++ 10 ∷ []) xs
-lines-ended f [] = refl
-lines-ended f (x ∷ xs) = ap (λ l. f x ++ 10 ∷ [] ++ l) (lines-ended f xs)
-
 pub text-ended : (cert : Certificate) → cert_text cert ≡ flat_map (λ line. line ++ 10 ∷ []) (cert_lines cert)
 text-ended cert =
     let leaves = map (λ a. line_text (LeafLine a)) cert.leaves in
@@ -288,10 +238,6 @@ text-ended cert =
     ∙ sym (flat_map-append (λ line. line ++ 10 ∷ []) leaves reasons))
 
 -- no line has an LF within
-
-no-end : (bytes : List ℕ) → AreFrom 32 bytes → IsOneLine bytes
-no-end [] a = All-nil (λ byte. byte ≢ 10)
-no-end (byte ∷ bytes) a = All-cons (λ b. b ≢ 10) byte bytes (λ e. (let own = a.0 in absurd (omega arith))) (no-end bytes a.1)
 
 leaves-whole : (n : ℕ) (leaves : List ℕ) (more : List (List ℕ)) → n ≤ 11 → All (IsAddress n) leaves → All IsOneLine more →
     All IsOneLine (map (λ a. line_text (LeafLine a)) leaves ++ more)

@@ -1,3 +1,2 @@
-pub mod PageLemmas
 pub mod BackLemmas
 pub mod CountLemmas

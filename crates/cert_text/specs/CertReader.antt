@@ -1,6 +1,6 @@
 -- What a reader of a certificate has read, line after line. This project's own format.
 -- Words: ReadSoFar, read_so_far, nothing_read, AreFew, taken, cert_line_in, Reading, finished.
-use Rattle.std.specs.Prelude.{ℕ, ◌≤◌, All, Bool, ◌&&◌, nat_lt, if◌then◌else◌, List, [], ◌∷◌, ◌++◌, length, ◌==◌, Option, Some, None, is_some, Result, Ok, Err}
+use Rattle.std.specs.Prelude.{ℕ, ◌≤◌, All, ◌&&◌, nat_lt, if◌then◌else◌, List, [], ◌∷◌, ◌++◌, length, ◌==◌, Option, Some, None, is_some, Result, Ok, Err}
 use Rattle.mesh_defs.specs.Triangle.{IsAddress, IsSplittable}
 use Rattle.mesh_defs.specs.BoundingBox.{CameraAt}
 use Rattle.mesh_defs.specs.declared.level.TheConstants.{GREATEST_LEVEL}
@@ -9,7 +9,7 @@ use Rattle.cert_text.specs.declared.limits.TheConstants.{MOST_LEAVES, MOST_REASO
 use Rattle.cert_text.specs.declared.line.CertLine.{CertLine}
 use Rattle.cert_text.specs.declared.line.CertLine.TheVariants.{CameraLine, LeafLine, ReasonLine}
 use Rattle.cert_text.specs.declared.fault.CertFault.{CertFault}
-use Rattle.cert_text.specs.declared.fault.CertFault.TheVariants.{BadLine, NoMemory}
+use Rattle.cert_text.specs.declared.fault.CertFault.TheVariants.{BadLine}
 use Rattle.cert_text.specs.Certificate.{Certificate}
 use Rattle.cert_text.specs.CertLine.{line_in}
 

@@ -1,8 +1,10 @@
 -- What is written of a certificate is read back; and each line says one thing.
--- Words: IsCertificateOf, lines_read, WrittenLinesAreRead, WrittenLinesAreEnded, IsOneLine, WrittenLinesAreLines, line_count,
+-- Words: IsCertificateOf, lines_read, WrittenLinesAreRead, WrittenLinesAreEnded, WrittenLinesAreLines, line_count,
 -- LinesAreCounted.
-use Rattle.std.specs.Prelude.{◌≡◌, ◌≢◌, ℕ, ◌+◌, All, length, List, [], ◌∷◌, ◌++◌, Option, Some, None}
+use Rattle.std.specs.Prelude.{◌≡◌, ℕ, ◌+◌, All, length, List, [], ◌∷◌, ◌++◌, Option, Some, None}
 use Rattle.std.specs.List.{flat_map}
+use Rattle.page_laws.specs.Lines.{lines_from}
+pub use Rattle.page_laws.specs.Lines.{IsOneLine}
 use Rattle.view_priority.specs.Camera.{IsCamera}
 use Rattle.cert_text.specs.Certificate.{Certificate}
 use Rattle.cert_text.specs.CertReader.{ReadSoFar, read_so_far, nothing_read, cert_line_in, AreFew}
@@ -15,8 +17,7 @@ pub record IsCertificateOf (n : ℕ) (cert : Certificate) : Type 0 where
 
 -- behind these lines, where each may stand at its place
 abbrev pub lines_read : ℕ → ReadSoFar → List (List ℕ) → Option ReadSoFar
-lines_read n read [] = Some read
-lines_read n read (bytes ∷ lines) = elim (cert_line_in n read bytes) as (λ _. Option ReadSoFar) [ None ↦ None | Some next ↦ lines_read n next lines ]
+lines_read n read lines = lines_from (cert_line_in n) read lines
 
 -- the lines of a certificate are read as the certificate
 abbrev pub WrittenLinesAreRead : Type 0
@@ -26,10 +27,6 @@ WrittenLinesAreRead = (n : ℕ) (cert : Certificate) → IsCertificateOf n cert 
 -- and its text is these lines, each with an LF (10) behind it
 abbrev pub WrittenLinesAreEnded : Type 0
 WrittenLinesAreEnded = (cert : Certificate) → cert_text cert ≡ flat_map (λ line. line ++ 10 ∷ []) (cert_lines cert)
-
--- no byte is an LF
-abbrev pub IsOneLine : List ℕ → Type 0
-IsOneLine line = All (λ byte. byte ≢ 10) line
 
 -- so the text is cut into these lines again
 abbrev pub WrittenLinesAreLines : Type 0

@@ -2,5 +2,4 @@ pub mod Certificate
 pub mod CertLine
 pub mod CertReader
 pub mod CertText
-pub mod Page
 pub mod Laws

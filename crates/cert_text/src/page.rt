@@ -6,7 +6,7 @@ ghost use Rattle.certificate_laws.specs.declared.reason.Kind.{Kind};
 ghost use Rattle.roam_edge.specs.Fault.{HasCause, IsInTime};
 ghost use Rattle.roam_edge.specs.Sink.{Appends};
 ghost use Rattle.cert_text.specs.CertText.{number_text, kind_text, address_text, line_text, ended};
-ghost use Rattle.cert_text.specs.Page.{IsPut, IsCutShort};
+ghost use Rattle.page_laws.specs.Page.{IsPut, IsCutShort};
 ghost use Rattle.cert_text.specs.declared.page.TheConstants.{PAGE_ROOM, LONGEST_LINE};
 
 use crate::line::CertLine;

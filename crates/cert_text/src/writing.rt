@@ -5,7 +5,7 @@ ghost use Rattle.std.specs.List.{flat_map};
 ghost use Rattle.roam_edge.specs.Fault.{HasCause, IsInTime};
 ghost use Rattle.roam_edge.specs.Sink.{Appends};
 ghost use Rattle.cert_text.specs.CertText.{leaf_text, reason_text, cert_text};
-ghost use Rattle.cert_text.specs.Page.{IsPut, IsCutShort};
+ghost use Rattle.page_laws.specs.Page.{IsPut, IsCutShort};
 
 use crate::cert::Cert;
 use crate::line::CertLine;

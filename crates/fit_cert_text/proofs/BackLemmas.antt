@@ -22,7 +22,8 @@ use Rattle.fit_cert_text.specs.FitCertText.{line_text, ended, off_text, fit_cert
 use Rattle.fit_cert_text.specs.Laws.{IsOffOf, IsCertificateOf, lines_read}
 
 -- a line of not too many bytes is that of its fields
-line-of_fields : (n : ℕ) (bytes : List ℕ) (fields : List (List ℕ)) → length bytes ≤ 200 → AreFrom 32 bytes → fields_of bytes ≡ fields → line_in n bytes ≡ fields_line n fields
+line-of_fields : (n : ℕ) (bytes : List ℕ) (fields : List (List ℕ)) → length bytes ≤ 200 → AreFrom 32 bytes → fields_of bytes ≡ fields →
+    line_in n bytes ≡ fields_line n fields
 unfolding line_in
 line-of_fields n bytes fields short a cut =
     cond-false (nat_lt 200 (length bytes)) None (fields_line n (fields_of (without_last_cr bytes))) (le-ltb 200 (length bytes) short)
@@ -44,10 +45,14 @@ address-back end a low high most =
 -- the tolerance
 
 tolerance_big : AreFrom 33 (codes "tolerance")
-tolerance_big = (omega arith, (omega arith, (omega arith, (omega arith, (omega arith, (omega arith, (omega arith, (omega arith, (omega arith, tt)))))))))
+tolerance_big = (
+  omega arith,
+  (omega arith, (omega arith, (omega arith, (omega arith, (omega arith, (omega arith, (omega arith, (omega arith, tt)))))))),
+)
 
 tolerance-from : (own : ℕ) → own < 2 ^ 32 → AreFrom 32 (line_text (ToleranceLine own))
-tolerance-from own fits = from-append 32 (codes "tolerance") (32 ∷ decimal own) (from-lower 33 32 (codes "tolerance") (omega arith) tolerance_big)
+tolerance-from own fits =
+    from-append 32 (codes "tolerance") (32 ∷ decimal own) (from-lower 33 32 (codes "tolerance") (omega arith) tolerance_big)
     (omega arith, from-lower 33 32 (decimal own) (omega arith) (from-decimal own (omega arith)))
 
 tolerance-short : (own : ℕ) → own < 2 ^ 32 → length (line_text (ToleranceLine own)) ≤ 200
@@ -57,7 +62,8 @@ tolerance-short own fits =
 
 pub tolerance-back : (n own : ℕ) → own < 2 ^ 32 → line_in n (line_text (ToleranceLine own)) ≡ Some (ToleranceLine own)
 tolerance-back n own fits =
-    line-of_fields n (line_text (ToleranceLine own)) (codes "tolerance" ∷ (decimal own ∷ [])) (tolerance-short own fits) (tolerance-from own fits)
+    line-of_fields n (line_text (ToleranceLine own)) (codes "tolerance" ∷ (decimal own ∷ []))
+    (tolerance-short own fits) (tolerance-from own fits)
     (fields-word (codes "tolerance") (decimal own) (omega arith) tolerance_big
     ∙ ap (λ l. codes "tolerance" ∷ l) (fields-end (decimal own) (decimal-some own (omega arith)) (from-decimal own (omega arith))))
     ∙ ap tolerance_of (number-back (2 ^ 32) own fits (omega arith))
@@ -157,8 +163,8 @@ off-back n r top is =
 -- lines one after the other
 
 -- a line that may stand there, and the others
-lines-step : (n : ℕ) (read next : ReadSoFar) (bytes : List ℕ) (line : FitLine) (lines : List (List ℕ)) → line_in n bytes ≡ Some line → taken read line ≡ Some next →
-    lines_read n read (bytes ∷ lines) ≡ lines_read n next lines
+lines-step : (n : ℕ) (read next : ReadSoFar) (bytes : List ℕ) (line : FitLine) (lines : List (List ℕ)) → line_in n bytes ≡ Some line →
+    taken read line ≡ Some next → lines_read n read (bytes ∷ lines) ≡ lines_read n next lines
 lines-step n read next bytes line lines is may =
     ap (λ (o : Option ReadSoFar). elim o as (λ _. Option ReadSoFar) [ None ↦ None | Some after ↦ lines_read n after lines ])
     (ap (λ (o : Option FitLine). elim o as (λ _. Option ReadSoFar) [ None ↦ None | Some l ↦ taken read l ]) is ∙ may)
@@ -166,21 +172,27 @@ lines-step n read next bytes line lines is may =
 needed-taken : (own : ℕ) (done : List Off) (r : Off) → length done < 8388608 →
     taken (read_so_far (Some own) false done []) (OffLine r) ≡ Some (read_so_far (Some own) false (done ++ r ∷ []) [])
 needed-taken own done r few =
-    cond-true (nat_lt (length done) 8388608) (Some (read_so_far (Some own) false (done ++ r ∷ []) [])) None (lt-ltb (length done) 8388608 few)
+    cond-true (nat_lt (length done) 8388608) (Some (read_so_far (Some own) false (done ++ r ∷ []) [])) None
+    (lt-ltb (length done) 8388608 few)
 
 beyond-taken : (own : ℕ) (needed done : List Off) (r : Off) → length done < 8388608 →
     taken (read_so_far (Some own) true needed done) (OffLine r) ≡ Some (read_so_far (Some own) true needed (done ++ r ∷ []))
 beyond-taken own needed done r few =
-    cond-true (nat_lt (length done) 8388608) (Some (read_so_far (Some own) true needed (done ++ r ∷ []))) None (lt-ltb (length done) 8388608 few)
+    cond-true (nat_lt (length done) 8388608) (Some (read_so_far (Some own) true needed (done ++ r ∷ []))) None
+    (lt-ltb (length done) 8388608 few)
 
-needed-back : (n own : ℕ) (done reasons : List Off) (more : List (List ℕ)) → n ≤ 11 → All (IsOffOf n) reasons → length done + length reasons ≤ 8388608 →
+needed-back : (n own : ℕ) (done reasons : List Off) (more : List (List ℕ)) → n ≤ 11 → All (IsOffOf n) reasons →
+    length done + length reasons ≤ 8388608 →
     lines_read n (read_so_far (Some own) false done []) (map (λ r. line_text (OffLine r)) reasons ++ more)
     ≡ lines_read n (read_so_far (Some own) false (done ++ reasons) []) more
 needed-back n own done [] more top all few = ap (λ l. lines_read n (read_so_far (Some own) false l []) more) (sym (append-nil done))
 needed-back n own done (r ∷ reasons) more top all few =
-    lines-step n (read_so_far (Some own) false done []) (read_so_far (Some own) false (done ++ r ∷ []) []) (line_text (OffLine r)) (OffLine r)
-    (map (λ q. line_text (OffLine q)) reasons ++ more) (off-back n r top (All-head (IsOffOf n) r reasons all)) (needed-taken own done r (omega arith))
-    ∙ needed-back n own (done ++ r ∷ []) reasons more top (All-tail (IsOffOf n) r reasons all) (let e = length-append done (r ∷ []) in omega arith)
+    lines-step n (read_so_far (Some own) false done []) (read_so_far (Some own) false (done ++ r ∷ []) [])
+    (line_text (OffLine r)) (OffLine r)
+    (map (λ q. line_text (OffLine q)) reasons ++ more) (off-back n r top (All-head (IsOffOf n) r reasons all))
+    (needed-taken own done r (omega arith))
+    ∙ needed-back n own (done ++ r ∷ []) reasons more top (All-tail (IsOffOf n) r reasons all)
+    (let e = length-append done (r ∷ []) in omega arith)
     ∙ ap (λ l. lines_read n (read_so_far (Some own) false l []) more) (append_assoc done (r ∷ []) reasons)
 
 beyond-back : (n own : ℕ) (needed done reasons : List Off) → n ≤ 11 → All (IsOffOf n) reasons → length done + length reasons ≤ 8388608 →
@@ -188,9 +200,12 @@ beyond-back : (n own : ℕ) (needed done reasons : List Off) → n ≤ 11 → Al
     ≡ Some (read_so_far (Some own) true needed (done ++ reasons))
 beyond-back n own needed done [] top all few = ap (λ l. Some (read_so_far (Some own) true needed l)) (sym (append-nil done))
 beyond-back n own needed done (r ∷ reasons) top all few =
-    lines-step n (read_so_far (Some own) true needed done) (read_so_far (Some own) true needed (done ++ r ∷ [])) (line_text (OffLine r)) (OffLine r)
-    (map (λ q. line_text (OffLine q)) reasons) (off-back n r top (All-head (IsOffOf n) r reasons all)) (beyond-taken own needed done r (omega arith))
-    ∙ beyond-back n own needed (done ++ r ∷ []) reasons top (All-tail (IsOffOf n) r reasons all) (let e = length-append done (r ∷ []) in omega arith)
+    lines-step n (read_so_far (Some own) true needed done) (read_so_far (Some own) true needed (done ++ r ∷ []))
+    (line_text (OffLine r)) (OffLine r)
+    (map (λ q. line_text (OffLine q)) reasons) (off-back n r top (All-head (IsOffOf n) r reasons all))
+    (beyond-taken own needed done r (omega arith))
+    ∙ beyond-back n own needed (done ++ r ∷ []) reasons top (All-tail (IsOffOf n) r reasons all)
+    (let e = length-append done (r ∷ []) in omega arith)
     ∙ ap (λ l. Some (read_so_far (Some own) true needed l)) (append_assoc done (r ∷ []) reasons)
 
 -- the lines of a certificate are read as it
@@ -203,7 +218,8 @@ lines-back n cert is =
     lines-step n nothing_read (read_so_far (Some own) false [] []) (line_text (ToleranceLine own)) (ToleranceLine own)
     (map (λ r. line_text (OffLine r)) cert.needed ++ line_text MeshLine ∷ rest) (tolerance-back n own is.tolerance) refl
     ∙ needed-back n own [] cert.needed (line_text MeshLine ∷ rest) top is.needed (let few = is.few.few_needed in omega arith)
-    ∙ lines-step n (read_so_far (Some own) false cert.needed []) (read_so_far (Some own) true cert.needed []) (line_text MeshLine) MeshLine rest (mesh-back n) refl
+    ∙ lines-step n (read_so_far (Some own) false cert.needed []) (read_so_far (Some own) true cert.needed [])
+    (line_text MeshLine) MeshLine rest (mesh-back n) refl
     ∙ beyond-back n own cert.needed [] cert.beyond top is.beyond (let few = is.few.few_beyond in omega arith)
 
 -- lines that are ended
@@ -217,7 +233,8 @@ text-ended cert =
     append_assoc (own ++ flat_map off_text cert.needed) mesh (flat_map off_text cert.beyond)
     ∙ append_assoc own (flat_map off_text cert.needed) (mesh ++ flat_map off_text cert.beyond)
     ∙ ap (λ l. own ++ l) (
-    ap₂ (λ a b. a ++ (mesh ++ b)) (sym (lines-ended (λ r. line_text (OffLine r)) cert.needed)) (sym (lines-ended (λ r. line_text (OffLine r)) cert.beyond))
+    ap₂ (λ a b. a ++ (mesh ++ b)) (sym (lines-ended (λ r. line_text (OffLine r)) cert.needed))
+    (sym (lines-ended (λ r. line_text (OffLine r)) cert.beyond))
     ∙ sym (flat_map-append (λ line. line ++ 10 ∷ []) needed (line_text MeshLine ∷ beyond)))
 
 -- no line has an LF within
@@ -236,8 +253,10 @@ lines-whole n cert is =
     let needed = map (λ r. line_text (OffLine r)) cert.needed in
     let beyond = map (λ r. line_text (OffLine r)) cert.beyond in
     let top = is.few.in_grid.1 in
-    let behind : All IsOneLine beyond = subst (λ l. All IsOneLine l) (append-nil beyond) (offs-whole n cert.beyond [] top is.beyond (All-nil IsOneLine)) in
+    let behind : All IsOneLine beyond =
+    subst (λ l. All IsOneLine l) (append-nil beyond) (offs-whole n cert.beyond [] top is.beyond (All-nil IsOneLine)) in
     All-cons IsOneLine (line_text (ToleranceLine own)) (needed ++ line_text MeshLine ∷ beyond)
     (no-end (line_text (ToleranceLine own)) (tolerance-from own is.tolerance))
     (offs-whole n cert.needed (line_text MeshLine ∷ beyond) top is.needed
-    (All-cons IsOneLine (line_text MeshLine) beyond (no-end (codes "mesh") (from-lower 33 32 (codes "mesh") (omega arith) mesh_big)) behind))
+    (All-cons IsOneLine (line_text MeshLine) beyond
+    (no-end (codes "mesh") (from-lower 33 32 (codes "mesh") (omega arith) mesh_big)) behind))

@@ -17,23 +17,27 @@ counts one next k is e = sym (ap (λ (s : ReadSoFar). line_count s) (same e)) �
     same f = cc
 
 -- behind a test
-behind : (test : Bool) (one next : ReadSoFar) (k : ℕ) → line_count one ≡ k → (if test then Some one else None) ≡ Some next → line_count next ≡ k
+behind : (test : Bool) (one next : ReadSoFar) (k : ℕ) → line_count one ≡ k → (if test then Some one else None) ≡ Some next →
+    line_count next ≡ k
 behind true one next k is e = counts one next k is e
 behind false one next k is e = absurd (none-some next e)
 
 tolerance-count : (own : ℕ) (tolerance : Option ℕ) (mesh : Bool) (needed beyond : List Off) (next : ReadSoFar)
-    → taken (read_so_far tolerance mesh needed beyond) (ToleranceLine own) ≡ Some next → line_count next ≡ line_count (read_so_far tolerance mesh needed beyond) + 1
+    → taken (read_so_far tolerance mesh needed beyond) (ToleranceLine own) ≡ Some next
+    → line_count next ≡ line_count (read_so_far tolerance mesh needed beyond) + 1
 tolerance-count own None mesh needed beyond next e = counts (read_so_far (Some own) mesh needed beyond) next _ (omega arith) e
 tolerance-count own (Some there) mesh needed beyond next e = absurd (none-some next e)
 
 mesh-count : (tolerance : Option ℕ) (mesh : Bool) (needed beyond : List Off) (next : ReadSoFar)
-    → taken (read_so_far tolerance mesh needed beyond) MeshLine ≡ Some next → line_count next ≡ line_count (read_so_far tolerance mesh needed beyond) + 1
+    → taken (read_so_far tolerance mesh needed beyond) MeshLine ≡ Some next
+    → line_count next ≡ line_count (read_so_far tolerance mesh needed beyond) + 1
 mesh-count None mesh needed beyond next e = absurd (none-some next e)
 mesh-count (Some own) true needed beyond next e = absurd (none-some next e)
 mesh-count (Some own) false needed beyond next e = counts (read_so_far (Some own) true needed beyond) next _ (omega arith) e
 
 off-count : (r : Off) (tolerance : Option ℕ) (mesh : Bool) (needed beyond : List Off) (next : ReadSoFar)
-    → taken (read_so_far tolerance mesh needed beyond) (OffLine r) ≡ Some next → line_count next ≡ line_count (read_so_far tolerance mesh needed beyond) + 1
+    → taken (read_so_far tolerance mesh needed beyond) (OffLine r) ≡ Some next
+    → line_count next ≡ line_count (read_so_far tolerance mesh needed beyond) + 1
 off-count r None mesh needed beyond next e = absurd (none-some next e)
 off-count r (Some own) false needed beyond next e = go (nat_lt (length needed) 8388608) e
   where
@@ -51,9 +55,11 @@ taken-count said next (ToleranceLine own) is = tolerance-count own said.toleranc
 taken-count said next (OffLine r) is = off-count r said.tolerance said.mesh said.needed said.beyond next is
 taken-count said next MeshLine is = mesh-count said.tolerance said.mesh said.needed said.beyond next is
 
-pub line-count : (n : ℕ) (said next : ReadSoFar) (bytes : List ℕ) → fit_line_in n said bytes ≡ Some next → line_count next ≡ line_count said + 1
+pub line-count : (n : ℕ) (said next : ReadSoFar) (bytes : List ℕ) → fit_line_in n said bytes ≡ Some next
+    → line_count next ≡ line_count said + 1
 line-count n said next bytes is = go (line_in n bytes) is
   where
-    go : (line : Option FitLine) → (elim line as (λ _. Option ReadSoFar) [ None ↦ None | Some l ↦ taken said l ]) ≡ Some next → line_count next ≡ line_count said + 1
+    go : (line : Option FitLine) → (elim line as (λ _. Option ReadSoFar) [ None ↦ None | Some l ↦ taken said l ]) ≡ Some next
+        → line_count next ≡ line_count said + 1
     go None e = absurd (none-some next e)
     go (Some line) e = taken-count said next line e

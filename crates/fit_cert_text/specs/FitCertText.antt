@@ -28,7 +28,8 @@ off_text r = ended (OffLine r)
 
 -- The text of a certificate: the tolerance, each reason before the mesh, the mesh, and each reason behind it.
 abbrev pub fit_cert_text : FitCertificate → List ℕ
-fit_cert_text cert = ended (ToleranceLine cert.tolerance) ++ flat_map off_text cert.needed ++ ended MeshLine ++ flat_map off_text cert.beyond
+fit_cert_text cert =
+    ended (ToleranceLine cert.tolerance) ++ flat_map off_text cert.needed ++ ended MeshLine ++ flat_map off_text cert.beyond
 
 -- its lines, without their LFs
 abbrev pub fit_cert_lines : FitCertificate → List (List ℕ)

@@ -47,8 +47,10 @@ once false = 0
 
 -- how many lines say as much: one for the tolerance and one for the mesh, if they were read, and one for each reason
 abbrev pub line_count : ReadSoFar → ℕ
-line_count read = (elim read.tolerance as (λ _. ℕ) [ None ↦ 0 | Some own ↦ 1 ]) + (once read.mesh + (length read.needed + length read.beyond))
+line_count read =
+    (elim read.tolerance as (λ _. ℕ) [ None ↦ 0 | Some own ↦ 1 ]) + (once read.mesh + (length read.needed + length read.beyond))
 
 -- each accepted line is one of them
 abbrev pub LinesAreCounted : Type 0
-LinesAreCounted = (n : ℕ) (read next : ReadSoFar) (bytes : List ℕ) → fit_line_in n read bytes ≡ Some next → line_count next ≡ line_count read + 1
+LinesAreCounted = (n : ℕ) (read next : ReadSoFar) (bytes : List ℕ) →
+    fit_line_in n read bytes ≡ Some next → line_count next ≡ line_count read + 1

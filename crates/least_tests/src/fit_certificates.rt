@@ -7,7 +7,7 @@ ghost use Rattle.fit_certificate_laws.specs.declared.limits.TheConstants.{MOST_R
 
 use bintree_addr::Tri;
 use fit_cert_text::FitCertReader;
-use fit_certify::{FitCert, MOST_REASONS, Off, Reject, Target, Verdict, check, make};
+use fit_certify::{FitCert, MOST_REASONS, Off, Reject, Target, Verdict, check, make, mesh_of};
 use pgm_grid::Grid;
 use std::alloc::Global;
 use std::test::Fail;
@@ -146,6 +146,41 @@ fn reasons_make_leaves_for_those_behind_them(rt: HostRuntime) -> Result<(), Fail
             verdict_on(rt.alloc(), &grid, parts, target)?,
             verdict,
             "{target:?}"
+        );
+    }
+    Ok(())
+}
+
+/// The addresses of the mesh that the reasons of these parts make.
+fn mesh_by(alloc: Global, grid: &Grid, parts: Parts) -> Result<Vec<u32>, Fail> {
+    let (tolerance, needed, beyond) = parts;
+    let cert = FitCert::new(tolerance, reasons(alloc, needed)?, reasons(alloc, beyond)?);
+    let mesh = mesh_of(alloc, grid, &cert)?;
+    let mut addresses = Vec::new(alloc);
+    for triangle in &mesh {
+        addresses.push(triangle.number())?;
+    }
+    Ok(addresses)
+}
+
+// With 2 split, its mate 3 is; the bases of 4 and 5 lie on the border. What stands behind the mesh splits nothing.
+#[test]
+fn the_reasons_before_the_mesh_make_it(rt: HostRuntime) -> Result<(), Fail> {
+    let peak = peak(rt.alloc())?;
+    let corner = corner(rt.alloc())?;
+    let top = [(2, 1, 1)];
+    let made = [(2, 1, 0), (4, 1, 0), (5, 0, 1)];
+    let cases: [(&Grid, Parts, &[u32]); 4] = [
+        (&peak, (20, &[], &top), &[2, 3]),
+        (&peak, (0, &top, &[]), &[4, 5, 6, 7]),
+        (&corner, (3, &[], &made), &[2, 3]),
+        (&corner, (2, &made, &[]), &[8, 9, 10, 11, 6, 7]),
+    ];
+    for (grid, parts, mesh) in cases {
+        assert_eq!(rt;
+            mesh_by(rt.alloc(), grid, parts)?.as_slice(),
+            mesh,
+            "{mesh:?}"
         );
     }
     Ok(())

@@ -22,7 +22,8 @@ from-lower low lower (x ∷ xs) less a = (let own = a.0 in omega arith, from-low
 
 -- digits are above the blank
 pub from-decimal : (n : ℕ) → n < 2 ^ 64 → AreFrom 33 (decimal n)
-from-decimal = decimal_by_steps (λ n ds. AreFrom 33 ds) (λ n small. (omega arith, tt)) (λ n ds big rest. from-append 33 ds ((48 + n % 10) ∷ []) rest (omega arith, tt))
+from-decimal = decimal_by_steps (λ n ds. AreFrom 33 ds) (λ n small. (omega arith, tt))
+    (λ n ds big rest. from-append 33 ds ((48 + n % 10) ∷ []) rest (omega arith, tt))
 
 -- a byte of a field separates none
 big-other : (byte : ℕ) → 33 ≤ byte → is_gap byte ≡ false
@@ -53,7 +54,9 @@ at-no_cr (byte ∷ bytes) zero a e = let own = a.0 in absurd (omega arith)
 at-no_cr (byte ∷ bytes) (suc k) a e = at-no_cr bytes k a.1 e
 
 pub cr-kept : (bytes : List ℕ) → AreFrom 32 bytes → without_last_cr bytes ≡ bytes
-cr-kept bytes a = cond-false (get_or bytes (length bytes - 1) 0 == 13) _ bytes (ne_eqb (get_or bytes (length bytes - 1) 0) 13 (at-no_cr bytes (length bytes - 1) a))
+cr-kept bytes a =
+    cond-false (get_or bytes (length bytes - 1) 0 == 13) _ bytes
+    (ne_eqb (get_or bytes (length bytes - 1) 0) 13 (at-no_cr bytes (length bytes - 1) a))
 
 -- numbers
 
@@ -67,7 +70,8 @@ decimal-short n fits = length-decimal-le 19 n (lit< tt) (omega arith) (omega ari
 -- lines
 
 -- lines that are ended by an LF (10)
-pub lines-ended : {A : Type 0} (f : A → List ℕ) (xs : List A) → flat_map (λ line. line ++ 10 ∷ []) (map f xs) ≡ flat_map (λ x. f x ++ 10 ∷ []) xs
+pub lines-ended : {A : Type 0} (f : A → List ℕ) (xs : List A) →
+    flat_map (λ line. line ++ 10 ∷ []) (map f xs) ≡ flat_map (λ x. f x ++ 10 ∷ []) xs
 lines-ended f [] = refl
 lines-ended f (x ∷ xs) = ap (λ l. f x ++ 10 ∷ [] ++ l) (lines-ended f xs)
 

@@ -11,7 +11,8 @@ pub put-nothing : (before : Option (List ℕ)) → IsPut before before [] []
 put-nothing before = record { holds = λ all is. ([], is ∙ ap (λ l. Some l) (sym (append-nil all)), refl) }
 
 -- a page that grew
-pub put-more : (before now : Option (List ℕ)) (page page' text more : List ℕ) → page' ≡ page ++ more → IsPut before now page text → IsPut before now page' (text ++ more)
+pub put-more : (before now : Option (List ℕ)) (page page' text more : List ℕ) → page' ≡ page ++ more →
+    IsPut before now page text → IsPut before now page' (text ++ more)
 put-more before now page page' text more grown put = record {
   holds = λ all is.
       let p = put.holds all is in
@@ -19,8 +20,8 @@ put-more before now page page' text more grown put = record {
 }
 
 -- a page that the sink got
-pub put-written : {T E : Type 0} (before mid now : Option (List ℕ)) (page page' piece text : List ℕ) (x : T) → piece ≡ page → page' ≡ [] → IsPut before mid page text → Appends {T = T} {E = E} mid now piece (Ok x) →
-    IsPut before now page' text
+pub put-written : {T E : Type 0} (before mid now : Option (List ℕ)) (page page' piece text : List ℕ) (x : T) → piece ≡ page → page' ≡ [] →
+    IsPut before mid page text → Appends {T = T} {E = E} mid now piece (Ok x) → IsPut before now page' text
 put-written before mid now page page' piece text x same empty put appends = record {
   holds = λ all is.
       let p = put.holds all is in (
@@ -31,8 +32,8 @@ put-written before mid now page page' piece text x same empty put appends = reco
 }
 
 -- a page of which the sink got a part
-pub cut-written : {T E : Type 0} (before mid now : Option (List ℕ)) (page text : List ℕ) (e : E) → IsPut before mid page text → Appends {T = T} {E = E} mid now page (Err e) →
-    IsCutShort before now text
+pub cut-written : {T E : Type 0} (before mid now : Option (List ℕ)) (page text : List ℕ) (e : E) → IsPut before mid page text →
+    Appends {T = T} {E = E} mid now page (Err e) → IsCutShort before now text
 cut-written before mid now page text e put appends = record {
   holds = λ all is.
       let p = put.holds all is in
@@ -44,7 +45,8 @@ cut-written before mid now page text e put appends = record {
 }
 
 -- a prefix of the text is one of a longer text
-pub cut-longer : (before now : Option (List ℕ)) (text more whole : List ℕ) → whole ≡ text ++ more → IsCutShort before now text → IsCutShort before now whole
+pub cut-longer : (before now : Option (List ℕ)) (text more whole : List ℕ) → whole ≡ text ++ more →
+    IsCutShort before now text → IsCutShort before now whole
 cut-longer before now text more whole is_whole cut = record {
   holds = λ all is.
       let c = cut.holds all is in (
@@ -55,20 +57,24 @@ cut-longer before now text more whole is_whole cut = record {
 }
 
 -- what that is for a call that appends the text
-pub appends-put : {T E : Type 0} (before now : Option (List ℕ)) (text : List ℕ) (x : T) → IsPut before now [] text → Appends {T = T} {E = E} before now text (Ok x)
+pub appends-put : {T E : Type 0} (before now : Option (List ℕ)) (text : List ℕ) (x : T) → IsPut before now [] text →
+    Appends {T = T} {E = E} before now text (Ok x)
 appends-put before now text x put = record {
   ok = λ all is. let p = put.holds all is in p.1 ∙ ap (λ l. Some (all ++ l)) (sym (p.2 ∙ append-nil p.0));
   failed = tt;
 }
 
-pub appends-cut : {T E : Type 0} (before now : Option (List ℕ)) (text : List ℕ) (e : E) → IsCutShort before now text → Appends {T = T} {E = E} before now text (Err e)
+pub appends-cut : {T E : Type 0} (before now : Option (List ℕ)) (text : List ℕ) (e : E) → IsCutShort before now text →
+    Appends {T = T} {E = E} before now text (Err e)
 appends-cut before now text e cut = record { ok = tt; failed = cut.holds }
 
 -- the last page
-pub appends-rest : {T E : Type 0} (before mid now : Option (List ℕ)) (page text : List ℕ) (answer : Result T E) → IsPut before mid page text → Appends mid now page answer →
-    Appends before now text answer
-appends-rest before mid now page text (Ok x) put appends = appends-put before now text x (put-written before mid now page [] page text x refl refl put appends)
-appends-rest before mid now page text (Err e) put appends = appends-cut before now text e (cut-written before mid now page text e put appends)
+pub appends-rest : {T E : Type 0} (before mid now : Option (List ℕ)) (page text : List ℕ) (answer : Result T E) → IsPut before mid page text →
+    Appends mid now page answer → Appends before now text answer
+appends-rest before mid now page text (Ok x) put appends =
+    appends-put before now text x (put-written before mid now page [] page text x refl refl put appends)
+appends-rest before mid now page text (Err e) put appends =
+    appends-cut before now text e (cut-written before mid now page text e put appends)
 
 -- texts of the entries of a list, one after the other
 

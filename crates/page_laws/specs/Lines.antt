@@ -14,4 +14,5 @@ IsOneLine line = All (λ byte. byte ≢ 10) line
 -- behind these lines, where each may stand at its place: `step` tells what is behind one line more
 abbrev pub lines_from : {S : Type 0} → (S → List ℕ → Option S) → S → List (List ℕ) → Option S
 lines_from step read [] = Some read
-lines_from {S = S} step read (bytes ∷ lines) = elim (step read bytes) as (λ _. Option S) [ None ↦ None | Some next ↦ lines_from step next lines ]
+lines_from {S = S} step read (bytes ∷ lines) =
+    elim (step read bytes) as (λ _. Option S) [ None ↦ None | Some next ↦ lines_from step next lines ]

@@ -6,13 +6,17 @@ ghost use Rattle.std.specs.Prelude.{◌≡◌};
 pub const VERSION: &str = "roam 1.0";
 
 /// The forms of the words, line by line.
-const USAGE: [&str; 16] = [
+const USAGE: [&str; 20] = [
     "usage: roam mesh GRID SCRIPT PREFIX BUDGET SPACING",
     "       roam strip GRID SCRIPT PREFIX BUDGET SPACING",
     "       roam least GRID SCRIPT PREFIX TOLERANCE SPACING",
     "       roam measure GRID SCRIPT BUDGET SPACING",
     "       roam certify make GRID X Y Z BUDGET SPACING",
     "       roam certify check GRID OBJ CERT BUDGET SPACING",
+    "       roam certify make-fit GRID error E SPACING",
+    "       roam certify make-fit GRID budget BUDGET SPACING",
+    "       roam certify check-fit GRID OBJ CERT error E SPACING",
+    "       roam certify check-fit GRID OBJ CERT budget BUDGET SPACING",
     "       roam fit GRID PREFIX error E SPACING",
     "       roam fit GRID PREFIX budget BUDGET SPACING",
     "       roam info GRID",

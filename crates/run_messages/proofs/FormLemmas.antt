@@ -4,7 +4,7 @@ use Rattle.std.proofs.lemmas.Bool.{cond-false}
 use Rattle.std.proofs.lemmas.List.{take-append-drop, take_more, take-map, map-append, take_all}
 use Rattle.std.proofs.lemmas.Slice.Eq.{bytes_eq-Decides}
 use Rattle.std.specs.Option.{option_map}
-use Rattle.word_laws.specs.Words.{is_prefix, number_word, greatest_level, greatest_seed, budget_word, tolerance_word, spacing_word, coordinate_word, frames_command, least_command, meshes_command, try_command, camera_word, make_command, check_command, command_of, Command, Show, error_word, fit_command, target_word, AtError, InBudget}
+use Rattle.word_laws.specs.Words.{is_prefix, number_word, greatest_level, greatest_seed, budget_word, tolerance_word, spacing_word, coordinate_word, frames_command, least_command, meshes_command, try_command, camera_word, make_command, check_command, command_of, Command, Show, error_word, fit_command, fit_make_command, fit_check_command, target_word, Target, AtError, InBudget}
 use Rattle.text_laws.specs.Numbers.{number_in, signed_in}
 use Rattle.roam_num.specs.Places.{thousandths_in}
 use Rattle.run_messages.specs.declared.wanted.Wanted.{Wanted}
@@ -46,12 +46,15 @@ by_name P a b c d e f g i other w =
     asked (bytes_eq w (codes "fit")) (λ h. subst P (is_named w (codes "fit") h) i) (λ h8.
     other w h1 h2 h3 h4 h5 h6 h7 h8))))))))
 
--- the same of the two tasks
-by_task : (P : List ℕ → Type 0) → P (codes "make") → P (codes "check")
-    → ((w : List ℕ) → bytes_eq w (codes "make") ≡ false → bytes_eq w (codes "check") ≡ false → P w) → (w : List ℕ) → P w
-by_task P a b other w =
+-- the same of the tasks
+by_task : (P : List ℕ → Type 0) → P (codes "make") → P (codes "check") → P (codes "make-fit") → P (codes "check-fit")
+    → ((w : List ℕ) → bytes_eq w (codes "make") ≡ false → bytes_eq w (codes "check") ≡ false
+    → bytes_eq w (codes "make-fit") ≡ false → bytes_eq w (codes "check-fit") ≡ false → P w) → (w : List ℕ) → P w
+by_task P a b c d other w =
     asked (bytes_eq w (codes "make")) (λ h. subst P (is_named w (codes "make") h) a) (λ h1.
-    asked (bytes_eq w (codes "check")) (λ h. subst P (is_named w (codes "check") h) b) (λ h2. other w h1 h2))
+    asked (bytes_eq w (codes "check")) (λ h. subst P (is_named w (codes "check") h) b) (λ h2.
+    asked (bytes_eq w (codes "make-fit")) (λ h. subst P (is_named w (codes "make-fit") h) c) (λ h3.
+    asked (bytes_eq w (codes "check-fit")) (λ h. subst P (is_named w (codes "check-fit") h) d) (λ h4. other w h1 h2 h3 h4))))
 
 -- no words go on where one was wrong
 walk-none : (ws : List (List ℕ)) → walk_words None ws ≡ None
@@ -262,25 +265,17 @@ check-words (a ∷ (b ∷ (c ∷ (d ∷ (e ∷ (f ∷ (g ∷ more))))))) = uneve
 
 -- `certify` with another word is no command
 taskless : (t : List ℕ) → bytes_eq t (codes "make") ≡ false → bytes_eq t (codes "check") ≡ false
+    → bytes_eq t (codes "make-fit") ≡ false → bytes_eq t (codes "check-fit") ≡ false
     → (ws : List (List ℕ)) → is_some (command_of (codes "certify" ∷ (t ∷ ws))) ≡ false
-taskless t h1 h2 [] = refl
-taskless t h1 h2 (a ∷ []) = refl
-taskless t h1 h2 (a ∷ (b ∷ [])) = refl
-taskless t h1 h2 (a ∷ (b ∷ (c ∷ []))) = refl
-taskless t h1 h2 (a ∷ (b ∷ (c ∷ (d ∷ [])))) = sides (is_prefix b)
-taskless t h1 h2 (a ∷ (b ∷ (c ∷ (d ∷ (e ∷ []))))) = ap is_some (cond-false (bytes_eq t (codes "check")) _ _ h2)
-taskless t h1 h2 (a ∷ (b ∷ (c ∷ (d ∷ (e ∷ (f ∷ [])))))) = ap is_some (cond-false (bytes_eq t (codes "make")) _ _ h1)
-taskless t h1 h2 (a ∷ (b ∷ (c ∷ (d ∷ (e ∷ (f ∷ (g ∷ more))))))) = refl
-
--- of `certify`
-certify-fits : (ws : List (List ℕ)) → is_some (command_of (codes "certify" ∷ ws)) ≡ is_over (walk_words (Some (Task ∷ [])) ws)
-certify-fits [] = refl
-certify-fits (t ∷ ws) =
-    by_task (λ t. is_some (command_of (codes "certify" ∷ (t ∷ ws))) ≡ is_over (walk_words (task_form t) ws))
-    (make-words ws ∙ plain _ ws tt)
-    (check-words ws ∙ plain _ ws tt)
-    (λ t h1 h2. taskless t h1 h2 ws ∙ over-none ws ∙ ap (λ s. is_over (walk_words s ws)) (sym (cond-false _ _ _ h1 ∙ cond-false _ _ _ h2)))
-    t
+taskless t h1 h2 h3 h4 [] = refl
+taskless t h1 h2 h3 h4 (a ∷ []) = refl
+taskless t h1 h2 h3 h4 (a ∷ (b ∷ [])) = refl
+taskless t h1 h2 h3 h4 (a ∷ (b ∷ (c ∷ []))) = refl
+taskless t h1 h2 h3 h4 (a ∷ (b ∷ (c ∷ (d ∷ [])))) = ap is_some (cond-false (bytes_eq t (codes "make-fit")) _ _ h3) ∙ sides (is_prefix b)
+taskless t h1 h2 h3 h4 (a ∷ (b ∷ (c ∷ (d ∷ (e ∷ []))))) = ap is_some (cond-false (bytes_eq t (codes "check")) _ _ h2)
+taskless t h1 h2 h3 h4 (a ∷ (b ∷ (c ∷ (d ∷ (e ∷ (f ∷ [])))))) =
+    ap is_some (cond-false (bytes_eq t (codes "make")) _ _ h1 ∙ cond-false (bytes_eq t (codes "check-fit")) _ _ h4)
+taskless t h1 h2 h3 h4 (a ∷ (b ∷ (c ∷ (d ∷ (e ∷ (f ∷ (g ∷ more))))))) = refl
 
 -- what holds of `error`, of `budget` and of each other word
 by_goal : (P : List ℕ → Type 0) → P (codes "error") → P (codes "budget")
@@ -289,60 +284,86 @@ by_goal P a b other w =
     asked (bytes_eq w (codes "error")) (λ h. subst P (is_named w (codes "error") h) a) (λ h1.
     asked (bytes_eq w (codes "budget")) (λ h. subst P (is_named w (codes "budget") h) b) (λ h2. other w h1 h2))
 
--- the goal and the spacing of `fit`, as tests of their words
-error-fits : (g p : List ℕ) (o q : Option ℕ) → is_some (fit_command g p (option_map (λ k. AtError k) o) q) ≡ (is_some o && (is_some q && true))
-error-fits g p (Some a) (Some b) = refl
-error-fits g p (Some a) None = refl
-error-fits g p None q = refl
+-- the command that a goal and the words behind it are, by what is made of a target and a spacing
+abbrev goal_words : (Option Target → Option ℕ → Option Command) → List ℕ → List (List ℕ) → Option Command
+goal_words made w (n ∷ (s ∷ [])) = made (target_word w n) (spacing_word s)
+goal_words made w ws = None
 
-budget-fits : (g p : List ℕ) (o q : Option ℕ) → is_some (fit_command g p (option_map (λ k. InBudget k) o) q) ≡ (is_some o && (is_some q && true))
-budget-fits g p (Some a) (Some b) = refl
-budget-fits g p (Some a) None = refl
-budget-fits g p None q = refl
+-- it is made exactly of both
+abbrev WantsBoth : (Option Target → Option ℕ → Option Command) → Type 0
+WantsBoth made = (o : Option Target) (q : Option ℕ) → is_some (made o q) ≡ (is_some o && (is_some q && true))
 
--- the command of `fit` that the words behind its goal are, where the prefix may stand
-abbrev goal_words : (g p w : List ℕ) → List (List ℕ) → Option Command
-goal_words g p w (n ∷ (s ∷ [])) = fit_command g p (target_word w n) (spacing_word s)
-goal_words g p w ws = None
+mapped : {A B : Type 0} (f : A → B) (o : Option A) → is_some (option_map f o) ≡ is_some o
+mapped f (Some a) = refl
+mapped f None = refl
+
+-- a goal and a spacing, as tests of their words
+target-fits : (made : Option Target → Option ℕ → Option Command) → WantsBoth made → (f : ℕ → Target) (o q : Option ℕ)
+    → is_some (made (option_map f o) q) ≡ (is_some o && (is_some q && true))
+target-fits made both f o q = both (option_map f o) q ∙ ap (λ t. t && (is_some q && true)) (mapped f o)
+
+error-words : (made : Option Target → Option ℕ → Option Command) → WantsBoth made
+    → (ws : List (List ℕ)) → is_some (goal_words made (codes "error") ws) ≡ all_fit (Error ∷ (Spacing ∷ [])) ws
+error-words made both [] = uneven (Error ∷ (Spacing ∷ [])) [] refl
+error-words made both (n ∷ []) = uneven (Error ∷ (Spacing ∷ [])) (n ∷ []) refl
+error-words made both (n ∷ (s ∷ [])) = target-fits made both (λ k. AtError k) (error_word n) (spacing_word s)
+error-words made both (n ∷ (s ∷ (o ∷ more))) = uneven (Error ∷ (Spacing ∷ [])) (n ∷ (s ∷ (o ∷ more))) refl
+
+budget-words : (made : Option Target → Option ℕ → Option Command) → WantsBoth made
+    → (ws : List (List ℕ)) → is_some (goal_words made (codes "budget") ws) ≡ all_fit (Budget ∷ (Spacing ∷ [])) ws
+budget-words made both [] = uneven (Budget ∷ (Spacing ∷ [])) [] refl
+budget-words made both (n ∷ []) = uneven (Budget ∷ (Spacing ∷ [])) (n ∷ []) refl
+budget-words made both (n ∷ (s ∷ [])) = target-fits made both (λ k. InBudget k) (budget_word n) (spacing_word s)
+budget-words made both (n ∷ (s ∷ (o ∷ more))) = uneven (Budget ∷ (Spacing ∷ [])) (n ∷ (s ∷ (o ∷ more))) refl
+
+-- another word in the place of a goal is that of no command
+goalless : (made : Option Target → Option ℕ → Option Command) → WantsBoth made
+    → (c : List ℕ) (ws : List (List ℕ)) → bytes_eq c (codes "error") ≡ false → bytes_eq c (codes "budget") ≡ false
+    → is_some (goal_words made c ws) ≡ false
+goalless made both c [] h1 h2 = refl
+goalless made both c (n ∷ []) h1 h2 = refl
+goalless made both c (n ∷ (s ∷ [])) h1 h2 =
+    ap (λ t. is_some (made t (spacing_word s))) (cond-false _ _ _ h1 ∙ cond-false _ _ _ h2) ∙ both None (spacing_word s)
+goalless made both c (n ∷ (s ∷ (o ∷ more))) h1 h2 = refl
+
+goal-fits : (made : Option Target → Option ℕ → Option Command) → WantsBoth made
+    → (c : List ℕ) (ws : List (List ℕ)) → is_some (goal_words made c ws) ≡ is_over (walk_words (goal_form c) ws)
+goal-fits made both c ws =
+    by_goal (λ c. is_some (goal_words made c ws) ≡ is_over (walk_words (goal_form c) ws))
+    (error-words made both ws ∙ plain _ ws tt)
+    (budget-words made both ws ∙ plain _ ws tt)
+    (λ c h1 h2. goalless made both c ws h1 h2 ∙ over-none ws
+    ∙ ap (λ s. is_over (walk_words s ws)) (sym (cond-false _ _ _ h1 ∙ cond-false _ _ _ h2)))
+    c
+
+-- `fit`, and the tasks of fitted meshes
+fit-both : (g p : List ℕ) → WantsBoth (fit_command g p)
+fit-both g p (Some t) (Some s) = refl
+fit-both g p (Some t) None = refl
+fit-both g p None q = refl
+
+make_fit-both : (g : List ℕ) → WantsBoth (fit_make_command g)
+make_fit-both g (Some t) (Some s) = refl
+make_fit-both g (Some t) None = refl
+make_fit-both g None q = refl
+
+check_fit-both : (g m c : List ℕ) → WantsBoth (fit_check_command g m c)
+check_fit-both g m c (Some t) (Some s) = refl
+check_fit-both g m c (Some t) None = refl
+check_fit-both g m c None q = refl
 
 no-words : (t : Bool) → false ≡ (t && false)
 no-words true = refl
 no-words false = refl
 
-fit-words : (a b c : List ℕ) (ws : List (List ℕ)) → is_some (command_of (codes "fit" ∷ (a ∷ (b ∷ (c ∷ ws))))) ≡ (is_prefix b && is_some (goal_words a b c ws))
+fit-words : (a b c : List ℕ) (ws : List (List ℕ))
+    → is_some (command_of (codes "fit" ∷ (a ∷ (b ∷ (c ∷ ws))))) ≡ (is_prefix b && is_some (goal_words (fit_command a b) c ws))
 fit-words a b c [] = no-words (is_prefix b)
 fit-words a b c (d ∷ []) = no-words (is_prefix b)
 fit-words a b c (d ∷ (e ∷ [])) = with-prefix (is_prefix b) (fit_command a b (target_word c d) (spacing_word e)) _ refl
 fit-words a b c (d ∷ (e ∷ (f ∷ []))) = no-words (is_prefix b)
 fit-words a b c (d ∷ (e ∷ (f ∷ (g ∷ [])))) = no-words (is_prefix b)
 fit-words a b c (d ∷ (e ∷ (f ∷ (g ∷ (h ∷ more))))) = no-words (is_prefix b)
-
-error-words : (a b : List ℕ) (ws : List (List ℕ)) → is_some (goal_words a b (codes "error") ws) ≡ all_fit (Error ∷ (Spacing ∷ [])) ws
-error-words a b [] = uneven (Error ∷ (Spacing ∷ [])) [] refl
-error-words a b (n ∷ []) = uneven (Error ∷ (Spacing ∷ [])) (n ∷ []) refl
-error-words a b (n ∷ (s ∷ [])) = error-fits a b (error_word n) (spacing_word s)
-error-words a b (n ∷ (s ∷ (o ∷ more))) = uneven (Error ∷ (Spacing ∷ [])) (n ∷ (s ∷ (o ∷ more))) refl
-
-budget-words : (a b : List ℕ) (ws : List (List ℕ)) → is_some (goal_words a b (codes "budget") ws) ≡ all_fit (Budget ∷ (Spacing ∷ [])) ws
-budget-words a b [] = uneven (Budget ∷ (Spacing ∷ [])) [] refl
-budget-words a b (n ∷ []) = uneven (Budget ∷ (Spacing ∷ [])) (n ∷ []) refl
-budget-words a b (n ∷ (s ∷ [])) = budget-fits a b (budget_word n) (spacing_word s)
-budget-words a b (n ∷ (s ∷ (o ∷ more))) = uneven (Budget ∷ (Spacing ∷ [])) (n ∷ (s ∷ (o ∷ more))) refl
-
--- `fit` with another word in the place of its goal is no command
-goalless : (a b c : List ℕ) (ws : List (List ℕ)) → bytes_eq c (codes "error") ≡ false → bytes_eq c (codes "budget") ≡ false → is_some (goal_words a b c ws) ≡ false
-goalless a b c [] h1 h2 = refl
-goalless a b c (n ∷ []) h1 h2 = refl
-goalless a b c (n ∷ (s ∷ [])) h1 h2 = ap (λ t. is_some (fit_command a b t (spacing_word s))) (cond-false _ _ _ h1 ∙ cond-false _ _ _ h2)
-goalless a b c (n ∷ (s ∷ (o ∷ more))) h1 h2 = refl
-
-goal-fits : (a b c : List ℕ) (ws : List (List ℕ)) → is_some (goal_words a b c ws) ≡ is_over (walk_words (goal_form c) ws)
-goal-fits a b c ws =
-    by_goal (λ c. is_some (goal_words a b c ws) ≡ is_over (walk_words (goal_form c) ws))
-    (error-words a b ws ∙ plain _ ws tt)
-    (budget-words a b ws ∙ plain _ ws tt)
-    (λ c h1 h2. goalless a b c ws h1 h2 ∙ over-none ws ∙ ap (λ s. is_over (walk_words s ws)) (sym (cond-false _ _ _ h1 ∙ cond-false _ _ _ h2)))
-    c
 
 -- of `fit`
 fit-fits : (ws : List (List ℕ)) → is_some (command_of (codes "fit" ∷ ws)) ≡ is_over (walk_words (Some (Grid ∷ (Prefix ∷ (Goal ∷ [])))) ws)
@@ -351,8 +372,55 @@ fit-fits (a ∷ []) = refl
 fit-fits (a ∷ (b ∷ [])) = bool (λ t. false ≡ is_over (if t then Some (Goal ∷ []) else None)) refl refl (is_prefix b)
 fit-fits (a ∷ (b ∷ (c ∷ ws))) =
     fit-words a b c ws
-    ∙ bool (λ t. (t && is_some (goal_words a b c ws)) ≡ is_over (walk_words (step (if t then Some (Goal ∷ []) else None) c) ws))
-    (goal-fits a b c ws) (over-none ws) (is_prefix b)
+    ∙ bool (λ t. (t && is_some (goal_words (fit_command a b) c ws)) ≡ is_over (walk_words (step (if t then Some (Goal ∷ []) else None) c) ws))
+    (goal-fits (fit_command a b) (fit-both a b) c ws) (over-none ws) (is_prefix b)
+
+-- of `certify make-fit`
+make_fit-words : (a c : List ℕ) (ws : List (List ℕ))
+    → is_some (command_of (codes "certify" ∷ (codes "make-fit" ∷ (a ∷ (c ∷ ws))))) ≡ is_some (goal_words (fit_make_command a) c ws)
+make_fit-words a c [] = refl
+make_fit-words a c (d ∷ []) = refl
+make_fit-words a c (d ∷ (e ∷ [])) = refl
+make_fit-words a c (d ∷ (e ∷ (f ∷ []))) = refl
+make_fit-words a c (d ∷ (e ∷ (f ∷ (g ∷ [])))) = refl
+make_fit-words a c (d ∷ (e ∷ (f ∷ (g ∷ (h ∷ more))))) = refl
+
+make_fit-fits : (ws : List (List ℕ))
+    → is_some (command_of (codes "certify" ∷ (codes "make-fit" ∷ ws))) ≡ is_over (walk_words (Some (Grid ∷ (Goal ∷ []))) ws)
+make_fit-fits [] = refl
+make_fit-fits (a ∷ []) = refl
+make_fit-fits (a ∷ (c ∷ ws)) = make_fit-words a c ws ∙ goal-fits (fit_make_command a) (make_fit-both a) c ws
+
+-- of `certify check-fit`
+check_fit-words : (a b c d : List ℕ) (ws : List (List ℕ))
+    → is_some (command_of (codes "certify" ∷ (codes "check-fit" ∷ (a ∷ (b ∷ (c ∷ (d ∷ ws)))))))
+    ≡ is_some (goal_words (fit_check_command a b c) d ws)
+check_fit-words a b c d [] = sides (is_prefix b)
+check_fit-words a b c d (e ∷ []) = refl
+check_fit-words a b c d (e ∷ (f ∷ [])) = refl
+check_fit-words a b c d (e ∷ (f ∷ (g ∷ more))) = refl
+
+check_fit-fits : (ws : List (List ℕ)) → is_some (command_of (codes "certify" ∷ (codes "check-fit" ∷ ws)))
+    ≡ is_over (walk_words (Some (Grid ∷ (Mesh ∷ (Certificate ∷ (Goal ∷ []))))) ws)
+check_fit-fits [] = refl
+check_fit-fits (a ∷ []) = refl
+check_fit-fits (a ∷ (b ∷ [])) = refl
+check_fit-fits (a ∷ (b ∷ (c ∷ []))) = refl
+check_fit-fits (a ∷ (b ∷ (c ∷ (d ∷ ws)))) =
+    check_fit-words a b c d ws ∙ goal-fits (fit_check_command a b c) (check_fit-both a b c) d ws
+
+-- of `certify`
+certify-fits : (ws : List (List ℕ)) → is_some (command_of (codes "certify" ∷ ws)) ≡ is_over (walk_words (Some (Task ∷ [])) ws)
+certify-fits [] = refl
+certify-fits (t ∷ ws) =
+    by_task (λ t. is_some (command_of (codes "certify" ∷ (t ∷ ws))) ≡ is_over (walk_words (task_form t) ws))
+    (make-words ws ∙ plain _ ws tt)
+    (check-words ws ∙ plain _ ws tt)
+    (make_fit-fits ws)
+    (check_fit-fits ws)
+    (λ t h1 h2 h3 h4. taskless t h1 h2 h3 h4 ws ∙ over-none ws
+    ∙ ap (λ s. is_over (walk_words s ws)) (sym (cond-false _ _ _ h1 ∙ cond-false _ _ _ h2 ∙ cond-false _ _ _ h3 ∙ cond-false _ _ _ h4)))
+    t
 
 -- another first word is that of no command
 nameless : (w : List ℕ) → bytes_eq w (codes "info") ≡ false → bytes_eq w (codes "try") ≡ false → bytes_eq w (codes "mesh") ≡ false → bytes_eq w (codes "strip") ≡ false
@@ -365,9 +433,11 @@ nameless w h1 h2 h3 h4 h5 h6 h7 h8 (a ∷ (b ∷ (c ∷ []))) = refl
 nameless w h1 h2 h3 h4 h5 h6 h7 h8 (a ∷ (b ∷ (c ∷ (d ∷ [])))) = cond-false _ _ _ h6
 nameless w h1 h2 h3 h4 h5 h6 h7 h8 (a ∷ (b ∷ (c ∷ (d ∷ (e ∷ []))))) =
     cond-false _ _ _ h8
+    ∙ cond-false _ _ _ (ap (λ t. t && bytes_eq a (codes "make-fit")) h7)
     ∙ bool (λ t. (if t then meshes_command w a b c d e else None) ≡ None) (cond-false _ _ _ h3 ∙ cond-false _ _ _ h4 ∙ cond-false _ _ _ h5) refl (is_prefix c)
 nameless w h1 h2 h3 h4 h5 h6 h7 h8 (a ∷ (b ∷ (c ∷ (d ∷ (e ∷ (f ∷ [])))))) = cond-false _ _ _ (ap (λ t. t && bytes_eq a (codes "check")) h7)
-nameless w h1 h2 h3 h4 h5 h6 h7 h8 (a ∷ (b ∷ (c ∷ (d ∷ (e ∷ (f ∷ (g ∷ []))))))) = cond-false _ _ _ (ap (λ t. t && bytes_eq a (codes "make")) h7)
+nameless w h1 h2 h3 h4 h5 h6 h7 h8 (a ∷ (b ∷ (c ∷ (d ∷ (e ∷ (f ∷ (g ∷ []))))))) =
+    cond-false _ _ _ (ap (λ t. t && bytes_eq a (codes "make")) h7) ∙ cond-false _ _ _ (ap (λ t. t && bytes_eq a (codes "check-fit")) h7)
 nameless w h1 h2 h3 h4 h5 h6 h7 h8 (a ∷ (b ∷ (c ∷ (d ∷ (e ∷ (f ∷ (g ∷ (h ∷ more)))))))) = refl
 
 -- words are a command exactly where the walk over them is over

@@ -18,14 +18,16 @@ command_form word =
     else if bytes_eq word (codes "fit") then Some (Grid ∷ (Prefix ∷ (Goal ∷ [])))
     else None
 
--- what stands behind `certify make` and `certify check`; None of another word
+-- what stands behind `certify` and a task; None of another word
 abbrev pub task_form : List ℕ → Option (List Wanted)
 task_form word =
     if bytes_eq word (codes "make") then Some (Grid ∷ (X ∷ (Y ∷ (Z ∷ (Budget ∷ (Spacing ∷ []))))))
     else if bytes_eq word (codes "check") then Some (Grid ∷ (Mesh ∷ (Certificate ∷ (Budget ∷ (Spacing ∷ [])))))
+    else if bytes_eq word (codes "make-fit") then Some (Grid ∷ (Goal ∷ []))
+    else if bytes_eq word (codes "check-fit") then Some (Grid ∷ (Mesh ∷ (Certificate ∷ (Goal ∷ []))))
     else None
 
--- what stands behind `error` and `budget` of `fit`; None of another word
+-- what stands behind `error` and `budget`, the goals of a fitted mesh; None of another word
 abbrev pub goal_form : List ℕ → Option (List Wanted)
 goal_form word =
     if bytes_eq word (codes "error") then Some (Error ∷ (Spacing ∷ []))

@@ -12,6 +12,8 @@ job_roles words.Facts = []
 job_roles (words.Make m) = []
 job_roles (words.Check c) = Certificate ∷ (Mesh ∷ [])
 job_roles (words.Fit f) = []
+job_roles (words.MakeFit m) = []
+job_roles (words.CheckFit c) = Certificate ∷ (Mesh ∷ [])
 
 -- what the files of a command are, in the order of their names
 abbrev pub roles_of : words.Command → List Role

@@ -5,7 +5,7 @@ ghost use Rattle.word_laws.specs.Words.{command_of};
 ghost use Rattle.run_words.specs.WordView.{command_seen};
 ghost use Rattle.run_messages.specs.Opened.{opened_name, opened_role, entry};
 
-use run_words::{CheckWords, Command, FrameWords, command_in};
+use run_words::{Command, FrameWords, command_in};
 
 /// What a file of a command is.
 #[derive(Clone, Copy, Debug, PartialEq, Eq)]
@@ -55,8 +55,14 @@ fn file_of<'a>(command: &Command<'a>, number: u64) -> Option<NamedFile<'a>>
         Command::Info(grid) => file_of_grid(grid, number),
         Command::Try { .. } => None,
         Command::Make(words) => file_of_grid(words.grid, number),
-        Command::Check(words) => file_of_check(words, number),
+        Command::Check(words) => {
+            file_of_check(words.grid, words.certificate, words.mesh, number)
+        }
         Command::Fit(words) => file_of_grid(words.grid, number),
+        Command::MakeFit(words) => file_of_grid(words.grid, number),
+        Command::CheckFit(words) => {
+            file_of_check(words.grid, words.certificate, words.mesh, number)
+        }
     }
 }
 
@@ -91,22 +97,26 @@ fn file_of_frames<'a>(words: &FrameWords<'a>, number: u64) -> Option<NamedFile<'
 }
 
 /// A file of a check: the certificate comes before the mesh.
-fn file_of_check<'a>(words: &CheckWords<'a>, number: u64) -> Option<NamedFile<'a>>
+fn file_of_check<'a>(
+    grid: &'a str,
+    certificate: &'a str,
+    mesh: &'a str,
+    number: u64,
+) -> Option<NamedFile<'a>>
     ensures name { option_map (λ file. file.name.now) result ≡
-        entry (words.now.grid.now ∷ (words.now.certificate.now ∷ (words.now.mesh.now ∷ [])))
-        number }
+        entry (grid.now ∷ (certificate.now ∷ (mesh.now ∷ []))) number }
     ensures role { option_map (λ file. file.role) result ≡
         entry (Role.Grid ∷ (Role.Certificate ∷ (Role.Mesh ∷ []))) number }
 {
     match number {
         2 => Some(NamedFile {
             role: Role::Certificate,
-            name: words.certificate,
+            name: certificate,
         }),
         3 => Some(NamedFile {
             role: Role::Mesh,
-            name: words.mesh,
+            name: mesh,
         }),
-        _ => file_of_grid(words.grid, number),
+        _ => file_of_grid(grid, number),
     }
 }

@@ -16,9 +16,9 @@ use roam_num::{read_dec, read_signed, read_thousandths};
 pub enum Wanted {
     /// The name of a command.
     Command,
-    /// `make` or `check`, behind `certify`.
+    /// `make`, `check`, `make-fit` or `check-fit`, behind `certify`.
     Task,
-    /// `error` or `budget`, behind the grid and the prefix of `fit`.
+    /// `error` or `budget`, behind the files of a command on fitted meshes.
     Goal,
     /// The greatest error, in units of height.
     Error,
@@ -102,6 +102,15 @@ const CHECK: Stage = &[
 ];
 
 const FIT: Stage = &[Wanted::Grid, Wanted::Prefix, Wanted::Goal];
+
+const MAKE_FIT: Stage = &[Wanted::Grid, Wanted::Goal];
+
+const CHECK_FIT: Stage = &[
+    Wanted::Grid,
+    Wanted::Mesh,
+    Wanted::Certificate,
+    Wanted::Goal,
+];
 
 const AT_ERROR: Stage = &[Wanted::Error, Wanted::Spacing];
 
@@ -200,7 +209,7 @@ pub(crate) fn command_form(word: &str) -> Option<Stage>
     }
 }
 
-/// What stands behind `certify make` and `certify check`; None of another word.
+/// What stands behind `certify` and a task; None of another word.
 pub(crate) fn task_form(word: &str) -> Option<Stage>
     ensures { option_map (λ form. form.now) result ≡ task_form_seen word.now }
 {
@@ -208,12 +217,16 @@ pub(crate) fn task_form(word: &str) -> Option<Stage>
         Some(MAKE)
     } else if word == "check" {
         Some(CHECK)
+    } else if word == "make-fit" {
+        Some(MAKE_FIT)
+    } else if word == "check-fit" {
+        Some(CHECK_FIT)
     } else {
         None
     }
 }
 
-/// What stands behind `error` and `budget` of `fit`; None of another word.
+/// What stands behind `error` and `budget`, the goals of a fitted mesh; None of another word.
 pub(crate) fn goal_form(word: &str) -> Option<Stage>
     ensures { option_map (λ form. form.now) result ≡ goal_form_seen word.now }
 {

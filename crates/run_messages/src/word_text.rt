@@ -15,7 +15,7 @@ impl<'a> fmt::Display for WordFault<'a> {
             (Some(Wanted::Command), None) => {
                 f.write_str("no word is given, and a command is wanted")
             }
-            (Some(Wanted::Task), None) => f.write_str("certify wants 'make' or 'check' behind it"),
+            (Some(Wanted::Task), None) => write!(f, "certify wants {TASKS} behind it"),
             (Some(wanted), Some(word)) => write_wrong(f, wanted, word.as_str(), self.words),
             (_, _) => match form_of(self.words) {
                 Some(form) => write_count(f, &form),
@@ -38,14 +38,8 @@ fn write_wrong<W: fmt::Write>(
             f,
             "no command {word}; the commands are info, try, mesh, strip, least, measure, fit and certify"
         ),
-        Wanted::Task => write!(
-            f,
-            "certify wants 'make' or 'check' behind it, and not {word}"
-        ),
-        Wanted::Goal => write!(
-            f,
-            "fit wants 'error' or 'budget' behind GRID PREFIX, and not {word}"
-        ),
+        Wanted::Task => write!(f, "certify wants {TASKS} behind it, and not {word}"),
+        Wanted::Goal => write_goal(f, word, words),
         _ => {
             write!(f, "{} is {word}: ", label(wanted))?;
             write_wanted(f, wanted)?;
@@ -54,10 +48,27 @@ fn write_wrong<W: fmt::Write>(
     }
 }
 
+/// The tasks of `certify`.
+const TASKS: &str = "'make', 'check', 'make-fit' or 'check-fit'";
+
+/// Writes what is wanted in the place of this word: what a mesh is fitted to.
+fn write_goal<W: fmt::Write>(
+    f: &mut fmt::Formatter<W>,
+    word: Quoted<'_>,
+    words: &[String],
+) -> fmt::Result {
+    if let Some(form) = form_of(words) {
+        write_name(f, &form)?;
+        f.write_str(" wants 'error' or 'budget' behind")?;
+        write_labels(f, form.behind)?;
+    }
+    write!(f, ", and not {word}")
+}
+
 /// Writes how many words the command wants, where another number of them is given.
 fn write_other_count<W: fmt::Write>(f: &mut fmt::Formatter<W>, words: &[String]) -> fmt::Result {
     match form_of(words) {
-        Some(form) if form.given != form.count => {
+        Some(form) if form.given != count_of(form.behind) => {
             f.write_str("; ")?;
             write_count(f, &form)
         }
@@ -69,15 +80,11 @@ fn write_other_count<W: fmt::Write>(f: &mut fmt::Formatter<W>, words: &[String])
 #[derive(Clone, Copy)]
 struct Form<'a> {
     name: &'a str,
+    /// The task of `certify`; of other commands it is empty.
     task: &'a str,
     behind: Stage,
-    /// How many words are wanted behind the name.
-    count: usize,
     given: usize,
 }
-
-/// How many words stand behind `fit`, whichever its goal is.
-const FIT_WORDS: usize = 5;
 
 /// The form of the command that the first words name.
 fn form_of(words: &[String]) -> Option<Form<'_>> {
@@ -85,36 +92,39 @@ fn form_of(words: &[String]) -> Option<Form<'_>> {
         return None;
     };
     let name = name.as_str();
-    if name == "fit" {
-        return Some(form_with(name, "", &[], FIT_WORDS, rest.len()));
-    }
     match rest {
         [task, rest @ ..] if name == "certify" => {
             let task = task.as_str();
-            let behind = task_form(task)?;
-            Some(form_with(name, task, behind, behind.len(), rest.len()))
+            Some(form_with(name, task, task_form(task)?, rest.len()))
         }
-        _ => {
-            let behind = command_form(name)?;
-            Some(form_with(name, "", behind, behind.len(), rest.len()))
-        }
+        _ => Some(form_with(name, "", command_form(name)?, rest.len())),
     }
 }
 
 /// The form with these parts.
-fn form_with<'a>(
-    name: &'a str,
-    task: &'a str,
-    behind: Stage,
-    count: usize,
-    given: usize,
-) -> Form<'a> {
+fn form_with<'a>(name: &'a str, task: &'a str, behind: Stage, given: usize) -> Form<'a> {
     Form {
         name,
         task,
         behind,
-        count,
         given,
+    }
+}
+
+/// Whether the last place is the goal of a fitted mesh.
+fn has_goal(behind: Stage) -> bool {
+    match behind.last() {
+        Some(Wanted::Goal) => true,
+        _ => false,
+    }
+}
+
+/// How many words are wanted in these places: a goal is its name, a number and the spacing.
+fn count_of(behind: Stage) -> usize {
+    if has_goal(behind) {
+        behind.len().saturating_add(2)
+    } else {
+        behind.len()
     }
 }
 
@@ -125,28 +135,45 @@ fn write_count<W: fmt::Write>(f: &mut fmt::Formatter<W>, form: &Form<'_>) -> fmt
         1 => f.write_str("1 was given:")?,
         count => write!(f, "{count} were given:")?,
     }
-    write_places(f, form)
+    write_places(f, form.behind)
 }
 
 /// Writes the command, and how many words it wants behind its name.
 fn write_asked<W: fmt::Write>(f: &mut fmt::Formatter<W>, form: &Form<'_>) -> fmt::Result {
-    f.write_str(form.name)?;
-    if !form.task.is_empty() {
-        write!(f, " {}", form.task)?;
-    }
-    match form.count {
+    write_name(f, form)?;
+    match count_of(form.behind) {
         1 => f.write_str(" wants 1 word behind it, "),
         count => write!(f, " wants {count} words behind it, "),
     }
 }
 
-/// Writes which words a command wants behind its name.
-fn write_places<W: fmt::Write>(f: &mut fmt::Formatter<W>, form: &Form<'_>) -> fmt::Result {
-    if form.name == "fit" {
-        return f.write_str(" GRID PREFIX error E SPACING, or GRID PREFIX budget BUDGET SPACING");
+/// Writes the name of the command, and of `certify` its task.
+fn write_name<W: fmt::Write>(f: &mut fmt::Formatter<W>, form: &Form<'_>) -> fmt::Result {
+    f.write_str(form.name)?;
+    if form.task.is_empty() {
+        Ok(())
+    } else {
+        write!(f, " {}", form.task)
     }
-    for wanted in form.behind {
-        write!(f, " {}", label(*wanted))?;
+}
+
+/// Writes which words a command wants behind its name.
+fn write_places<W: fmt::Write>(f: &mut fmt::Formatter<W>, behind: Stage) -> fmt::Result {
+    write_labels(f, behind)?;
+    if !has_goal(behind) {
+        return Ok(());
+    }
+    f.write_str(" error E SPACING, or")?;
+    write_labels(f, behind)?;
+    f.write_str(" budget BUDGET SPACING")
+}
+
+/// Writes the names of these places, but for that of a goal.
+fn write_labels<W: fmt::Write>(f: &mut fmt::Formatter<W>, behind: Stage) -> fmt::Result {
+    for wanted in behind {
+        if *wanted != Wanted::Goal {
+            write!(f, " {}", label(*wanted))?;
+        }
     }
     Ok(())
 }

@@ -1,5 +1,5 @@
 -- An address below the end is of a triangle that may be split.
-use Rattle.std.proofs.Common.{◌≡◌, ℕ, ◌+◌, ◌*◌, ◌^◌, ◌<◌, subst}
+use Rattle.std.proofs.Common.{◌<◌, subst}
 use Rattle.least_laws.proofs.SweepLemmas.{lt-splittable}
 use Rattle.cert_text.proofs.reading.reason_line.Goals as goal
 

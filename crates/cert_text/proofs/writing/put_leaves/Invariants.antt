@@ -3,7 +3,7 @@ use Rattle.std.proofs.Common.{◌≡◌, ◌++◌, ℕ, List, Option, take}
 use Rattle.roam_edge.specs.Fault.{IsInTime}
 use Rattle.std.specs.List.{flat_map}
 use Rattle.cert_text.specs.CertText.{leaf_text}
-use Rattle.cert_text.specs.Page.{IsPut}
+use Rattle.page_laws.specs.Page.{IsPut}
 use Rattle.cert_text.proofs.writing.put_leaves.Given as goal
 
 abbrev pub invariant-loop-leaf : goal.invariant-loop-leaf

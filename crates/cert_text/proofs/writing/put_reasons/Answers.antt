@@ -1,11 +1,11 @@
 -- One line more, or the first ones cut short.
-use Rattle.std.proofs.Common.{[], ◌++◌, ◌<◌, take, drop, length, refl, sym, ap, ◌∙◌, subst, arith}
+use Rattle.std.proofs.Common.{[], ◌++◌, ◌<◌, take, drop, length, refl, sym, ◌∙◌, subst, arith}
 use Rattle.std.specs.List.{flat_map}
 use Rattle.std.proofs.lemmas.List.{append-nil, take_all}
 use Rattle.std.proofs.lemmas.Result.{err_from_is_err_and}
 use Rattle.cert_text.specs.CertText.{reason_text}
-use Rattle.cert_text.specs.Page.{IsPut}
-use Rattle.cert_text.proofs.PageLemmas.{put-more, cut-longer, texts-cut, texts-next}
+use Rattle.page_laws.specs.Page.{IsPut}
+use Rattle.page_laws.proofs.PageLemmas.{put-more, cut-longer, texts-cut, texts-next}
 use Rattle.cert_text.proofs.writing.put_reasons.Goals as goal
 
 pub loop-reason-init : goal.loop-reason-init

@@ -1,5 +1,5 @@
 -- The camera, then the leaves, then the reasons, then what is left on the page.
-use Rattle.std.proofs.Common.{◌≡◌, ℕ, List, Option, [], ◌++◌, refl, sym, ap, ◌∙◌, subst, Err, Result}
+use Rattle.std.proofs.Common.{◌≡◌, ℕ, List, Option, [], ◌++◌, refl, sym, ap, ◌∙◌, subst}
 use Rattle.std.specs.List.{flat_map}
 use Rattle.std.proofs.lemmas.List.{append-nil}
 use Rattle.std.proofs.lemmas.Result.{err_from_is_err_and}
@@ -7,10 +7,9 @@ use Rattle.mesh_defs.specs.BoundingBox.{CameraAt}
 use Rattle.certificate_laws.specs.declared.reason.Reason.{Reason}
 use Rattle.roam_edge.specs.Sink.{Appends}
 use Rattle.cert_text.specs.declared.line.CertLine.TheVariants.{CameraLine}
-use Rattle.cert_text.specs.Certificate.{Certificate}
 use Rattle.cert_text.specs.CertText.{ended, leaf_text, reason_text, cert_text}
-use Rattle.cert_text.specs.Page.{IsPut, IsCutShort}
-use Rattle.cert_text.proofs.PageLemmas.{put-nothing, cut-longer, appends-cut}
+use Rattle.page_laws.specs.Page.{IsPut}
+use Rattle.page_laws.proofs.PageLemmas.{put-nothing, cut-longer, appends-cut}
 use Rattle.cert_text.proofs.writing.write_cert.Goals as goal
 
 -- an empty page

@@ -45,8 +45,10 @@ returns-in_err-put_offs-clause-bytes g c =
     let cert = c.args.cert.now in
     let start = first before c.new-page.result.items c.new-page.ensures in
     rw p.1 (appends-cut before _ (fit_cert_text cert) _
-    (cut-longer before _ (ended (ToleranceLine c.tolerance.result) ++ flat_map off_text c.needed.result.now) (ended MeshLine ++ flat_map off_text cert.beyond) (fit_cert_text cert)
-    (sym (same_parts c.tolerance.result cert.tolerance c.needed.result.now cert.needed cert.beyond cert.beyond c.tolerance.ensures c.needed.ensures.value refl)
+    (cut-longer before _ (ended (ToleranceLine c.tolerance.result) ++ flat_map off_text c.needed.result.now)
+    (ended MeshLine ++ flat_map off_text cert.beyond) (fit_cert_text cert)
+    (sym (same_parts c.tolerance.result cert.tolerance c.needed.result.now cert.needed cert.beyond cert.beyond
+    c.tolerance.ensures c.needed.ensures.value refl)
     ∙ front_parts c.tolerance.result c.needed.result.now cert.beyond)
     (c.in_err-put_offs.ensures.err before (ended (ToleranceLine c.tolerance.result)) (c.in_ok-put_line.ensures.ok before [] start))))
 
@@ -57,8 +59,10 @@ returns-in_err-put_line-2-clause-bytes g c =
     let cert = c.args.cert.now in
     let start = first before c.new-page.result.items c.new-page.ensures in
     let text = ended (ToleranceLine c.tolerance.result) ++ flat_map off_text c.needed.result.now in
-    rw p.1 (appends-cut before _ (fit_cert_text cert) _ (cut-longer before _ text (ended MeshLine ++ flat_map off_text cert.beyond) (fit_cert_text cert)
-    (sym (same_parts c.tolerance.result cert.tolerance c.needed.result.now cert.needed cert.beyond cert.beyond c.tolerance.ensures c.needed.ensures.value refl)
+    rw p.1 (appends-cut before _ (fit_cert_text cert) _
+    (cut-longer before _ text (ended MeshLine ++ flat_map off_text cert.beyond) (fit_cert_text cert)
+    (sym (same_parts c.tolerance.result cert.tolerance c.needed.result.now cert.needed cert.beyond cert.beyond
+    c.tolerance.ensures c.needed.ensures.value refl)
     ∙ front_parts c.tolerance.result c.needed.result.now cert.beyond)
     (c.in_err-put_line-2.ensures.err before text
     (c.in_ok-put_offs.ensures.ok before (ended (ToleranceLine c.tolerance.result)) (c.in_ok-put_line.ensures.ok before [] start)))))
