@@ -229,7 +229,7 @@ module _ (n : ℕ) (places : PlaceState) (vertices : VertexState) (corners : Lis
             let empty = waiting_uses-none v in
             omega (arith, whole.used v, uses v);
         total = (let h = whole.total in let before = ap length was_none in omega (arith, length-swap_remove corners at x low));
-        once = λ a. let empty = times-none a in omega (arith, whole.once a, times-swap_remove places.triangles at a inside);
+        once = λ a. let empty = times-none a in omega (arith, whole.once a, times-swap_remove places.triangles at 0 a inside);
         few = (let h = whole.few in omega (arith, length-swap_remove places.triangles at 0 inside));
         corner_space = (let h = whole.corner_space in omega arith);
         waiting_space = (let h = whole.waiting_space in omega arith);

@@ -1,8 +1,10 @@
 -- How often a number stands in a list, after a change of the list.
-use Rattle.std.proofs.Common.{◌≡◌, ◌≢◌, ℕ, suc, ◌+◌, ◌-◌, ◌<◌, ◌≤◌, cond, List, [], ◌∷◌, ◌++◌, length, get_or, set, take, drop, refl, ap, arith, ⊎_elim}
+use Rattle.std.proofs.Common.{◌≡◌, ◌≢◌, ℕ, suc, ◌+◌, ◌-◌, ◌<◌, ◌≤◌, cond, List, [], ◌∷◌, ◌++◌, length, get_or, set, take, drop, refl, sym, ap, ◌∙◌, arith, ⊎_elim}
 use Rattle.std.specs.List.{swap_remove}
+use Rattle.std.specs.List.Sorted.{IsPermutation}
 use Rattle.std.proofs.lemmas.Bool.{cases_eq, eq-eqb, ne_eqb}
-use Rattle.std.proofs.lemmas.List.{length-set, length-take-le}
+use Rattle.std.proofs.lemmas.List.{length-set, length-take-le, get_or_default}
+use Rattle.std.proofs.lemmas.List.Sorted.{IsPermutation-refl, IsPermutation-sym, IsPermutation-cons, IsPermutation-swap_remove, IsPermutation-trans}
 use Rattle.std.proofs.lemmas.List.Sums.{sum_by-cons, sum_by-set, sum_by_push, sum_by-swap_remove, sum_by-drop_more, sum_by_more, sum_by-take-le, get_or-le-sum_by}
 use Rattle.draw_buffer.specs.Times.{times, same}
 
@@ -37,9 +39,9 @@ pub times-set : (ts : List ℕ) (k t a : ℕ) → k < length ts → times (set t
 unfolding times same
 times-set ts k t a within = sum_by-set (λ t. same t a) ts k t 0 within
 
-pub times-swap_remove : (ts : List ℕ) (k a : ℕ) → k < length ts → times (swap_remove ts k 0) a + same (get_or ts k 0) a ≡ times ts a
+pub times-swap_remove : (ts : List ℕ) (k d a : ℕ) → k < length ts → times (swap_remove ts k d) a + same (get_or ts k d) a ≡ times ts a
 unfolding times same
-times-swap_remove ts k a within = sum_by-swap_remove (λ t. same t a) ts k 0 within
+times-swap_remove ts k d a within = sum_by-swap_remove (λ t. same t a) ts k d within
 
 pub times-drop : (ts : List ℕ) (k a : ℕ) → k < length ts → times (drop k ts) a ≡ same (get_or ts k 0) a + times (drop (k + 1) ts) a
 unfolding times same
@@ -99,7 +101,33 @@ length-le-times (t ∷ ts) us within =
     let short = length-swap_remove us k 0 there.1 in
     let rest = length-le-times ts (swap_remove us k 0) (λ a.
     let whole = times-cons t ts a in
-    let part = times-swap_remove us k a there.1 in
+    let part = times-swap_remove us k 0 a there.1 in
     let same_here : same (get_or us k 0) a ≡ same t a = ap (λ b. same b a) there.2 in
     omega (arith, within a)) in
     omega arith
+
+-- two lists in which each number stands as often are one list in two orders
+pub permutation-times : (ts us : List ℕ) → ((a : ℕ) → times ts a ≡ times us a) → IsPermutation ts us
+permutation-times [] [] same_times = IsPermutation-refl []
+permutation-times [] (u ∷ us) same_times =
+    let one = same-one u u refl in
+    let all = times-cons u us u in
+    let none = times-none u in
+    let equal = same_times u in
+    absurd (omega arith)
+permutation-times (t ∷ ts) us same_times =
+    let one = same-one t t refl in
+    let all = times-cons t ts t in
+    let equal = same_times t in
+    let there = times-place us t (omega arith) in
+    let k = there.0 in
+    let here : get_or us k t ≡ t = get_or_default us k t 0 there.1 ∙ there.2 in
+    let left : List ℕ = swap_remove us k t in
+    let rest : IsPermutation ts left = permutation-times ts left (λ a.
+    let whole = times-cons t ts a in
+    let part = times-swap_remove us k t a there.1 in
+    let same_here : same (get_or us k t) a ≡ same t a = ap (λ b. same b a) here in
+    let both = same_times a in
+    omega arith) in
+    IsPermutation-trans (t ∷ ts) (t ∷ left) us (IsPermutation-cons t ts left rest)
+    (IsPermutation-sym us (t ∷ left) (IsPermutation-swap_remove us k t there.1 (sym here)))

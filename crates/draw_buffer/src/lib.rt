@@ -10,6 +10,7 @@
 mod buffer;
 mod exchange;
 mod indices;
+mod laws;
 mod places;
 mod vertices;
 
@@ -17,4 +18,5 @@ pub use bintree_addr::Tri;
 pub use buffer::DrawBuffer;
 pub use exchange::MOST_TRIANGLES;
 pub use indices::Indices;
+pub use laws::times_laws;
 pub use roam_errors::NoMemory;

@@ -1,13 +1,15 @@
 //! Frames of a mesh over made heights: the first one, and one more.
 
-ghost use Rattle.std.specs.Prelude.{◌≡◌, ℕ, ◌≤◌, ◌^◌, None, IfSome};
+ghost use Rattle.std.specs.Prelude.{◌≡◌, ℕ, ◌≤◌, ◌^◌, None, IfSome, IfOk};
 ghost use Rattle.mesh_defs.specs.State.{move_length};
 ghost use Rattle.mesh_defs.specs.declared.level.TheConstants.{GREATEST_LEVEL};
 ghost use Rattle.roam_mesh.specs.Mesh.{stamp_of};
 
 use crate::gauge::{SPACING, ViewGauge, gauge_laws};
+use frame_loop::NoMemory;
 use roam_gen::gen_grid;
 use roam_mesh::Mesh;
+use std::alloc::Global;
 use std::io;
 use std::time::Instant;
 use view_priority::Camera;
@@ -68,20 +70,42 @@ pub fn frame(rt: &HostRuntime, case: Case) -> io::Result<Option<Timed>>
     requires low { 1 ≤ case.n }
     requires high { case.n ≤ GREATEST_LEVEL }
 {
-    let Some((from, to)) = cameras(case.n, case.step) else {
-        return Ok(None);
-    };
     let Ok(grid) = gen_grid(rt.alloc(), case.n, SEED) else {
         return Ok(None);
     };
-    let Ok(wedges) = Wedges::build(rt.alloc(), grid) else {
+    match Wedges::build(rt.alloc(), grid) {
+        Ok(wedges) => frame_over(rt, case, &wedges),
+        Err(_) => Ok(None),
+    }
+}
+
+/// Makes a mesh over these wedges, and times a frame.
+fn frame_over(rt: &HostRuntime, case: Case, wedges: &Wedges) -> io::Result<Option<Timed>>
+    requires low { 1 ≤ case.n }
+    requires high { case.n ≤ GREATEST_LEVEL }
+    requires grid { wedges.now.n ≡ case.n }
+{
+    let Some((from, to)) = cameras(case.n, case.step) else {
         return Ok(None);
     };
-    let Ok(mut mesh) = Mesh::make(rt.alloc(), case.n, BUDGET) else {
-        return Ok(None);
-    };
-    let (first, second) = two_frames(rt, &mut mesh, &wedges, from, to, u64::from(case.step))?;
-    Ok(Some(if case.second { second } else { first }))
+    match mesh_on_heap(rt.alloc(), case.n) {
+        Ok(mut mesh) => one_of_two(rt, &mut mesh, wedges, from, to, case),
+        Err(_) => Ok(None),
+    }
+}
+
+/// A mesh on the heap, which is cheaper to prove than one that a function with several exits owns.
+fn mesh_on_heap(alloc: Global, n: u32) -> Result<Box<Mesh>, NoMemory>
+    requires low { 1 ≤ n }
+    requires high { n ≤ GREATEST_LEVEL }
+    ensures n { IfOk result (λ mesh. mesh.value.pool.n ≡ n) }
+    ensures most { IfOk result (λ mesh. mesh.value.pool.most ≡ BUDGET) }
+    ensures splits { IfOk result (λ mesh. mesh.value.pool.splits ≡ 0) }
+    ensures merges { IfOk result (λ mesh. mesh.value.pool.merges ≡ 0) }
+    ensures stamps { IfOk result (λ mesh. (a : ℕ) → stamp_of mesh.value a ≡ None) }
+{
+    let mesh = Mesh::make(alloc, n, BUDGET)?;
+    Ok(Box::new(alloc, mesh)?)
 }
 
 /// Two cameras, a third along the grid and half across it, the second one so much farther along x.
@@ -95,6 +119,26 @@ fn cameras(n: u32, step: u32) -> Option<(Camera, Camera)>
     let from = Camera::new(x, y, HEIGHT)?;
     let to = Camera::new(x + i64::from(step), y, HEIGHT)?;
     Some((from, to))
+}
+
+/// Times a first frame and one more, and tells of that which is asked for.
+fn one_of_two(
+    rt: &HostRuntime,
+    mesh: &mut Mesh,
+    wedges: &Wedges,
+    from: Camera,
+    to: Camera,
+    case: Case,
+) -> io::Result<Option<Timed>>
+    requires grid { wedges.now.n ≡ mesh.old.pool.n }
+    requires most { mesh.old.pool.most ≡ BUDGET }
+    requires splits { mesh.old.pool.splits ≡ 0 }
+    requires merges { mesh.old.pool.merges ≡ 0 }
+    requires stamps { (a : ℕ) → stamp_of mesh.old a ≡ None }
+    requires way { move_length from to ≤ case.step }
+{
+    let (first, second) = two_frames(rt, mesh, wedges, from, to, u64::from(case.step))?;
+    Ok(Some(if case.second { second } else { first }))
 }
 
 /// A first frame, and one from another camera, which is no farther than the odometer says.

@@ -102,7 +102,7 @@ returns-then-at-len-clause-total c a =
     let triangles = ap (λ (e : ExchangeState). times e.triangles a) c.self.view_is in
     let waiting = ap (λ (e : ExchangeState). times (addresses_of e.waiting) a) c.self.view_is in
     let after = ap (λ (p : PlaceState). times p.triangles a) c.close.ensures in
-    let change = times-swap_remove i.places.triangles c.place-at.result a c.place-at.ensures.within in
+    let change = times-swap_remove i.places.triangles c.place-at.result 0 a c.place-at.ensures.within in
     let here = ap (λ t. same t a) c.place-at.ensures.at in
     let none = ap (λ ws. times (addresses_of ws) a) (c.in-None.ensures.items ∙ append-nil c.pop.new.self.items) in
     omega arith
@@ -112,7 +112,7 @@ returns-then-at-len-clause-left c a =
     let i = c.self.inside in
     let triangles = ap (λ (e : ExchangeState). times e.triangles a) c.self.view_is in
     let after = ap (λ (p : PlaceState). times p.triangles a) c.close.ensures in
-    let change = times-swap_remove i.places.triangles c.place-at.result a c.place-at.ensures.within in
+    let change = times-swap_remove i.places.triangles c.place-at.result 0 a c.place-at.ensures.within in
     let here = ap (λ t. same t a) c.place-at.ensures.at in
     omega arith
 
@@ -129,7 +129,7 @@ returns-else-at-len-clause-total c a =
     let triangles = ap (λ (e : ExchangeState). times e.triangles a) c.self.view_is in
     let waiting = ap (λ (e : ExchangeState). times (addresses_of e.waiting) a) c.self.view_is in
     let after = ap (λ (p : PlaceState). times p.triangles a) c.close.ensures in
-    let change = times-swap_remove i.places.triangles c.place-at.result a c.place-at.ensures.within in
+    let change = times-swap_remove i.places.triangles c.place-at.result 0 a c.place-at.ensures.within in
     let here = ap (λ t. same t a) c.place-at.ensures.at in
     let none = ap (λ ws. times (addresses_of ws) a) (c.in-None.ensures.items ∙ append-nil c.pop.new.self.items) in
     omega arith
@@ -139,6 +139,6 @@ returns-else-at-len-clause-left c a =
     let i = c.self.inside in
     let triangles = ap (λ (e : ExchangeState). times e.triangles a) c.self.view_is in
     let after = ap (λ (p : PlaceState). times p.triangles a) c.close.ensures in
-    let change = times-swap_remove i.places.triangles c.place-at.result a c.place-at.ensures.within in
+    let change = times-swap_remove i.places.triangles c.place-at.result 0 a c.place-at.ensures.within in
     let here = ap (λ t. same t a) c.place-at.ensures.at in
     omega arith
