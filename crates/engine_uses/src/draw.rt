@@ -4,6 +4,7 @@ ghost use Rattle.std.specs.Prelude.{◌≡◌, ◌+◌, ◌*◌, ◌^◌, ◌<�
 ghost use Rattle.mesh_defs.specs.declared.level.TheConstants.{GREATEST_LEVEL};
 ghost use Rattle.draw_buffer.specs.declared.exchange.TheConstants.{MOST_TRIANGLES};
 ghost use Rattle.draw_buffer.specs.Buffer.{IsKept};
+ghost use Rattle.frame_loop.specs.declared.limits.TheConstants.{MOST_FRAMES};
 ghost use Rattle.frame_loop.specs.Engine.{mesh_seen};
 ghost use Rattle.engine_uses.specs.Best.{IsBestSeen};
 ghost use Rattle.engine_uses.specs.Step.{IsInStep, IsBehind};
@@ -42,7 +43,7 @@ fn room(n: u32, most: u32) -> u32
 /// Hand the graphics card the places that `DrawBuffer::written` tells, and the points of the vertices that `DrawBuffer::given` tells:
 /// all else is as it was (`kept`).
 pub fn frame_and_patch(engine: &mut Engine, buffer: &mut DrawBuffer) -> Sight
-    requires some { engine.old.frames < 1000000 }
+    requires some { engine.old.frames < MOST_FRAMES }
     requires step { IsInStep engine.old buffer.old }
     ensures step { IsInStep engine.new buffer.new }
     ensures best { IsBestSeen engine.old.state (mesh_seen engine.new) result }
