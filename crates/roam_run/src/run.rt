@@ -10,7 +10,7 @@ ghost use Rattle.run_laws.specs.Act.{sinks_tell, report_tells};
 ghost use Rattle.run_laws.specs.Cause.{StatusHasCause};
 ghost use Rattle.word_laws.specs.Words.{Scripted, Fitting, OnGrid, Generated, Frames, is_of_engine, command_of, file_count, Checking, FitChecking};
 ghost use Rattle.run_laws.specs.Outcome.{Outcome, EngineEnd, IsOutcome, HasOneOutcome};
-ghost use Rattle.run_laws.specs.Promise.{Seen, seen, AreFiles, EndsRight, HasEnded, OpensForStatus, CommandReadFault, LeavesAtReadFault, CommandNoMemory, LeavesAtNoMemory, IsAccepted, is_complete, ends_script, may_end, leaves_engine};
+ghost use Rattle.run_laws.specs.Promise.{Seen, shelf_tells, AreFiles, EndsRight, HasEnded, OpensForStatus, CommandReadFault, LeavesAtReadFault, CommandNoMemory, LeavesAtNoMemory, IsAccepted, is_complete, ends_script, may_end, leaves_engine};
 ghost use Rattle.run_laws.specs.Moment.{moment};
 ghost use Rattle.run_laws.specs.Statement.{KeepsBestMeshes, CertifiesMesh, TellsCertificates, EndsByStatus, LeavesOutside, IsCaused};
 ghost use Rattle.run_engine.specs.EngineSeen.{engine_seen};
@@ -189,20 +189,20 @@ fn run_of_words<F: Shelf, M: MeshSink, R: Sink>(
     ensures outcome { (files : List NamedFile) → AreFiles (F.files shelf.old) (map string_bytes words.now) files →
         EndsRight (sinks_tell M.MeshSink R.Sink meshes.old report.old)
         (sinks_tell M.MeshSink R.Sink meshes.new report.new)
-        (seen (F.files shelf.old) (F.rest shelf.old) (F.opens shelf.old) (F.ended shelf.old))
-        (seen (F.files shelf.new) (F.rest shelf.new) (F.opens shelf.new) (F.ended shelf.new))
+        (shelf_tells F.Shelf shelf.old)
+        (shelf_tells F.Shelf shelf.new)
         (map string_bytes words.now) files result.status }
     ensures read_fault { result.status ≡ Status.ReadFault →
         LeavesAtReadFault (sinks_tell M.MeshSink R.Sink meshes.old report.old)
         (sinks_tell M.MeshSink R.Sink meshes.new report.new)
-        (seen (F.files shelf.old) (F.rest shelf.old) (F.opens shelf.old) (F.ended shelf.old))
-        (seen (F.files shelf.new) (F.rest shelf.new) (F.opens shelf.new) (F.ended shelf.new))
+        (shelf_tells F.Shelf shelf.old)
+        (shelf_tells F.Shelf shelf.new)
         (map string_bytes words.now) }
     ensures no_memory { result.status ≡ Status.NoMemory →
         LeavesAtNoMemory (sinks_tell M.MeshSink R.Sink meshes.old report.old)
         (sinks_tell M.MeshSink R.Sink meshes.new report.new)
-        (seen (F.files shelf.old) (F.rest shelf.old) (F.opens shelf.old) (F.ended shelf.old))
-        (seen (F.files shelf.new) (F.rest shelf.new) (F.opens shelf.new) (F.ended shelf.new))
+        (shelf_tells F.Shelf shelf.old)
+        (shelf_tells F.Shelf shelf.new)
         (map string_bytes words.now) }
     ensures engine { IsSome result.engine ↔
         IsTrue (leaves_engine (command_of (map string_bytes words.now)) result.status) }
@@ -223,7 +223,7 @@ fn run_of_words<F: Shelf, M: MeshSink, R: Sink>(
     ensures opens { OpensForStatus (F.opens shelf.old) (F.opens shelf.new)
         (file_count (command_of (map string_bytes words.now))) result.status }
     ensures done { result.status ≡ Status.Done → 0 < file_count (command_of (map string_bytes words.now)) →
-        HasEnded (seen (F.files shelf.new) (F.rest shelf.new) (F.opens shelf.new) (F.ended shelf.new)) }
+        HasEnded (shelf_tells F.Shelf shelf.new) }
     ensures files { F.files shelf.new ≡ F.files shelf.old }
     ensures idle { result.status ≢ Status.WriteFault → M.under_way meshes.new ≡ false }
     ensures shelf_in_time { IsInTime (F.late shelf.old) (F.faults shelf.old) (F.late shelf.new) }
@@ -255,20 +255,20 @@ fn run_command<F: Shelf, M: MeshSink, R: Sink>(
         (0 < file_count (Some (command_seen command.now)) → F.files shelf.old ≡ Some files) →
         CommandEnds (sinks_tell M.MeshSink R.Sink meshes.old report.old)
         (sinks_tell M.MeshSink R.Sink meshes.new report.new)
-        (seen (F.files shelf.old) (F.rest shelf.old) (F.opens shelf.old) (F.ended shelf.old))
-        (seen (F.files shelf.new) (F.rest shelf.new) (F.opens shelf.new) (F.ended shelf.new))
+        (shelf_tells F.Shelf shelf.old)
+        (shelf_tells F.Shelf shelf.new)
         (command_seen command.now) files result.status (option_map engine_seen result.engine) }
     ensures read_fault { result.status ≡ Status.ReadFault →
         CommandReadFault (sinks_tell M.MeshSink R.Sink meshes.old report.old)
         (sinks_tell M.MeshSink R.Sink meshes.new report.new)
-        (seen (F.files shelf.old) (F.rest shelf.old) (F.opens shelf.old) (F.ended shelf.old))
-        (seen (F.files shelf.new) (F.rest shelf.new) (F.opens shelf.new) (F.ended shelf.new))
+        (shelf_tells F.Shelf shelf.old)
+        (shelf_tells F.Shelf shelf.new)
         (command_seen command.now) }
     ensures no_memory { result.status ≡ Status.NoMemory →
         CommandNoMemory (sinks_tell M.MeshSink R.Sink meshes.old report.old)
         (sinks_tell M.MeshSink R.Sink meshes.new report.new)
-        (seen (F.files shelf.old) (F.rest shelf.old) (F.opens shelf.old) (F.ended shelf.old))
-        (seen (F.files shelf.new) (F.rest shelf.new) (F.opens shelf.new) (F.ended shelf.new))
+        (shelf_tells F.Shelf shelf.old)
+        (shelf_tells F.Shelf shelf.new)
         (command_seen command.now) }
     ensures engine { IsSome result.engine ↔ IsTrue (leaves_engine (Some (command_seen command.now)) result.status) }
     ensures status { IsTrue (may_end (Some (command_seen command.now)) result.status) }
@@ -277,7 +277,7 @@ fn run_command<F: Shelf, M: MeshSink, R: Sink>(
     ensures opens { OpensForStatus (F.opens shelf.old) (F.opens shelf.new)
         (file_count (Some (command_seen command.now))) result.status }
     ensures done { result.status ≡ Status.Done → 0 < file_count (Some (command_seen command.now)) →
-        HasEnded (seen (F.files shelf.new) (F.rest shelf.new) (F.opens shelf.new) (F.ended shelf.new)) }
+        HasEnded (shelf_tells F.Shelf shelf.new) }
     ensures files { F.files shelf.new ≡ F.files shelf.old }
     ensures idle { result.status ≢ Status.WriteFault → M.under_way meshes.new ≡ false }
     ensures shelf_in_time { IsInTime (F.late shelf.old) (F.faults shelf.old) (F.late shelf.new) }
@@ -310,21 +310,21 @@ fn run_frames<F: Shelf, M: MeshSink, R: Sink>(
     ensures outcome { (files : List NamedFile) → F.files shelf.old ≡ Some files →
         CommandEnds (sinks_tell M.MeshSink R.Sink meshes.old report.old)
         (sinks_tell M.MeshSink R.Sink meshes.new report.new)
-        (seen (F.files shelf.old) (F.rest shelf.old) (F.opens shelf.old) (F.ended shelf.old))
-        (seen (F.files shelf.new) (F.rest shelf.new) (F.opens shelf.new) (F.ended shelf.new))
+        (shelf_tells F.Shelf shelf.old)
+        (shelf_tells F.Shelf shelf.new)
         (OnGrid command.now.grid.now (Frames (scripted_seen command.now))) files result.status
         (option_map engine_seen result.engine) }
     ensures read_fault { result.status ≡ Status.ReadFault →
         CommandReadFault (sinks_tell M.MeshSink R.Sink meshes.old report.old)
         (sinks_tell M.MeshSink R.Sink meshes.new report.new)
-        (seen (F.files shelf.old) (F.rest shelf.old) (F.opens shelf.old) (F.ended shelf.old))
-        (seen (F.files shelf.new) (F.rest shelf.new) (F.opens shelf.new) (F.ended shelf.new))
+        (shelf_tells F.Shelf shelf.old)
+        (shelf_tells F.Shelf shelf.new)
         (OnGrid command.now.grid.now (Frames (scripted_seen command.now))) }
     ensures no_memory { result.status ≡ Status.NoMemory →
         CommandNoMemory (sinks_tell M.MeshSink R.Sink meshes.old report.old)
         (sinks_tell M.MeshSink R.Sink meshes.new report.new)
-        (seen (F.files shelf.old) (F.rest shelf.old) (F.opens shelf.old) (F.ended shelf.old))
-        (seen (F.files shelf.new) (F.rest shelf.new) (F.opens shelf.new) (F.ended shelf.new))
+        (shelf_tells F.Shelf shelf.old)
+        (shelf_tells F.Shelf shelf.new)
         (OnGrid command.now.grid.now (Frames (scripted_seen command.now))) }
     ensures engine { IsSome result.engine ↔
         IsTrue (is_of_engine (show_for command.now.making) && ends_script result.status) }
@@ -334,7 +334,7 @@ fn run_frames<F: Shelf, M: MeshSink, R: Sink>(
         (M.faults meshes.new) (R.faults report.old) (R.faults report.new) result.status }
     ensures opens { OpensForStatus (F.opens shelf.old) (F.opens shelf.new) 2 result.status }
     ensures done { result.status ≡ Status.Done →
-        HasEnded (seen (F.files shelf.new) (F.rest shelf.new) (F.opens shelf.new) (F.ended shelf.new)) }
+        HasEnded (shelf_tells F.Shelf shelf.new) }
     ensures files { F.files shelf.new ≡ F.files shelf.old }
     ensures idle { result.status ≢ Status.WriteFault → M.under_way meshes.new ≡ false }
     ensures shelf_in_time { IsInTime (F.late shelf.old) (F.faults shelf.old) (F.late shelf.new) }
@@ -367,21 +367,21 @@ fn run_engine<F: Shelf, M: MeshSink, R: Sink>(
     ensures outcome { (files : List NamedFile) → F.files shelf.old ≡ Some files →
         CommandEnds (sinks_tell M.MeshSink R.Sink meshes.old report.old)
         (sinks_tell M.MeshSink R.Sink meshes.new report.new)
-        (seen (F.files shelf.old) (F.rest shelf.old) (F.opens shelf.old) (F.ended shelf.old))
-        (seen (F.files shelf.new) (F.rest shelf.new) (F.opens shelf.new) (F.ended shelf.new))
+        (shelf_tells F.Shelf shelf.old)
+        (shelf_tells F.Shelf shelf.new)
         (OnGrid command.now.grid.now (Frames (scripted_seen command.now))) files result.status
         (option_map engine_seen result.engine) }
     ensures read_fault { result.status ≡ Status.ReadFault →
         CommandReadFault (sinks_tell M.MeshSink R.Sink meshes.old report.old)
         (sinks_tell M.MeshSink R.Sink meshes.new report.new)
-        (seen (F.files shelf.old) (F.rest shelf.old) (F.opens shelf.old) (F.ended shelf.old))
-        (seen (F.files shelf.new) (F.rest shelf.new) (F.opens shelf.new) (F.ended shelf.new))
+        (shelf_tells F.Shelf shelf.old)
+        (shelf_tells F.Shelf shelf.new)
         (OnGrid command.now.grid.now (Frames (scripted_seen command.now))) }
     ensures no_memory { result.status ≡ Status.NoMemory →
         CommandNoMemory (sinks_tell M.MeshSink R.Sink meshes.old report.old)
         (sinks_tell M.MeshSink R.Sink meshes.new report.new)
-        (seen (F.files shelf.old) (F.rest shelf.old) (F.opens shelf.old) (F.ended shelf.old))
-        (seen (F.files shelf.new) (F.rest shelf.new) (F.opens shelf.new) (F.ended shelf.new))
+        (shelf_tells F.Shelf shelf.old)
+        (shelf_tells F.Shelf shelf.new)
         (OnGrid command.now.grid.now (Frames (scripted_seen command.now))) }
     ensures engine { IsSome result.engine ↔ IsTrue (ends_script result.status) }
     ensures not_usage { result.status ≢ Status.Usage }
@@ -390,7 +390,7 @@ fn run_engine<F: Shelf, M: MeshSink, R: Sink>(
         (M.faults meshes.new) (R.faults report.old) (R.faults report.new) result.status }
     ensures opens { OpensForStatus (F.opens shelf.old) (F.opens shelf.new) 2 result.status }
     ensures done { result.status ≡ Status.Done →
-        HasEnded (seen (F.files shelf.new) (F.rest shelf.new) (F.opens shelf.new) (F.ended shelf.new)) }
+        HasEnded (shelf_tells F.Shelf shelf.new) }
     ensures files { F.files shelf.new ≡ F.files shelf.old }
     ensures idle { result.status ≢ Status.WriteFault → M.under_way meshes.new ≡ false }
     ensures shelf_in_time { IsInTime (F.late shelf.old) (F.faults shelf.old) (F.late shelf.new) }

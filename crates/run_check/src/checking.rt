@@ -11,7 +11,7 @@ ghost use Rattle.run_laws.specs.Cause.{StatusHasCause};
 ghost use Rattle.word_laws.specs.Words.{OnGrid, Check};
 ghost use Rattle.run_laws.specs.Certify.{IsFaultless};
 ghost use Rattle.run_laws.specs.Outcome.{IsCheckOutcome};
-ghost use Rattle.run_laws.specs.Promise.{seen, HasEnded, OpensForStatus, CommandReadFault, CommandNoMemory};
+ghost use Rattle.run_laws.specs.Promise.{shelf_tells, HasEnded, OpensForStatus, CommandReadFault, CommandNoMemory};
 ghost use Rattle.run_words.specs.CertifyView.{checking_seen, AreInBounds};
 ghost use Rattle.run_laws.specs.FileStop.{StopsReading};
 ghost use Rattle.run_check.specs.Judging.{judged_status, opened_for, judged_outcome, mesh_seen, IsJudged, JudgesNoMemory, MeshHasRead, JudgesFault};
@@ -51,20 +51,20 @@ pub fn run_check<F: Shelf, R: Sink>(
         F.files shelf.old ≡ Some files →
         CommandEnds (report_tells R.Sink meshes count report.old)
         (report_tells R.Sink meshes count report.new)
-        (seen (F.files shelf.old) (F.rest shelf.old) (F.opens shelf.old) (F.ended shelf.old))
-        (seen (F.files shelf.new) (F.rest shelf.new) (F.opens shelf.new) (F.ended shelf.new))
+        (shelf_tells F.Shelf shelf.old)
+        (shelf_tells F.Shelf shelf.new)
         (OnGrid words.now.grid.now (Check (checking_seen words.now))) files result None }
     ensures read_fault { result ≡ Status.ReadFault → (meshes : Option (List Mesh)) (count : ℕ) →
         CommandReadFault (report_tells R.Sink meshes count report.old)
         (report_tells R.Sink meshes count report.new)
-        (seen (F.files shelf.old) (F.rest shelf.old) (F.opens shelf.old) (F.ended shelf.old))
-        (seen (F.files shelf.new) (F.rest shelf.new) (F.opens shelf.new) (F.ended shelf.new))
+        (shelf_tells F.Shelf shelf.old)
+        (shelf_tells F.Shelf shelf.new)
         (OnGrid words.now.grid.now (Check (checking_seen words.now))) }
     ensures no_memory { result ≡ Status.NoMemory → (meshes : Option (List Mesh)) (count : ℕ) →
         CommandNoMemory (report_tells R.Sink meshes count report.old)
         (report_tells R.Sink meshes count report.new)
-        (seen (F.files shelf.old) (F.rest shelf.old) (F.opens shelf.old) (F.ended shelf.old))
-        (seen (F.files shelf.new) (F.rest shelf.new) (F.opens shelf.new) (F.ended shelf.new))
+        (shelf_tells F.Shelf shelf.old)
+        (shelf_tells F.Shelf shelf.new)
         (OnGrid words.now.grid.now (Check (checking_seen words.now))) }
     ensures status { (result ≢ Status.Usage) × (result ≢ Status.ScriptRefused) }
     ensures faults { StatusHasCause (F.faults shelf.old) (F.faults shelf.new) 0 0
@@ -72,7 +72,7 @@ pub fn run_check<F: Shelf, R: Sink>(
     ensures opens { OpensForStatus (F.opens shelf.old) (F.opens shelf.new) 3 result }
     ensures files { F.files shelf.new ≡ F.files shelf.old }
     ensures done { result ≡ Status.Done →
-        HasEnded (seen (F.files shelf.new) (F.rest shelf.new) (F.opens shelf.new) (F.ended shelf.new)) }
+        HasEnded (shelf_tells F.Shelf shelf.new) }
     ensures shelf_in_time { IsInTime (F.late shelf.old) (F.faults shelf.old) (F.late shelf.new) }
     ensures report_in_time { IsInTime (R.late report.old) (R.faults report.old) (R.late report.new) }
 {
@@ -113,7 +113,7 @@ fn judge<F: Shelf>(
         IsJudged (checking_seen words.now) wedges.now files judgement) }
     ensures opens { IfOk result (λ judgement. F.opens shelf.new + 1 ≡ F.opens shelf.old + opened_for judgement) }
     ensures ended { IfOk result (λ judgement. judged_status judgement ≡ Status.Done →
-        HasEnded (seen (F.files shelf.new) (F.rest shelf.new) (F.opens shelf.new) (F.ended shelf.new))) }
+        HasEnded (shelf_tells F.Shelf shelf.new)) }
     ensures no_memory { result ≡ Err CheckStop.NoMemory → JudgesNoMemory (checking_seen words.now) wedges.now
         (F.files shelf.old) (F.opens shelf.old) (F.opens shelf.new) }
     ensures stopped { result ≡ Err CheckStop.Failed → JudgesFault (checking_seen words.now) wedges.now
@@ -148,7 +148,7 @@ fn judge_cert<F: Shelf>(
         (judged_outcome judgement)) }
     ensures opens { IfOk result (λ judgement. F.opens shelf.new + 2 ≡ F.opens shelf.old + opened_for judgement) }
     ensures ended { IfOk result (λ judgement. judged_status judgement ≡ Status.Done →
-        HasEnded (seen (F.files shelf.new) (F.rest shelf.new) (F.opens shelf.new) (F.ended shelf.new))) }
+        HasEnded (shelf_tells F.Shelf shelf.new)) }
     ensures no_memory { result ≡ Err CheckStop.NoMemory → (F.opens shelf.new ≡ F.opens shelf.old)
         ⊎ ((F.opens shelf.new ≡ F.opens shelf.old + 1) × IsFaultless (checking_seen words.now) wedges.now cert.now) }
     ensures faultless { result ≡ Err CheckStop.Failed → IsFaultless (checking_seen words.now) wedges.now cert.now }
@@ -194,7 +194,7 @@ fn difference<F: Shelf>(
         found ≡ first_difference (mesh_seen (checking_seen words.now) wedges.now cert.now)
         (bytes_of files words.now.mesh.now)) }
     ensures ended { IfOk result (λ found. found ≡ None →
-        HasEnded (seen (F.files shelf.new) (F.rest shelf.new) (F.opens shelf.new) (F.ended shelf.new))) }
+        HasEnded (shelf_tells F.Shelf shelf.new)) }
     ensures opened { F.opens shelf.new ≡ next_count (F.opens shelf.old) }
     ensures stopped { result ≡ Err CheckStop.Failed → (files : List NamedFile) →
         F.files shelf.old ≡ Some files →

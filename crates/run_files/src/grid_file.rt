@@ -5,7 +5,7 @@ ghost use Rattle.roam_edge.specs.Fault.{Rose, next_count, IsInTime};
 ghost use Rattle.roam_edge.specs.Shelf.{NamedFile, bytes_of};
 ghost use Rattle.pgm_grid.specs.declared.fault.PgmFault.{PgmFault as Fault};
 ghost use Rattle.pgm_grid.specs.Progress.{grid_of, resume};
-ghost use Rattle.run_laws.specs.Promise.{seen, HasEnded, HasReadHeader, IsUndecided};
+ghost use Rattle.run_laws.specs.Promise.{shelf_tells, HasEnded, HasReadHeader, IsUndecided};
 ghost use Rattle.run_laws.specs.FileStop.{StopsReading};
 ghost use Rattle.run_files.specs.GridStop.{stop_for};
 
@@ -32,8 +32,7 @@ pub fn read_grid<F: Shelf>(alloc: Global, name: &str, shelf: &mut F) -> Result<G
     ensures ok { IfOk result (λ grid. (files : List NamedFile) → F.files shelf.old ≡ Some files →
         grid_of (bytes_of files name.now) ≡ Ok grid) }
     // A file that is read was read to its end, and begins with a whole header.
-    ensures ended { OnOk result (HasEnded (seen (F.files shelf.new) (F.rest shelf.new) (F.opens shelf.new)
-        (F.ended shelf.new))) }
+    ensures ended { OnOk result (HasEnded (shelf_tells F.Shelf shelf.new)) }
     ensures header { OnOk result ((files : List NamedFile) → F.files shelf.old ≡ Some files →
         HasReadHeader (bytes_of files name.now) (F.rest shelf.new)) }
     ensures refused { (fault : Fault) → result ≡ Err (GridStop.Refused fault) →

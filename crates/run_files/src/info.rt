@@ -10,7 +10,7 @@ ghost use Rattle.run_laws.specs.Act.{report_tells};
 ghost use Rattle.run_laws.specs.Cause.{StatusHasCause};
 ghost use Rattle.word_laws.specs.Words.{OnGrid, Facts};
 ghost use Rattle.run_laws.specs.ReportText.{info_line};
-ghost use Rattle.run_laws.specs.Promise.{seen, HasEnded, CommandReadFault, CommandNoMemory};
+ghost use Rattle.run_laws.specs.Promise.{shelf_tells, HasEnded, CommandReadFault, CommandNoMemory};
 ghost use Rattle.run_laws.specs.Leaving.{CommandEnds};
 
 use crate::end::end_with_text;
@@ -40,20 +40,20 @@ pub fn run_info<F: Shelf, R: Sink>(
         F.files shelf.old ≡ Some files →
         CommandEnds (report_tells R.Sink meshes count report.old)
         (report_tells R.Sink meshes count report.new)
-        (seen (F.files shelf.old) (F.rest shelf.old) (F.opens shelf.old) (F.ended shelf.old))
-        (seen (F.files shelf.new) (F.rest shelf.new) (F.opens shelf.new) (F.ended shelf.new))
+        (shelf_tells F.Shelf shelf.old)
+        (shelf_tells F.Shelf shelf.new)
         (OnGrid name.now Facts) files result None }
     ensures read_fault { result ≡ Status.ReadFault → (meshes : Option (List Mesh)) (count : ℕ) →
         CommandReadFault (report_tells R.Sink meshes count report.old)
         (report_tells R.Sink meshes count report.new)
-        (seen (F.files shelf.old) (F.rest shelf.old) (F.opens shelf.old) (F.ended shelf.old))
-        (seen (F.files shelf.new) (F.rest shelf.new) (F.opens shelf.new) (F.ended shelf.new))
+        (shelf_tells F.Shelf shelf.old)
+        (shelf_tells F.Shelf shelf.new)
         (OnGrid name.now Facts) }
     ensures no_memory { result ≡ Status.NoMemory → (meshes : Option (List Mesh)) (count : ℕ) →
         CommandNoMemory (report_tells R.Sink meshes count report.old)
         (report_tells R.Sink meshes count report.new)
-        (seen (F.files shelf.old) (F.rest shelf.old) (F.opens shelf.old) (F.ended shelf.old))
-        (seen (F.files shelf.new) (F.rest shelf.new) (F.opens shelf.new) (F.ended shelf.new))
+        (shelf_tells F.Shelf shelf.old)
+        (shelf_tells F.Shelf shelf.new)
         (OnGrid name.now Facts) }
     ensures status { (result ≢ Status.Usage) × (result ≢ Status.ScriptRefused) × (result ≢ Status.Rejected) }
     ensures faults { StatusHasCause (F.faults shelf.old) (F.faults shelf.new) 0 0
@@ -61,7 +61,7 @@ pub fn run_info<F: Shelf, R: Sink>(
     ensures opens { F.opens shelf.new ≡ F.opens shelf.old + 1 }
     ensures files { F.files shelf.new ≡ F.files shelf.old }
     ensures done { result ≡ Status.Done →
-        HasEnded (seen (F.files shelf.new) (F.rest shelf.new) (F.opens shelf.new) (F.ended shelf.new)) }
+        HasEnded (shelf_tells F.Shelf shelf.new) }
     ensures shelf_in_time { IsInTime (F.late shelf.old) (F.faults shelf.old) (F.late shelf.new) }
     ensures report_in_time { IsInTime (R.late report.old) (R.faults report.old) (R.late report.new) }
 {

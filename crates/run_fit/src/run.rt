@@ -6,7 +6,7 @@ ghost use Rattle.roam_edge.specs.Shelf.{NamedFile};
 ghost use Rattle.run_laws.specs.Act.{sinks_tell, Stands, IsCutShort};
 ghost use Rattle.run_laws.specs.Cause.{StatusHasCause, WritesHaveCause};
 ghost use Rattle.word_laws.specs.Words.{OnGrid, Fit};
-ghost use Rattle.run_laws.specs.Promise.{seen, HasEnded, CommandReadFault, CommandNoMemory};
+ghost use Rattle.run_laws.specs.Promise.{shelf_tells, HasEnded, CommandReadFault, CommandNoMemory};
 ghost use Rattle.run_laws.specs.Leaving.{CommandEnds};
 ghost use Rattle.run_words.specs.FitView.{fitting_seen, IsFitting};
 ghost use Rattle.run_fit.specs.FittedSeen.{fitted_acts};
@@ -39,20 +39,20 @@ pub fn run_fit<F: Shelf, M: MeshSink, R: Sink>(
     ensures outcome { (files : List NamedFile) → F.files shelf.old ≡ Some files →
         CommandEnds (sinks_tell M.MeshSink R.Sink meshes.old report.old)
         (sinks_tell M.MeshSink R.Sink meshes.new report.new)
-        (seen (F.files shelf.old) (F.rest shelf.old) (F.opens shelf.old) (F.ended shelf.old))
-        (seen (F.files shelf.new) (F.rest shelf.new) (F.opens shelf.new) (F.ended shelf.new))
+        (shelf_tells F.Shelf shelf.old)
+        (shelf_tells F.Shelf shelf.new)
         (OnGrid words.now.grid.now (Fit (fitting_seen words.now))) files result None }
     ensures read_fault { result ≡ Status.ReadFault →
         CommandReadFault (sinks_tell M.MeshSink R.Sink meshes.old report.old)
         (sinks_tell M.MeshSink R.Sink meshes.new report.new)
-        (seen (F.files shelf.old) (F.rest shelf.old) (F.opens shelf.old) (F.ended shelf.old))
-        (seen (F.files shelf.new) (F.rest shelf.new) (F.opens shelf.new) (F.ended shelf.new))
+        (shelf_tells F.Shelf shelf.old)
+        (shelf_tells F.Shelf shelf.new)
         (OnGrid words.now.grid.now (Fit (fitting_seen words.now))) }
     ensures no_memory { result ≡ Status.NoMemory →
         CommandNoMemory (sinks_tell M.MeshSink R.Sink meshes.old report.old)
         (sinks_tell M.MeshSink R.Sink meshes.new report.new)
-        (seen (F.files shelf.old) (F.rest shelf.old) (F.opens shelf.old) (F.ended shelf.old))
-        (seen (F.files shelf.new) (F.rest shelf.new) (F.opens shelf.new) (F.ended shelf.new))
+        (shelf_tells F.Shelf shelf.old)
+        (shelf_tells F.Shelf shelf.new)
         (OnGrid words.now.grid.now (Fit (fitting_seen words.now))) }
     ensures status { (result ≢ Status.Usage) × (result ≢ Status.ScriptRefused) × (result ≢ Status.Rejected) }
     ensures faults { StatusHasCause (F.faults shelf.old) (F.faults shelf.new) (M.faults meshes.old)
@@ -60,7 +60,7 @@ pub fn run_fit<F: Shelf, M: MeshSink, R: Sink>(
     ensures opens { F.opens shelf.new ≡ F.opens shelf.old + 1 }
     ensures files { F.files shelf.new ≡ F.files shelf.old }
     ensures done { result ≡ Status.Done →
-        HasEnded (seen (F.files shelf.new) (F.rest shelf.new) (F.opens shelf.new) (F.ended shelf.new)) }
+        HasEnded (shelf_tells F.Shelf shelf.new) }
     ensures idle { result ≢ Status.WriteFault → M.under_way meshes.new ≡ false }
     ensures shelf_in_time { IsInTime (F.late shelf.old) (F.faults shelf.old) (F.late shelf.new) }
     ensures meshes_in_time { IsInTime (M.late meshes.old) (M.faults meshes.old) (M.late meshes.new) }

@@ -11,7 +11,7 @@ ghost use Rattle.run_laws.specs.Act.{report_tells};
 ghost use Rattle.run_laws.specs.Cause.{StatusHasCause};
 ghost use Rattle.word_laws.specs.Words.{OnGrid, CheckFit};
 ghost use Rattle.run_laws.specs.Outcome.{IsFitCheckOutcome};
-ghost use Rattle.run_laws.specs.Promise.{seen, HasEnded, OpensForStatus, CommandReadFault, CommandNoMemory};
+ghost use Rattle.run_laws.specs.Promise.{shelf_tells, HasEnded, OpensForStatus, CommandReadFault, CommandNoMemory};
 ghost use Rattle.run_words.specs.FitView.{fit_checking_seen, AreFitBounds};
 ghost use Rattle.run_laws.specs.FileStop.{StopsReading};
 ghost use Rattle.run_fit_check.specs.FitJudging.{judged_status, opened_for, judged_outcome, IsJudged, JudgesNoMemory, MeshHasRead, JudgesFault, IsFaultlessCert, IsSoundFor, StopsFitMesh};
@@ -53,20 +53,20 @@ pub fn run_fit_check<F: Shelf, R: Sink>(
         F.files shelf.old ≡ Some files →
         CommandEnds (report_tells R.Sink meshes count report.old)
         (report_tells R.Sink meshes count report.new)
-        (seen (F.files shelf.old) (F.rest shelf.old) (F.opens shelf.old) (F.ended shelf.old))
-        (seen (F.files shelf.new) (F.rest shelf.new) (F.opens shelf.new) (F.ended shelf.new))
+        (shelf_tells F.Shelf shelf.old)
+        (shelf_tells F.Shelf shelf.new)
         (OnGrid words.now.grid.now (CheckFit (fit_checking_seen words.now))) files result None }
     ensures read_fault { result ≡ Status.ReadFault → (meshes : Option (List Mesh)) (count : ℕ) →
         CommandReadFault (report_tells R.Sink meshes count report.old)
         (report_tells R.Sink meshes count report.new)
-        (seen (F.files shelf.old) (F.rest shelf.old) (F.opens shelf.old) (F.ended shelf.old))
-        (seen (F.files shelf.new) (F.rest shelf.new) (F.opens shelf.new) (F.ended shelf.new))
+        (shelf_tells F.Shelf shelf.old)
+        (shelf_tells F.Shelf shelf.new)
         (OnGrid words.now.grid.now (CheckFit (fit_checking_seen words.now))) }
     ensures no_memory { result ≡ Status.NoMemory → (meshes : Option (List Mesh)) (count : ℕ) →
         CommandNoMemory (report_tells R.Sink meshes count report.old)
         (report_tells R.Sink meshes count report.new)
-        (seen (F.files shelf.old) (F.rest shelf.old) (F.opens shelf.old) (F.ended shelf.old))
-        (seen (F.files shelf.new) (F.rest shelf.new) (F.opens shelf.new) (F.ended shelf.new))
+        (shelf_tells F.Shelf shelf.old)
+        (shelf_tells F.Shelf shelf.new)
         (OnGrid words.now.grid.now (CheckFit (fit_checking_seen words.now))) }
     ensures status { (result ≢ Status.Usage) × (result ≢ Status.ScriptRefused) }
     ensures faults { StatusHasCause (F.faults shelf.old) (F.faults shelf.new) 0 0
@@ -74,7 +74,7 @@ pub fn run_fit_check<F: Shelf, R: Sink>(
     ensures opens { OpensForStatus (F.opens shelf.old) (F.opens shelf.new) 3 result }
     ensures files { F.files shelf.new ≡ F.files shelf.old }
     ensures done { result ≡ Status.Done →
-        HasEnded (seen (F.files shelf.new) (F.rest shelf.new) (F.opens shelf.new) (F.ended shelf.new)) }
+        HasEnded (shelf_tells F.Shelf shelf.new) }
     ensures shelf_in_time { IsInTime (F.late shelf.old) (F.faults shelf.old) (F.late shelf.new) }
     ensures report_in_time { IsInTime (R.late report.old) (R.faults report.old) (R.late report.new) }
 {
@@ -117,7 +117,7 @@ fn judge<F: Shelf>(
         IsJudged (fit_checking_seen words.now) wedges.now files judgement) }
     ensures opens { IfOk result (λ judgement. F.opens shelf.new + 1 ≡ F.opens shelf.old + opened_for judgement) }
     ensures ended { IfOk result (λ judgement. judged_status judgement ≡ Status.Done →
-        HasEnded (seen (F.files shelf.new) (F.rest shelf.new) (F.opens shelf.new) (F.ended shelf.new))) }
+        HasEnded (shelf_tells F.Shelf shelf.new)) }
     ensures no_memory { result ≡ Err CheckStop.NoMemory → JudgesNoMemory (fit_checking_seen words.now) wedges.now
         (F.files shelf.old) (F.opens shelf.old) (F.opens shelf.new) }
     ensures stopped { result ≡ Err CheckStop.Failed → JudgesFault (fit_checking_seen words.now) wedges.now
@@ -150,7 +150,7 @@ fn judge_cert<F: Shelf>(
         (judged_outcome wedges.now.n judgement)) }
     ensures opens { IfOk result (λ judgement. F.opens shelf.new + 2 ≡ F.opens shelf.old + opened_for judgement) }
     ensures ended { IfOk result (λ judgement. judged_status judgement ≡ Status.Done →
-        HasEnded (seen (F.files shelf.new) (F.rest shelf.new) (F.opens shelf.new) (F.ended shelf.new))) }
+        HasEnded (shelf_tells F.Shelf shelf.new)) }
     ensures no_memory { result ≡ Err CheckStop.NoMemory → (F.opens shelf.new ≡ F.opens shelf.old)
         ⊎ ((F.opens shelf.new ≡ F.opens shelf.old + 1) × IsFaultlessCert (fit_checking_seen words.now) wedges.now cert.now) }
     ensures opened { result ≡ Err CheckStop.Failed → F.opens shelf.new ≡ F.opens shelf.old + 1 }
@@ -191,7 +191,7 @@ fn judge_mesh<F: Shelf>(
         (judged_outcome wedges.now.n judgement)) }
     ensures opens { IfOk result (λ judgement. F.opens shelf.new + 2 ≡ F.opens shelf.old + opened_for judgement) }
     ensures ended { IfOk result (λ judgement. judged_status judgement ≡ Status.Done →
-        HasEnded (seen (F.files shelf.new) (F.rest shelf.new) (F.opens shelf.new) (F.ended shelf.new))) }
+        HasEnded (shelf_tells F.Shelf shelf.new)) }
     ensures no_memory { result ≡ Err CheckStop.NoMemory → (F.opens shelf.new ≡ F.opens shelf.old)
         ⊎ (F.opens shelf.new ≡ F.opens shelf.old + 1) }
     ensures opened { result ≡ Err CheckStop.Failed → F.opens shelf.new ≡ F.opens shelf.old + 1 }
@@ -231,7 +231,7 @@ fn difference<F: Shelf>(
     ensures ok { IfOk result (λ found. (files : List NamedFile) → F.files shelf.old ≡ Some files →
         found ≡ first_difference (fit_text words.now.spacing wedges.now mesh.now) (bytes_of files words.now.mesh.now)) }
     ensures ended { IfOk result (λ found. found ≡ None →
-        HasEnded (seen (F.files shelf.new) (F.rest shelf.new) (F.opens shelf.new) (F.ended shelf.new))) }
+        HasEnded (shelf_tells F.Shelf shelf.new)) }
     ensures opened { F.opens shelf.new ≡ next_count (F.opens shelf.old) }
     ensures stopped { result ≡ Err CheckStop.Failed → (files : List NamedFile) → F.files shelf.old ≡ Some files →
         StopsReading (MeshHasRead (fit_text words.now.spacing wedges.now mesh.now))

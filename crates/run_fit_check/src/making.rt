@@ -10,7 +10,7 @@ ghost use Rattle.run_laws.specs.Cause.{StatusHasCause, StatusWritesHaveCause};
 ghost use Rattle.word_laws.specs.Words.{OnGrid, MakeFit};
 ghost use Rattle.run_laws.specs.Certify.{IsFitMade};
 ghost use Rattle.run_laws.specs.Outcome.{text_outcome};
-ghost use Rattle.run_laws.specs.Promise.{seen, HasEnded, CommandReadFault, CommandNoMemory};
+ghost use Rattle.run_laws.specs.Promise.{shelf_tells, HasEnded, CommandReadFault, CommandNoMemory};
 ghost use Rattle.run_words.specs.FitView.{fit_making_seen, AreFitBounds};
 ghost use Rattle.run_laws.specs.Maker.{DoesAs};
 ghost use Rattle.run_laws.specs.Leaving.{CommandEnds};
@@ -39,20 +39,20 @@ pub fn run_fit_make<F: Shelf, R: Sink>(
         F.files shelf.old ≡ Some files →
         CommandEnds (report_tells R.Sink meshes count report.old)
         (report_tells R.Sink meshes count report.new)
-        (seen (F.files shelf.old) (F.rest shelf.old) (F.opens shelf.old) (F.ended shelf.old))
-        (seen (F.files shelf.new) (F.rest shelf.new) (F.opens shelf.new) (F.ended shelf.new))
+        (shelf_tells F.Shelf shelf.old)
+        (shelf_tells F.Shelf shelf.new)
         (OnGrid words.now.grid.now (MakeFit (fit_making_seen words.now))) files result None }
     ensures read_fault { result ≡ Status.ReadFault → (meshes : Option (List Mesh)) (count : ℕ) →
         CommandReadFault (report_tells R.Sink meshes count report.old)
         (report_tells R.Sink meshes count report.new)
-        (seen (F.files shelf.old) (F.rest shelf.old) (F.opens shelf.old) (F.ended shelf.old))
-        (seen (F.files shelf.new) (F.rest shelf.new) (F.opens shelf.new) (F.ended shelf.new))
+        (shelf_tells F.Shelf shelf.old)
+        (shelf_tells F.Shelf shelf.new)
         (OnGrid words.now.grid.now (MakeFit (fit_making_seen words.now))) }
     ensures no_memory { result ≡ Status.NoMemory → (meshes : Option (List Mesh)) (count : ℕ) →
         CommandNoMemory (report_tells R.Sink meshes count report.old)
         (report_tells R.Sink meshes count report.new)
-        (seen (F.files shelf.old) (F.rest shelf.old) (F.opens shelf.old) (F.ended shelf.old))
-        (seen (F.files shelf.new) (F.rest shelf.new) (F.opens shelf.new) (F.ended shelf.new))
+        (shelf_tells F.Shelf shelf.old)
+        (shelf_tells F.Shelf shelf.new)
         (OnGrid words.now.grid.now (MakeFit (fit_making_seen words.now))) }
     ensures status { (result ≢ Status.Usage) × (result ≢ Status.ScriptRefused) × (result ≢ Status.Rejected) }
     ensures faults { StatusHasCause (F.faults shelf.old) (F.faults shelf.new) 0 0
@@ -60,7 +60,7 @@ pub fn run_fit_make<F: Shelf, R: Sink>(
     ensures opens { F.opens shelf.new ≡ F.opens shelf.old + 1 }
     ensures files { F.files shelf.new ≡ F.files shelf.old }
     ensures done { result ≡ Status.Done →
-        HasEnded (seen (F.files shelf.new) (F.rest shelf.new) (F.opens shelf.new) (F.ended shelf.new)) }
+        HasEnded (shelf_tells F.Shelf shelf.new) }
     ensures shelf_in_time { IsInTime (F.late shelf.old) (F.faults shelf.old) (F.late shelf.new) }
     ensures report_in_time { IsInTime (R.late report.old) (R.faults report.old) (R.late report.new) }
 {

@@ -19,7 +19,7 @@ use Rattle.word_laws.specs.Words.{Scripted, Checking, Frames, Check, Command, On
 use Rattle.run_laws.specs.CertFile.{cert_in}
 use Rattle.run_laws.specs.Act.{Act, Told, Stands, report_of}
 use Rattle.run_laws.specs.Picture.{Picture, ArePictures}
-use Rattle.run_laws.specs.Outcome.{Outcome, shown_acts, script_walk, IsScriptOutcome, IsCheckOutcome, IsGridOutcome, IsWordsOutcome, IsOutcome}
+use Rattle.run_laws.specs.Outcome.{Outcome, shown_acts, script_walk, IsFramesOutcome, IsCheckOutcome, IsGridOutcome, IsWordsOutcome, IsOutcome}
 use Rattle.run_laws.specs.Promise.{Seen, is_complete, ends_script, EndsRight, ScriptHasRead, FileReadFault, LeavesAtReadFault, LeavesAtNoMemory}
 use Rattle.run_laws.specs.Headline.{IsRunOf, KeepsGoodMeshes, IsCertifiedMesh}
 use Rattle.run_laws.specs.Laws.{AreStates, BudgetsAreTwo}
@@ -52,7 +52,7 @@ module _ (best : FramesAreBest) (two : BudgetsAreTwo) (read_texts : TextsAreRead
   low = command-budget words run.grid_name (Frames s) run.is_command
 
   -- the outcome of the words is that of the script
-  script-outcome : (end : Outcome) → IsOutcome words files end → IsScriptOutcome s grid script end
+  script-outcome : (end : Outcome) → IsOutcome words files end → IsFramesOutcome s.show 2 (script_walk s grid script) end
   unfolding IsOutcome
   script-outcome end is =
       let P : Option Command → Type 0 = λ c. IsWordsOutcome c files end in

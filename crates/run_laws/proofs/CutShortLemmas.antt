@@ -16,7 +16,7 @@ use Rattle.run_laws.specs.Walk.{Refusal}
 use Rattle.word_laws.specs.Words.{Show, AsMeshes, AsStrips, AsLeast, AsMeasures, AsSums, Frames, Command}
 use Rattle.run_laws.specs.Act.{Act, WholeMesh, ReportText, Told, StandsInPart, IsCutShort, meshes_of, report_of}
 use Rattle.run_laws.specs.Picture.{Picture, triangles_of, strip_triangles}
-use Rattle.run_laws.specs.Outcome.{Outcome, picture_acts, shown_acts, sum_acts, stop_acts, script_walk, IsScriptOutcome, IsGridOutcome, IsWordsOutcome, IsOutcome}
+use Rattle.run_laws.specs.Outcome.{Outcome, picture_acts, shown_acts, sum_acts, stop_acts, script_walk, IsFramesOutcome, IsGridOutcome, IsWordsOutcome, IsOutcome}
 use Rattle.run_laws.specs.ReportText.{frame_line, strip_line, least_line, measure_line, line_refusal}
 use Rattle.run_laws.specs.CutShort.{is_by_frame, first_frames, StandsUnbegun, StandsInMesh, StandsInText, IsCutInMesh, IsCutInLine, StandsInRun, SinksDecide, CutRunsStand, CutTextsStand, WriteFaultsStand}
 
@@ -262,7 +262,7 @@ write_faults read before now old new words files s grid status ends failed run b
     let P : Option Command → Type 0 = λ c. IsWordsOutcome c files e.0 in
     let Q : Result HeightField PgmFault → Type 0 = λ r. IsGridOutcome (Frames s) r files e.0 in
     let script : List ℕ = bytes_of files s.script in
-    let outcome : IsScriptOutcome s grid script e.0 = subst Q (read grid (bytes_of files run.grid_name) run.valid run.file_text) (subst P run.is_command e.1) in
+    let outcome : IsFramesOutcome s.show 2 (script_walk s grid script) e.0 = subst Q (read grid (bytes_of files run.grid_name) run.valid run.file_text) (subst P run.is_command e.1) in
     let R : List Act → Type 0 = λ acts. IsCutShort before now acts in
     let stop : Option Refusal = (script_walk s grid script).stop in
     let acts : e.0.acts ≡ shown_acts s.show 1 outcome.0 ++ stop_acts stop =

@@ -17,7 +17,7 @@ use Rattle.run_laws.specs.Walk.{Refusal}
 use Rattle.word_laws.specs.Words.{Show, AsMeshes, AsStrips, AsLeast, AsMeasures, AsSums, Scripted, prefix_of}
 use Rattle.run_laws.specs.Act.{Act, WholeMesh, ReportText, meshes_of, Told, Stands, StandsInPart, IsCutShort}
 use Rattle.run_laws.specs.Picture.{Picture, triangles_of, strip_triangles, IsLeastFrame, IsPicture, ArePictures}
-use Rattle.run_laws.specs.Outcome.{Outcome, picture_acts, shown_acts, sum_acts, stop_acts, script_walk, IsScriptOutcome}
+use Rattle.run_laws.specs.Outcome.{Outcome, picture_acts, shown_acts, sum_acts, stop_acts, script_walk, IsFramesOutcome}
 use Rattle.run_laws.specs.Promise.{ends_script}
 use Rattle.run_laws.specs.Headline.{IsGoodFrame, AreGoodFrames, KeepsGoodMeshes}
 use Rattle.run_laws.specs.Laws.{AreStates, BudgetsAreTwo}
@@ -184,7 +184,7 @@ frames-part show k (s ∷ states) (mesh ∷ xs) part more prefix count bytes fra
 module _ (best : FramesAreBest) (two : BudgetsAreTwo) (s : Scripted) (grid : HeightField) (script : List ℕ) (some : IsSome (prefix_of s.show)) (low : 2 ≤ s.budget)
     (before now : Told) (all : List Mesh) (there : before.meshes ≡ Some all) (status : Status) where
   -- the headline of a run that did all of its outcome
-  pub complete-keeps : (end : Outcome) → IsScriptOutcome s grid script end → Stands before now end.acts → KeepsGoodMeshes s grid script all now.meshes status
+  pub complete-keeps : (end : Outcome) → IsFramesOutcome s.show 2 (script_walk s grid script) end → Stands before now end.acts → KeepsGoodMeshes s grid script all now.meshes status
   complete-keeps end is stands =
       let ps : List Picture = is.0 in
       let same : meshes_of end.acts ≡ meshes_of (shown_acts s.show 1 ps) =
@@ -231,7 +231,7 @@ module _ (best : FramesAreBest) (two : BudgetsAreTwo) (s : Scripted) (grid : Hei
     }
 
     -- the headline of a run that was cut short
-    pub cut-keeps : (end : Outcome) → IsScriptOutcome s grid script end → IsCutShort before now end.acts → KeepsGoodMeshes s grid script all now.meshes status
+    pub cut-keeps : (end : Outcome) → IsFramesOutcome s.show 2 (script_walk s grid script) end → IsCutShort before now end.acts → KeepsGoodMeshes s grid script all now.meshes status
     cut-keeps end is cut =
         let ps : List Picture = is.0 in
         let good = good-meshes best s.show 1 grid.n [] (script_walk s grid script).frames ps some (script-states two s grid script low) is.1 in

@@ -24,7 +24,7 @@ use Rattle.fit_certificate_laws.specs.Certificate.{FitCertificate}
 use Rattle.run_laws.specs.CertFile.{cert_in, fit_cert_in}
 use Rattle.run_laws.specs.Picture.{Picture, ArePictures, IsCertified}
 use Rattle.run_laws.specs.ReportText.{info_line, grid_refusal}
-use Rattle.run_laws.specs.Outcome.{Outcome, plain_outcome, text_outcome, stop_status, engine_for, frames_outcome, script_walk, made_budget, made_spacing, made_walk, HasOneOutcome, IsFramesOutcome, IsScriptOutcome, IsCheckOutcome, IsFitCheckOutcome, IsJobOutcome, IsGridOutcome, IsCommandOutcome, IsWordsOutcome, IsOutcome}
+use Rattle.run_laws.specs.Outcome.{Outcome, plain_outcome, text_outcome, stop_status, engine_for, frames_outcome, script_walk, made_budget, made_spacing, made_walk, HasOneOutcome, IsFramesOutcome, IsCheckOutcome, IsFitCheckOutcome, IsJobOutcome, IsGridOutcome, IsCommandOutcome, IsWordsOutcome, IsOutcome}
 use Rattle.run_laws.specs.Promise.{IsAcceptedJob, IsAcceptedInput, IsAccepted}
 use Rattle.run_laws.specs.Laws.{FramesExist, RunsAreUnique, LevelsAreInRange, AreStates, BudgetsAreTwo}
 use Rattle.run_laws.proofs.PictureLemmas.{FramesAreUnique, SetsAreLists, ArePictures-unique, pictures_of, no-members}
@@ -420,7 +420,7 @@ made_walk-states n seed =
 -- an outcome exists
 
 pub script_outcome-exists : BudgetsAreTwo → FramesExist → (s : Scripted) (grid : HeightField) (script : List ℕ) → 2 ≤ s.budget → (1 ≤ grid.n) × (grid.n ≤ 11)
-    → (end : Outcome) × IsScriptOutcome s grid script end
+    → (end : Outcome) × IsFramesOutcome s.show 2 (script_walk s grid script) end
 script_outcome-exists two frames s grid script low range =
     let ps = pictures_of frames s.show grid.n [] (script_walk s grid script).frames (no-members grid.n range) (script-states two s grid script low) in
     (frames_outcome s.show 2 (script_walk s grid script) ps.0, (ps.0, ps.1, refl))

@@ -5,7 +5,7 @@ use Rattle.roam_edge.specs.declared.shelf.Shelf as reading
 use Rattle.roam_edge.specs.declared.mesh_sink.MeshSink as showing
 use Rattle.roam_edge.specs.declared.sink.Sink as reporting
 use Rattle.run_laws.specs.Act.{Told, sinks_tell}
-use Rattle.run_laws.specs.Promise.{Seen}
+use Rattle.run_laws.specs.Promise.{Seen, shelf_tells}
 
 -- what the shelf tells, what the two sinks tell, whether a mesh is begun and not finished, how often the shelf has failed, and
 -- whether a call of each of the three came after one that had failed
@@ -22,7 +22,7 @@ pub record Moment : Type 0 where
 abbrev pub moment : {F M R : Type 0} → reading.Ghosts F → showing.Ghosts M → reporting.Ghosts R
     → F → M → R → Moment
 moment f m r files meshes report = record {
-  shelf = record { files = f.files files; rest = f.rest files; opens = f.opens files; ended = f.ended files };
+  shelf = shelf_tells f files;
   sinks = sinks_tell m r meshes report;
   under_way = m.under_way meshes;
   shelf_faults = f.faults files;

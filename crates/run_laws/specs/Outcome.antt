@@ -1,6 +1,6 @@
 -- The outcome of a run: what its words and the files that they name determine. This project's own.
 -- Words: EngineEnd, Outcome, plain_outcome, text_outcome, picture_acts, shown_acts, sum_acts, stop_acts, stop_status,
--- engine_end, frames_outcome, IsFramesOutcome, script_walk, made_budget, made_spacing, made_walk, IsScriptOutcome, IsMakeOutcome, fit_acts, IsFitOutcome, IsCompared,
+-- engine_end, frames_outcome, IsFramesOutcome, script_walk, made_budget, made_spacing, made_walk, IsMakeOutcome, fit_acts, IsFitOutcome, IsCompared,
 -- IsVerdictOutcome, IsCheckOutcome, IsJobOutcome, IsGridOutcome, IsCommandOutcome, IsWordsOutcome, IsOutcome, HasOneOutcome.
 use Rattle.std.specs.Prelude.{◌≡◌, ⊤, ℕ, ◌+◌, ◌⊎◌, List, [], ◌∷◌, ◌++◌, length, sum_by, Option, Some, None, Result, Ok, Err}
 use Rattle.mesh_defs.specs.HeightField.{HeightField}
@@ -127,10 +127,6 @@ IsFramesOutcome show files walk end =
 abbrev pub script_walk : Scripted → HeightField → List ℕ → Walk
 script_walk s grid script = walk_of (start_walk s.budget (start_state grid s.spacing s.budget)) script
 
--- the outcome of the bytes of a script over an accepted grid
-abbrev pub IsScriptOutcome : Scripted → HeightField → List ℕ → Outcome → Type 0
-IsScriptOutcome s grid script end = IsFramesOutcome s.show 2 (script_walk s grid script) end
-
 -- the budget of a generated run, and the world units of its grid step
 abbrev pub made_budget : ℕ
 made_budget = 20000
@@ -196,7 +192,7 @@ IsFitCheckOutcome c grid (Err line) mesh end = end ≡ text_outcome (rejection (
 
 -- what a job does with an accepted grid
 abbrev pub IsJobOutcome : Job → HeightField → List NamedFile → Outcome → Type 0
-IsJobOutcome (Frames s) grid files end = IsScriptOutcome s grid (bytes_of files s.script) end
+IsJobOutcome (Frames s) grid files end = IsFramesOutcome s.show 2 (script_walk s grid (bytes_of files s.script)) end
 IsJobOutcome Facts grid files end = end ≡ text_outcome (info_line grid) Done 1
 IsJobOutcome (Make m) grid files end = IsMakeOutcome m grid end
 IsJobOutcome (Check c) grid files end = IsCheckOutcome c grid (cert_in grid.n (bytes_of files c.certificate)) (bytes_of files c.mesh) end

@@ -1,11 +1,12 @@
 -- What a run of `roam` promises, by its status.
--- Words: Seen, seen, AreFiles, is_complete, ends_script, EndsAs, EndsRight, HasEnded, may_end, OpensForStatus,
+-- Words: Seen, seen, shelf_tells, AreFiles, is_complete, ends_script, EndsAs, EndsRight, HasEnded, may_end, OpensForStatus,
 -- IsUndecided, ScriptHasRead, CheckHasRead, FitCheckHasRead, JobHasRead, HasRead, FileReadFault, CommandReadFault, LeavesAtReadFault, least_open,
 -- most_open_job, most_open, HasReadHeader, CheckHasCome, FitCheckHasCome, CommandNoMemory, LeavesAtNoMemory, IsAcceptedCheck, IsAcceptedFitCheck, IsAcceptedJob, IsAcceptedInput, IsAccepted, leaves_engine.
 use Rattle.std.specs.Prelude.{◌≡◌, ◌≢◌, ⊤, ℕ, zero, suc, ◌+◌, ◌<◌, ◌≤◌, Bool, true, false, ◌&&◌, nat_lt, IsTrue, List, [], ◌++◌, length, Option, Some, None, Ok, Err, slice_get}
 use Rattle.mesh_defs.specs.HeightField.{HeightField, IsHeightField}
 use Rattle.roam_edge.specs.Shelf.{NamedFile, bytes_of}
 use Rattle.roam_edge.specs.Told.{IsPrefix}
+use Rattle.roam_edge.specs.declared.shelf.Shelf as reading
 use Rattle.pgm_header.specs.declared.accepted.Header.{Header}
 use Rattle.pgm_grid.specs.declared.fault.PgmFault.{PgmFault}
 use Rattle.pgm_grid.specs.PgmText.{IsFileText, HasHeader}
@@ -33,6 +34,10 @@ pub record Seen : Type 0 where
 
 abbrev pub seen : Option (List NamedFile) → Option (List ℕ) → ℕ → Bool → Seen
 seen all unread count at_end = record { files = all; rest = unread; opens = count; ended = at_end }
+
+-- what this shelf tells
+abbrev pub shelf_tells : {F : Type 0} → reading.Ghosts F → F → Seen
+shelf_tells f shelf = record { files = f.files shelf; rest = f.rest shelf; opens = f.opens shelf; ended = f.ended shelf }
 
 -- these are the files that the shelf tells; words that name no file have an outcome over any
 abbrev pub AreFiles : Option (List NamedFile) → List (List ℕ) → List NamedFile → Type 0

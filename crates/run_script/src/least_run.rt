@@ -6,7 +6,7 @@ ghost use Rattle.roam_edge.specs.Shelf.{NamedFile};
 ghost use Rattle.run_laws.specs.Act.{sinks_tell};
 ghost use Rattle.run_laws.specs.Cause.{StatusHasCause};
 ghost use Rattle.word_laws.specs.Words.{OnGrid, Frames, AsLeast};
-ghost use Rattle.run_laws.specs.Promise.{seen, HasEnded, OpensForStatus, CommandReadFault, CommandNoMemory};
+ghost use Rattle.run_laws.specs.Promise.{shelf_tells, HasEnded, OpensForStatus, CommandReadFault, CommandNoMemory};
 ghost use Rattle.run_laws.specs.Leaving.{CommandEnds};
 ghost use Rattle.run_words.specs.ShowView.{IsPrefixLength};
 ghost use Rattle.run_words.specs.WordView.{show_for, scripted_seen, IsFrameCommand};
@@ -40,20 +40,20 @@ pub fn run_least<F: Shelf, M: MeshSink, R: Sink>(
     ensures outcome { (files : List NamedFile) → F.files shelf.old ≡ Some files →
         CommandEnds (sinks_tell M.MeshSink R.Sink meshes.old report.old)
         (sinks_tell M.MeshSink R.Sink meshes.new report.new)
-        (seen (F.files shelf.old) (F.rest shelf.old) (F.opens shelf.old) (F.ended shelf.old))
-        (seen (F.files shelf.new) (F.rest shelf.new) (F.opens shelf.new) (F.ended shelf.new))
+        (shelf_tells F.Shelf shelf.old)
+        (shelf_tells F.Shelf shelf.new)
         (OnGrid command.now.grid.now (Frames (scripted_seen command.now))) files result None }
     ensures read_fault { result ≡ Status.ReadFault →
         CommandReadFault (sinks_tell M.MeshSink R.Sink meshes.old report.old)
         (sinks_tell M.MeshSink R.Sink meshes.new report.new)
-        (seen (F.files shelf.old) (F.rest shelf.old) (F.opens shelf.old) (F.ended shelf.old))
-        (seen (F.files shelf.new) (F.rest shelf.new) (F.opens shelf.new) (F.ended shelf.new))
+        (shelf_tells F.Shelf shelf.old)
+        (shelf_tells F.Shelf shelf.new)
         (OnGrid command.now.grid.now (Frames (scripted_seen command.now))) }
     ensures no_memory { result ≡ Status.NoMemory →
         CommandNoMemory (sinks_tell M.MeshSink R.Sink meshes.old report.old)
         (sinks_tell M.MeshSink R.Sink meshes.new report.new)
-        (seen (F.files shelf.old) (F.rest shelf.old) (F.opens shelf.old) (F.ended shelf.old))
-        (seen (F.files shelf.new) (F.rest shelf.new) (F.opens shelf.new) (F.ended shelf.new))
+        (shelf_tells F.Shelf shelf.old)
+        (shelf_tells F.Shelf shelf.new)
         (OnGrid command.now.grid.now (Frames (scripted_seen command.now))) }
     ensures not_usage { result ≢ Status.Usage }
     ensures not_rejected { result ≢ Status.Rejected }
@@ -61,7 +61,7 @@ pub fn run_least<F: Shelf, M: MeshSink, R: Sink>(
         (M.faults meshes.new) (R.faults report.old) (R.faults report.new) result }
     ensures opens { OpensForStatus (F.opens shelf.old) (F.opens shelf.new) 2 result }
     ensures done { result ≡ Status.Done →
-        HasEnded (seen (F.files shelf.new) (F.rest shelf.new) (F.opens shelf.new) (F.ended shelf.new)) }
+        HasEnded (shelf_tells F.Shelf shelf.new) }
     ensures files { F.files shelf.new ≡ F.files shelf.old }
     ensures idle { result ≢ Status.WriteFault → M.under_way meshes.new ≡ false }
     ensures shelf_in_time { IsInTime (F.late shelf.old) (F.faults shelf.old) (F.late shelf.new) }

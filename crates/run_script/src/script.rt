@@ -5,7 +5,7 @@ ghost use Rattle.roam_edge.specs.Fault.{HasCause, next_count, IsInTime};
 ghost use Rattle.roam_edge.specs.Shelf.{NamedFile, bytes_of};
 ghost use Rattle.roam_edge.specs.Sink.{Appends};
 ghost use Rattle.run_laws.specs.Cause.{StatusHasCause, StatusWritesHaveCause};
-ghost use Rattle.run_laws.specs.Promise.{seen, HasEnded};
+ghost use Rattle.run_laws.specs.Promise.{shelf_tells, HasEnded};
 ghost use Rattle.run_laws.specs.Walk.{Walk};
 ghost use Rattle.word_laws.specs.Words.{Show};
 ghost use Rattle.run_laws.specs.Act.{Told, sinks_tell};
@@ -226,8 +226,7 @@ pub fn run_script<K: FrameMaker, F: Shelf, M: MeshSink, R: Sink>(
         (sinks_tell M.MeshSink R.Sink meshes.new report.new) show start)
         (bytes_of files name.now) (F.rest shelf.new) (F.ended shelf.new) }
     ensures status { (result ≡ Status.ReadFault) ⊎ IsScriptEnd result }
-    ensures done { result ≡ Status.Done → HasEnded (seen (F.files shelf.new) (F.rest shelf.new)
-        (F.opens shelf.new) (F.ended shelf.new)) }
+    ensures done { result ≡ Status.Done → HasEnded (shelf_tells F.Shelf shelf.new) }
     ensures files { F.files shelf.new ≡ F.files shelf.old }
     ensures opens { F.opens shelf.new ≡ next_count (F.opens shelf.old) }
     ensures idle { result ≢ Status.WriteFault → M.under_way meshes.new ≡ false }
