@@ -1,4 +1,4 @@
-use Rattle.std.proofs.Common.{◌≡◌, ℕ, ◌+◌, ◌*◌, ◌^◌, ◌≤◌, List, Err, length, sym, ◌∙◌, ap, subst, arith}
+use Rattle.std.proofs.Common.{◌≡◌, ℕ, ◌+◌, ◌*◌, ◌^◌, ◌≤◌, List, length, sym, ◌∙◌, ap, subst, arith}
 use Rattle.mesh_defs.specs.HeightField.{HeightField}
 use Rattle.least_laws.proofs.FlagLemmas.{end-high}
 use Rattle.roam_edge.specs.Shelf.{bytes_of}
