@@ -48,7 +48,7 @@ passed-on before middle now page here here' left text one two =
     (passed-with middle now here here' left two))
 
 -- the page was cut short, and more was to come behind it
-broken-longer : (before now : Option (List Mesh)) (text more : List ℕ) → Broken before now text → Broken before now (text ++ more)
+pub broken-longer : (before now : Option (List Mesh)) (text more : List ℕ) → Broken before now text → Broken before now (text ++ more)
 broken-longer before now text more cut = record {
   meshes = λ all mesh is.
       let front = cut.meshes all mesh is in (

@@ -36,6 +36,16 @@ pub fn places(n: u32) -> usize
     1 << (levels(n) + 1)
 }
 
+/// The wedge of a triangle of a kept level, which stands in the table.
+pub fn entry(grid: &Grid, table: &[Wedge], tri: Tri) -> Wedge
+    requires table { IsTable grid.now table.now }
+    requires kept { level_of tri < kept_levels grid.now.n }
+    ensures { IsWedge grid.now tri result }
+{
+    level_laws();
+    table[tri.number() as usize]
+}
+
 /// The wedge of a splittable triangle by those of its children.
 pub fn joined(grid: &Grid, tri: Tri, corners: Corners, left: Wedge, right: Wedge) -> Wedge
     requires splittable { level_of tri < 2 * grid.now.n }

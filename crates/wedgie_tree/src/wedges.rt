@@ -14,9 +14,9 @@ use crate::fine::fine_wedge;
 use crate::heights::{put_row, raise_heights};
 use crate::laws::wedge_laws;
 use crate::shape::box_around;
-use crate::table::{fill, levels, mend, places};
+use crate::table::{entry, fill, levels, mend, places};
 use crate::wedge::Wedge;
-use bintree_addr::{Corners, Cuboid, Tri, level_laws};
+use bintree_addr::{Corners, Cuboid, Tri};
 use pgm_grid::Grid;
 use roam_errors::NoMemory;
 use std::alloc::Global;
@@ -143,7 +143,6 @@ impl Wedges {
         ensures value { result ≡ thickness_of self.now.n self.now.heights t }
         ensures bounded { result ≤ 2883540 }
     {
-        level_laws();
         wedge_laws();
         if t.level() == 2 * self.grid.n() {
             0
@@ -236,12 +235,11 @@ impl Wedges {
         requires { level_of t ≤ 2 * self.now.n }
         ensures { IsWedge self.now t result }
     {
-        level_laws();
         let n = self.grid.n();
         if levels(n) <= t.level() {
             fine_wedge(&self.grid, t, t.corners(n))
         } else {
-            self.table[t.number() as usize]
+            entry(&self.grid, &self.table, t)
         }
     }
 
@@ -251,11 +249,10 @@ impl Wedges {
         requires of_tri { corners ≡ corners_of self.now.n t }
         ensures { IsWedge self.now t result }
     {
-        level_laws();
         if levels(self.grid.n()) <= t.level() {
             fine_wedge(&self.grid, t, corners)
         } else {
-            self.table[t.number() as usize]
+            entry(&self.grid, &self.table, t)
         }
     }
 }

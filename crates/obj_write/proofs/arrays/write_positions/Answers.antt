@@ -1,4 +1,4 @@
-use Rattle.std.proofs.Common.{◌≡◌, ◌+◌, ◌*◌, ◌<◌, ◌≤◌, ◌∷◌, ◌++◌, length, take, flat_map, get_or, refl, sym, ◌∙◌, ap, arith}
+use Rattle.std.proofs.Common.{◌+◌, ◌*◌, ◌<◌, ◌≤◌, ◌∷◌, ◌++◌, length, take, flat_map, get_or, refl, sym, ◌∙◌, ap, arith}
 use Rattle.mesh_defs.specs.HeightField.{side_of}
 use Rattle.mesh_defs.specs.MeshText.{vertices_of}
 use Rattle.obj_write.specs.VertexMarks.{place_point}

@@ -1,4 +1,4 @@
-use Rattle.std.proofs.Common.{ℕ, ◌<◌, replicate, get_or, sym, subst}
+use Rattle.std.proofs.Common.{sym, subst}
 use Rattle.std.proofs.lemmas.List.{get_or-replicate}
 use Rattle.obj_write.specs.Faces.{IsFace}
 use Rattle.obj_write.proofs.faces.first_faces.Goals as goal

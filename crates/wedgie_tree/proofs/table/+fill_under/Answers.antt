@@ -25,3 +25,10 @@ returns-clause-others t c =
     rw c.number.ensures.value c.over-wedge.ensures in
     λ a has. HasEntry-set c.args.grid.now c.fill_under-right.new.table c.number.result c.over-wedge.result (omega arith)
     wedge a (c.fill_under-right.ensures.others a (c.fill_under-left.ensures.others a has))
+
+pub bounds-table-number : goal.bounds-table-number
+bounds-table-number t c =
+    let low : 2 ≤ c.args.tri = omega arith in
+    let place : c.args.tri < 2 ^ (kept_levels c.args.grid.now.n + 1) =
+    (c.level_laws.ensures.below c.args.tri (kept_levels c.args.grid.now.n) low).0 (omega arith) in
+    omega arith

@@ -63,3 +63,17 @@ pub returns-clause-clear : goal.returns-clause-clear
 returns-clause-clear t c =
     IsRightOff-kept c.args.grid.now c.args.area c.args.table.now (set c.mend_under-right.new.table c.number-2.result c.joined-wedge.result)
     (returns-clause-others t c) c.requires.clear
+
+pub slice_copy_out-result : goal.slice_copy_out-result
+slice_copy_out-result t c =
+    let low : 2 ≤ c.args.tri = omega arith in
+    let place : c.args.tri < 2 ^ (kept_levels c.args.grid.now.n + 1) =
+    (c.level_laws.ensures.below c.args.tri (kept_levels c.args.grid.now.n) low).0 (omega arith) in
+    omega arith
+
+pub bounds-table-number : goal.bounds-table-number
+bounds-table-number t c =
+    let low : 2 ≤ c.args.tri = omega arith in
+    let place : c.args.tri < 2 ^ (kept_levels c.args.grid.now.n + 1) =
+    (c.level_laws.ensures.below c.args.tri (kept_levels c.args.grid.now.n) low).0 (omega arith) in
+    omega arith
