@@ -9,6 +9,7 @@
 mod answer;
 mod bytes;
 mod certificate;
+mod changed;
 mod fitting;
 mod frames;
 mod ground;
@@ -23,6 +24,7 @@ mod view;
 
 pub use answer::Answer;
 pub use certificate::tell_certificate;
+pub use changed::tell_changes;
 pub use fitting::{GREATEST_TOLERANCE, tell_fit};
 pub use frames::{MOST_FRAMES, make_frame, tell_standing};
 pub use ground::{GREATEST_CHANGE, put_height, raise_area};
