@@ -114,7 +114,7 @@ int main(int argc, char **argv) {
     must(roam_camera(&terrain, x, y, z));
     told_frames("first", 1, frame());
 
-    double in_frame = 0, in_indices = 0, in_leaves = 0, in_changes = 0, in_positions = 0, in_compact = 0, in_strip = 0;
+    double in_frame = 0, in_indices = 0, in_leaves = 0, in_changed = 0, in_changes = 0, in_positions = 0, in_compact = 0, in_strip = 0;
     size_t count = 0, befores = 0;
     must(roam_leaves(&terrain, before, room, &befores));
     for (int k = 1; k <= 10; k++) {
@@ -133,12 +133,14 @@ int main(int argc, char **argv) {
         must(roam_strip(&terrain, index, 3 * room, &count));
         in_strip += now() - start, start = now();
         roam_changes(before, befores, leaf, count, gone, room, come, room, &both);
-        in_changes += now() - start;
+        in_changes += now() - start, start = now();
+        must(roam_changed(&terrain, gone, room, come, room, &both));
+        in_changed += now() - start;
         uint32_t *swap = before;
         before = leaf, leaf = swap, befores = count;
     }
     told_frames("later", 10, in_frame);
-    tell("indices", 10, in_indices), tell("leaves", 10, in_leaves), tell("changes", 10, in_changes);
+    tell("indices", 10, in_indices), tell("leaves", 10, in_leaves), tell("changes", 10, in_changes), tell("changed", 10, in_changed);
     tell("positions", 10, in_positions), tell("compact", 10, in_compact), tell("strip", 10, in_strip);
 
     /* How far the mesh is off; the best mesh of the budget by its error, and the one within 100 units; a certificate. */

@@ -319,13 +319,27 @@ if [ -x "$single" ]; then
       echo "| its $kind frames, $step units a frame | $count frames, $calls evaluations, $found triangles split or merged | $(awk -v s="$seconds" -v n="$count" 'BEGIN { printf "%.2f", 1000 * s / n }') ms a frame | | |"
     done
   done
+  # The same with two planes that turn by a degree before each frame, and with a drawing buffer that is patched behind each.
+  for flight in look_9_20000_30 look_11_20000_30 look_11_100000_30 draw_9_20000_30 draw_9_20000_602 draw_11_20000_30 draw_11_20000_2409 draw_11_100000_30; do
+    IFS=_ read -r what level most step <<<"$flight"
+    for ((k = 0; k < runs; k++)); do "$single" "$flight"; done >"$room/flown_$flight"
+    for kind in later beside; do
+      read -r _ _ count _ calls _ found _ seconds <<<"$(grep " $kind " "$room/flown_$flight" | sort -t ' ' -k 9 -n | head -n 1)"
+      case $what$kind in
+      lookbeside) told="\`Engine::look\`, $count calls" ;;
+      drawbeside) told="\`DrawBuffer::patch\`, $count calls, $found triangles told, $calls places written" ;;
+      *) told="later frames, $calls evaluations, $found triangles split or merged" ;;
+      esac
+      echo "| $what, n = $level, budget $most, $step units a frame | $told | $(awk -v s="$seconds" -v n="$count" 'BEGIN { printf "%.3f", 1000 * s / n }') ms each | | |"
+    done
+  done
   # The same flights through the calls of the C library, in processor time, least of the runs, beside the engine's own.
   if command -v cc >"$room/said" && [ -f "$top/crates/roam_c/out/libroam_c.a" ] &&
     cc -std=c99 -O2 -I"$top/lib" -o "$room/calls" "$top/bench/calls.c" "$top/crates/roam_c/out/libroam_c.a" 2>"$room/said"; then
     for flight in 9_20000_30 9_20000_602 11_20000_30 11_100000_30; do
       IFS=_ read -r level most step <<<"$flight"
       for ((k = 0; k < runs; k++)); do "$room/calls" "$level" "$most" "$step"; done >"$room/called"
-      for name in open first later indices leaves changes positions compact strip deviation fit_budget fit_error certificate planes turned look looked camera state set raise edited; do
+      for name in open first later indices leaves changes changed positions compact strip deviation fit_budget fit_error certificate planes turned look looked camera state set raise edited; do
         read -r _ count seconds _ asked _ changed <<<"$(grep "^$name " "$room/called" | sort -t ' ' -k 3 -g | head -n 1)"
         beside=
         case $name in

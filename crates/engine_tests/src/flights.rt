@@ -1,8 +1,11 @@
 //! The callers of the engine on a small grid, with numbers worked by hand, and a generated run.
 
+ghost use Rattle.engine_uses.specs.Step.{IsInStep};
+
 use crate::engine::{change, frame};
 use crate::grids::{Peak, grid_with};
-use engine_uses::{Sight, fly, go_on, set_and_look};
+use draw_buffer::DrawBuffer;
+use engine_uses::{Sight, buffer_of, fly, frame_and_patch, go_on, set_and_look};
 use frame_loop::{Camera, Engine};
 use roam_gen::{gen_grid, gen_line};
 use roam_script::Line;
@@ -81,6 +84,66 @@ fn frame_and_look(engine: &mut Engine) -> Option<Told> {
 #[test]
 fn a_peak_that_is_cut_off_leaves_the_other(rt: HostRuntime) {
     assert_eq!(rt; cut_off(rt.alloc()), Some((9, 0, 5, 5)));
+}
+
+/// Whether a buffer that follows the same flight has the mesh at its beginning and after each frame.
+fn followed(alloc: Global) -> Option<[bool; 4]> {
+    let grid = grid_with(alloc, 2, &TWO_PEAKS)?;
+    let mut engine = Engine::make(alloc, grid, 9, 1).ok()?;
+    follow(alloc, &mut engine)
+}
+
+/// The same, of a new engine.
+fn follow(alloc: Global, engine: &mut Engine) -> Option<[bool; 4]> {
+    match buffer_of(alloc, engine) {
+        Ok(mut buffer) => follow_all(engine, &mut buffer),
+        Err(_) => None,
+    }
+}
+
+/// The same, of a new buffer.
+fn follow_all(engine: &mut Engine, buffer: &mut DrawBuffer) -> Option<[bool; 4]>
+    requires { IsInStep engine.old buffer.old }
+{
+    let corner = Camera::new(0, 0, 0)?;
+    let other = Camera::new(4, 4, 0)?;
+    let begun = shows(engine, buffer, 2);
+    let first = follow_to(engine, buffer, corner);
+    let second = follow_to(engine, buffer, other);
+    let third = follow_to(engine, buffer, other);
+    Some([begun, first, second, third])
+}
+
+/// Moves the camera and makes a frame. Tells whether the buffer has its nine triangles then.
+fn follow_to(engine: &mut Engine, buffer: &mut DrawBuffer, place: Camera) -> bool
+    requires { IsInStep engine.old buffer.old }
+    ensures { IsInStep engine.new buffer.new }
+{
+    if engine.odometer().saturating_add(engine.way_to(place)) > 1 << 62 {
+        return false;
+    }
+    engine.camera(place);
+    if engine.frames() >= 1000000 {
+        return false;
+    }
+    let sight = frame_and_patch(engine, buffer);
+    sight.triangles == 9 && shows(engine, buffer, 9)
+}
+
+/// Whether a buffer has so many triangles, and each of the mesh.
+fn shows(engine: &Engine, buffer: &DrawBuffer, count: usize) -> bool {
+    let leaves = engine.view().leaves;
+    for t in leaves {
+        if !buffer.has(*t) {
+            return false;
+        }
+    }
+    leaves.len() == count && buffer.triangles().len() == count
+}
+
+#[test]
+fn a_buffer_follows_a_flight(rt: HostRuntime) {
+    assert_eq!(rt; followed(rt.alloc()), Some([true; 4]));
 }
 
 /// The triangles of all frames, the greatest worst, and in how many frames a triangle blocks.

@@ -4,6 +4,7 @@ ghost use Rattle.std.specs.Prelude.{◌<◌, ◌≤◌};
 
 use crate::engine::{change, frame, is_from_scratch};
 use crate::grids::grid_with;
+use bintree_addr::Tri;
 use cull_marks::{Plane, Planes};
 use frame_loop::Engine;
 use roam_script::Line;
@@ -102,13 +103,42 @@ fn place_after(place: Place, number: u64) -> Place {
     }
 }
 
-/// Whether a frame has the mesh from scratch, and the frame after it does nothing and asks nothing.
-fn is_right(alloc: Global, engine: &mut Engine, place: Place) -> Option<bool> {
+/// Whether each of these triangles is in just one of the two lists.
+fn are_apart(these: &[Tri], one: &[Tri], other: &[Tri]) -> bool {
+    for t in these {
+        if one.contains(t) == other.contains(t) {
+            return false;
+        }
+    }
+    true
+}
+
+/// Whether the leaves before, without those that are told out and with those that are told in, are the leaves now.
+fn is_told(before: &[Tri], engine: &Engine) -> bool {
+    let now = engine.view().leaves;
+    let told = engine.changes();
+    are_apart(before, now, told.gone)
+        && are_apart(now, before, told.come)
+        && are_apart(told.gone, before, now)
+        && are_apart(told.come, before, now)
+        && before.len() + told.come.len() == now.len() + told.gone.len()
+}
+
+/// Whether a frame has the mesh from scratch, and tells what it changed.
+fn is_scratch_told(alloc: Global, engine: &mut Engine, place: Place) -> Option<bool> {
+    let before = Vec::from_slice(alloc, engine.view().leaves).ok()?;
     frame(engine)?;
-    let scratch = is_from_scratch(alloc, engine, place)?;
+    Some(is_told(&before, engine) && is_from_scratch(alloc, engine, place)?)
+}
+
+/// Whether a frame has the mesh from scratch and tells what it changed, and the frame after it does nothing and asks nothing.
+fn is_right(alloc: Global, engine: &mut Engine, place: Place) -> Option<bool> {
+    let scratch = is_scratch_told(alloc, engine, place)?;
     let before = engine.evaluations();
     let (told, _marks) = frame(engine)?;
-    Some(scratch && (told.3, told.4) == (0, 0) && engine.evaluations() == before)
+    let changes = engine.changes();
+    let still = changes.gone.is_empty() && changes.come.is_empty();
+    Some(scratch && still && (told.3, told.4) == (0, 0) && engine.evaluations() == before)
 }
 
 /// How many frames of a flight are right: after each change, one.

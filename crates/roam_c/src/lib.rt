@@ -18,7 +18,7 @@ mod told;
 pub use found::{roam_certificate, roam_fit};
 pub use handle::{Handle, crossing};
 pub use life::{roam_close, roam_open};
-pub use lists::{roam_changes, roam_indices, roam_leaves};
+pub use lists::{roam_changed, roam_changes, roam_indices, roam_leaves};
 pub use mesh_arrays::Changes;
 pub use roam_embed::{Deviation, Fitted, Frame, PlaneNumbers, Standing};
 pub use shapes::{roam_compact, roam_deviation, roam_positions, roam_strip};

@@ -3,11 +3,12 @@
 ghost use Rattle.std.specs.Prelude.{◌≡◌};
 ghost use Rattle.mesh_arrays.specs.Changes.{IsDepthFirst, IsAloneWritten};
 ghost use Rattle.roam_embed.specs.Calls.{AreIndicesTold, AreLeavesTold};
+ghost use Rattle.roam_embed.specs.Changed.{AreChangesTold};
 ghost use Rattle.roam_c.specs.Handle.{OnFull, OnEmpty};
 
 use crate::handle::{Handle, put, take};
 use mesh_arrays::{Changes, list_changes};
-use roam_embed::{Answer, tell_indices, tell_leaves};
+use roam_embed::{Answer, tell_changes, tell_indices, tell_leaves};
 use std::alloc::Global;
 
 /// Writes three indices of heights for each triangle (apex, v0, v1), depth first, and how many triangles there are.
@@ -49,6 +50,30 @@ pub extern "C" fn roam_leaves(
     match take(h, alloc) {
         Some(engine) => {
             let answer = tell_leaves(&engine, out, triangles);
+            put(h, engine, alloc);
+            answer.number()
+        }
+        None => Answer::IsEmpty.number(),
+    }
+}
+
+/// Writes the addresses of the triangles that the last frame took out and put in, each depth first, and how many they are.
+#[unsafe(no_mangle)]
+pub extern "C" fn roam_changed(
+    alloc: Global,
+    h: &mut Handle,
+    gone: &mut [u32],
+    come: &mut [u32],
+    out: &mut Changes,
+) -> i32
+    ensures full { OnFull h.old.value h.new.value result (λ was now answer.
+        (now ≡ was) × AreChangesTold was gone.old gone.new come.old come.new out.old out.new answer) }
+    ensures empty { OnEmpty h.old.value h.new.value result
+        ((gone.new ≡ gone.old) × (come.new ≡ come.old) × (out.new ≡ out.old)) }
+{
+    match take(h, alloc) {
+        Some(engine) => {
+            let answer = tell_changes(&engine, gone, come, out);
             put(h, engine, alloc);
             answer.number()
         }

@@ -8,3 +8,4 @@ pub mod Drawn
 pub mod Shapes
 pub mod Fitting
 pub mod Certificates
+pub mod Changed

@@ -9,6 +9,7 @@
 mod answer;
 mod bytes;
 mod certificate;
+mod changed;
 mod fitting;
 mod frames;
 mod ground;
@@ -23,6 +24,7 @@ mod view;
 
 pub use answer::Answer;
 pub use certificate::tell_certificate;
+pub use changed::tell_changes;
 pub use fitting::{GREATEST_TOLERANCE, tell_fit};
 pub use frame_loop::MOST_FRAMES;
 pub use frames::{make_frame, tell_standing};
