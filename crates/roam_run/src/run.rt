@@ -9,7 +9,7 @@ ghost use Rattle.roam_edge.specs.Shelf.{NamedFile, bytes_of};
 ghost use Rattle.run_laws.specs.Act.{sinks_tell, report_tells};
 ghost use Rattle.run_laws.specs.Cause.{StatusHasCause};
 ghost use Rattle.word_laws.specs.Words.{Scripted, Fitting, OnGrid, Generated, Frames, is_of_engine, command_of, file_count, Checking, FitChecking};
-ghost use Rattle.run_laws.specs.Outcome.{Outcome, EngineEnd, IsOutcome, HasOneOutcome};
+ghost use Rattle.run_laws.specs.Outcome.{Outcome, EngineEnd, IsOutcome, MakesNoCertificate};
 ghost use Rattle.run_laws.specs.Promise.{Seen, shelf_tells, AreFiles, EndsRight, HasEnded, OpensForStatus, CommandReadFault, LeavesAtReadFault, CommandNoMemory, LeavesAtNoMemory, IsAccepted, is_complete, ends_script, may_end, leaves_engine};
 ghost use Rattle.run_laws.specs.Moment.{moment};
 ghost use Rattle.run_laws.specs.Statement.{KeepsBestMeshes, CertifiesMesh, TellsCertificates, EndsByStatus, LeavesOutside, IsCaused};
@@ -77,14 +77,19 @@ impl Run {
 
 /// Carries out the words of a command line, those after the program's name.
 ///
-/// `mesh` reads a grid and a script from the shelf, and writes a mesh for each frame line and a line of the
-/// report behind it; `strip` the same with the triangles in the order of their strip; `least` the same with the least mesh of a
-/// tolerance in place of the best one of a budget; `measure` a line alone, on how far the mesh is from the surface. `info` reads a grid and writes one line about it. `try` reads nothing: it makes a grid and
-/// a script from a level and a seed, and writes one line with the sums of their frames. `fit` reads a grid, and writes the best mesh of
-/// it for an error or a budget, and one line about it. `certify make` writes a certificate of a grid's best mesh, and `certify check`
-/// whether a mesh is certified by one; `certify make-fit` and `certify check-fit` do so for a mesh that is fitted. Files are read and meshes written in pieces, a mesh is finished before its line is written,
-/// and the first call that fails ends the run; proved is that an object that came without a failure is not called again once it has
-/// failed (`leaves`). What clauses say of bytes holds where an object tells its contents: those in memory do, real files do not.
+/// - `mesh` reads a grid and a script from the shelf, and writes a mesh for each frame line, and then a line of the report; `strip`
+///   does so with the triangles in the order of their strip; `least` with the least mesh of a tolerance; `measure` writes a line alone,
+///   on how far the mesh is from the surface.
+/// - `fit` reads a grid, and writes the best mesh of it for an error or a budget, and a line.
+/// - `certify make` and `certify make-fit` read a grid, and write a certificate of its best mesh, or of its fitted one;
+///   `certify check` and `certify check-fit` read one beside a mesh, and write whether the mesh is certified by it.
+/// - `info` reads a grid, and writes a line on it. `try` reads nothing: it makes a grid and a script from a level and a seed, and writes
+///   a line with the sums of their frames.
+///
+/// Files are read and meshes written in pieces, a mesh is finished before its line is written, and the first call that fails ends the
+/// run. Proved is that an object that had not failed before is not called again once a call of it has failed (`leaves`).
+/// Over objects that tell what they hold, as those in memory do, all clauses speak of the bytes. Real files tell nothing: over them
+/// `leaves`, `causes` and `untouched` hold, and of `ends` what NoMemory leaves, and a fault before the script.
 /// Cost (not proved): a few steps a byte of the files; for each frame that of `Engine::frame`, which is what has changed since the
 /// frame before, or of `Least::frame`, two passes over the grid; for every frame of `mesh` the writing of its mesh. Memory is taken
 /// for the heights and for what makes the frames, all of it before a script is opened.
@@ -101,6 +106,9 @@ pub fn roam<F: Shelf, M: MeshSink, R: Sink>(
     requires report_faults { R.faults report.old < 2 ^ 64 - 1 }
     requires opens { F.opens shelf.old ≤ 2 ^ 63 }
 
+    // (Counts stand still at 2 ^ 64 - 1, so a rise could not be seen there. The first moment is before the run, the second after it;
+    // F.Shelf is what F tells as a Shelf.)
+    //
     // The meshes: each finished one is the right one for its command, whatever the status; one that `certify check` accepts is
     // optimal, and one that `certify check-fit` accepts the best for its error or budget; and what is told of blocking in a frame's
     // line proves that its mesh is optimal.
@@ -120,11 +128,11 @@ pub fn roam<F: Shelf, M: MeshSink, R: Sink>(
         (moment F.Shelf M.MeshSink R.Sink shelf.new meshes.new report.new)
         (map string_bytes words.now) result.status (option_map engine_seen result.engine) }
 
-    // What words and files determine.
+    // What words and files determine: laws, which say nothing of this run, and by which `ends` does.
     ensures some_outcome { (files : List NamedFile) →
         (end : Outcome) × IsOutcome (map string_bytes words.now) files end }
     ensures one_outcome { (files : List NamedFile) (end other : Outcome) →
-        HasOneOutcome (command_of (map string_bytes words.now)) →
+        MakesNoCertificate (command_of (map string_bytes words.now)) →
         IsOutcome (map string_bytes words.now) files end →
         IsOutcome (map string_bytes words.now) files other → end ≡ other }
     ensures accepted { (files : List NamedFile) (end : Outcome) →
@@ -145,8 +153,8 @@ pub fn roam<F: Shelf, M: MeshSink, R: Sink>(
 
 /// Carries out the words of a command line by `roam`, and answers how that ended; what the run leaves beside is dropped.
 ///
-/// For a program, which keeps no engine: it stands here so that the program is proved over these lines, and not over all the words
-/// of the contract of `roam`.
+/// For a program, which keeps no engine. Its clauses are those of `roam` on the status, on what stands after it and on its causes;
+/// what the meshes are, `roam` says. So a program is proved over these lines, and not over all the words of that contract.
 pub fn status_of<F: Shelf, M: MeshSink, R: Sink>(
     alloc: Global,
     words: &[String],

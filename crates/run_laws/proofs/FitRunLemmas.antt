@@ -66,7 +66,7 @@ module _ (read_texts : TextsAreRead) (words : List (List ℕ)) (files : List Nam
         added = mesh_with f.prefix 1 (fit_text f.spacing grid triangles) true ∷ [];
         behind = stood.meshes_grow all there;
         one = omega arith;
-        fits = one-fits _ (λ finished. record { triangles = triangles; fit = fit; is_mesh = refl });
+        fits = one-fits _ (λ finished. record { triangles = triangles; best = fit; fit = is.1.fit; is_mesh = refl });
         done = λ e. (
           triangles,
           fit,
@@ -100,7 +100,7 @@ module _ (read_texts : TextsAreRead) (words : List (List ℕ)) (files : List Nam
           added = mesh_with f.prefix 1 bytes true ∷ [];
           behind = text.meshes all there;
           one = omega arith;
-          fits = one-fits _ (λ finished. record { triangles = triangles; fit = fit-best f.target grid triangles is.1.fit; is_mesh = refl });
+          fits = one-fits _ (λ finished. record { triangles = triangles; best = fit-best f.target grid triangles is.1.fit; fit = is.1.fit; is_mesh = refl });
           done = λ e. absurd (undone e);
         }
       ]

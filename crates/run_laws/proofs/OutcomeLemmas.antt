@@ -24,7 +24,7 @@ use Rattle.fit_certificate_laws.specs.Certificate.{FitCertificate}
 use Rattle.run_laws.specs.CertFile.{cert_in, fit_cert_in}
 use Rattle.run_laws.specs.Picture.{Picture, ArePictures, IsCertified}
 use Rattle.run_laws.specs.ReportText.{info_line, grid_refusal}
-use Rattle.run_laws.specs.Outcome.{Outcome, plain_outcome, text_outcome, stop_status, engine_for, frames_outcome, script_walk, made_budget, made_spacing, made_walk, HasOneOutcome, IsFramesOutcome, IsCheckOutcome, IsFitCheckOutcome, IsJobOutcome, IsGridOutcome, IsCommandOutcome, IsWordsOutcome, IsOutcome}
+use Rattle.run_laws.specs.Outcome.{Outcome, plain_outcome, text_outcome, stop_status, engine_for, frames_outcome, script_walk, made_budget, made_spacing, made_walk, MakesNoCertificate, IsFramesOutcome, IsCheckOutcome, IsFitCheckOutcome, IsJobOutcome, IsGridOutcome, IsCommandOutcome, IsWordsOutcome, IsOutcome}
 use Rattle.run_laws.specs.Promise.{IsAcceptedJob, IsAcceptedInput, IsAccepted}
 use Rattle.run_laws.specs.Laws.{FramesExist, RunsAreUnique, LevelsAreInRange, AreStates, BudgetsAreTwo}
 use Rattle.run_laws.proofs.PictureLemmas.{FramesAreUnique, SetsAreLists, ArePictures-unique, pictures_of, no-members}
@@ -72,7 +72,7 @@ frames_outcome-unique one lists runs show files walk end other f g =
     f.2 ∙ (ap (λ (ps : List Picture). frames_outcome show files walk ps) (ArePictures-unique one lists runs show [] walk.frames f.0 g.0 f.1 g.1) ∙ sym g.2)
 
 abbrev free-job : Job → Type 0
-free-job job = HasOneOutcome (Some (OnGrid [] job))
+free-job job = MakesNoCertificate (Some (OnGrid [] job))
 
 job-unique : FramesAreUnique → SetsAreLists → RunsAreUnique → (job : Job) (r : Result HeightField PgmFault) (files : List NamedFile) (end other : Outcome)
     → free-job job → IsGridOutcome job r files end → IsGridOutcome job r files other → end ≡ other
@@ -94,12 +94,12 @@ job-unique one lists runs (MakeFit m) (Err fault) files end other free f g = f �
 job-unique one lists runs (CheckFit c) (Err fault) files end other free f g = f ∙ sym g
 
 words-unique : FramesAreUnique → SetsAreLists → RunsAreUnique → (command : Option Command) (files : List NamedFile) (end other : Outcome)
-    → HasOneOutcome command → IsWordsOutcome command files end → IsWordsOutcome command files other → end ≡ other
+    → MakesNoCertificate command → IsWordsOutcome command files end → IsWordsOutcome command files other → end ≡ other
 words-unique one lists runs None files end other free f g = f ∙ sym g
 words-unique one lists runs (Some (OnGrid name job)) files end other free f g = job-unique one lists runs job (grid_of (bytes_of files name)) files end other free f g
 words-unique one lists runs (Some (Generated n seed)) files end other free f g = frames_outcome-unique one lists runs (AsSums n seed) 0 (made_walk n seed) end other f g
 
-pub outcome-unique : FramesAreUnique → SetsAreLists → RunsAreUnique → (words : List (List ℕ)) (files : List NamedFile) (end other : Outcome) → HasOneOutcome (command_of words)
+pub outcome-unique : FramesAreUnique → SetsAreLists → RunsAreUnique → (words : List (List ℕ)) (files : List NamedFile) (end other : Outcome) → MakesNoCertificate (command_of words)
     → IsOutcome words files end → IsOutcome words files other → end ≡ other
 unfolding IsOutcome
 outcome-unique one lists runs words files end other free f g = words-unique one lists runs (command_of words) files end other free f g

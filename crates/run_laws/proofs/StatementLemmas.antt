@@ -93,12 +93,12 @@ module _ (before now : Moment) (words : List (List ℕ)) (status : Status) where
     usage = none;
     read = read_cause;
     write = write_cause;
-    shelf_later = by-read (before.shelf_faults ≤ now.shelf_faults) status (λ is. least-less _ _ (read_cause.0 is))
+    shelf_no_less = by-read (before.shelf_faults ≤ now.shelf_faults) status (λ is. least-less _ _ (read_cause.0 is))
         (λ not. least-same _ _ (cause.not_read not));
-    mesh_later = by-write (before.sinks.mesh_faults ≤ now.sinks.mesh_faults) status
+    mesh_no_less = by-write (before.sinks.mesh_faults ≤ now.sinks.mesh_faults) status
         (λ is. (cause.writes.write is).meshes_later)
         (λ not. least-same _ _ (cause.writes.not_write not).meshes_same);
-    report_later = by-write (before.sinks.report_faults ≤ now.sinks.report_faults) status
+    report_no_less = by-write (before.sinks.report_faults ≤ now.sinks.report_faults) status
         (λ is. (cause.writes.write is).report_later)
         (λ not. least-same _ _ (cause.writes.not_write not).report_same);
   }
@@ -204,16 +204,16 @@ unmoved a b later not = omega (arith, later, not)
 pub faults-follow : FaultsFollow
 faults-follow before now words status cause = record {
   read = λ is. (let less = cause.read.0 is in omega (arith, less));
-  not_read = λ not. unmoved _ _ cause.shelf_later (λ less. not (cause.read.1 less));
+  not_read = λ not. unmoved _ _ cause.shelf_no_less (λ less. not (cause.read.1 less));
   writes = record {
     write = λ is. record {
-      meshes_later = cause.mesh_later;
-      report_later = cause.report_later;
+      meshes_later = cause.mesh_no_less;
+      report_later = cause.report_no_less;
       cause = elim (cause.write.0 is) [ inl less ↦ inl (omega (arith, less)) | inr less ↦ inr (omega (arith, less)) ];
     };
     not_write = λ not. record {
-      meshes_same = unmoved _ _ cause.mesh_later (λ less. not (cause.write.1 (inl less)));
-      report_same = unmoved _ _ cause.report_later (λ less. not (cause.write.1 (inr less)));
+      meshes_same = unmoved _ _ cause.mesh_no_less (λ less. not (cause.write.1 (inl less)));
+      report_same = unmoved _ _ cause.report_no_less (λ less. not (cause.write.1 (inr less)));
     };
   };
 }

@@ -50,7 +50,7 @@ sinks_tell m r shown written = record {
 abbrev pub report_tells : {R : Type 0} → reporting.Ghosts R → Option (List Mesh) → ℕ → R → Told
 report_tells r meshes count report = told meshes (r.contents report) count (r.faults report)
 
--- These acts were added to meshes and report, in order, and nothing else; and neither has failed.
+-- These acts were added to meshes and report, in order in each of the two, and nothing else; and neither has failed.
 pub record Stands (before now : Told) (acts : List Act) : Type 0 where
   pub meshes_grow : Grows before.meshes now.meshes (meshes_of acts)
   pub report_grows : Grows before.report now.report (report_of acts)

@@ -70,9 +70,8 @@ pub record IsRunOf (words : List (List ℕ)) (files : List NamedFile) (job : Job
   pub valid : IsHeightField grid
   pub file_text : IsFileText grid (bytes_of files grid_name)
 
--- The meshes that were there stay, and behind them came good frames, those of the first frame lines in order,
--- each seen in the state at its line; and where the script was carried out to its end or its refusal, one for
--- each frame line, all finished.
+-- The meshes that were there stay, and behind them came those of the first frame lines, in order. Each that is finished is right for
+-- the state at its line. Where the script was carried out to its end or its refusal there is one for each frame line, all finished.
 pub record KeepsGoodMeshes (s : Scripted) (grid : HeightField) (script : List ℕ) (before : List Mesh) (now : Option (List Mesh)) (status : Status) : Type 0 where
   pub added : List Mesh
   pub behind : now ≡ Some (before ++ added)
@@ -80,7 +79,7 @@ pub record KeepsGoodMeshes (s : Scripted) (grid : HeightField) (script : List �
   pub all_frames : IsTrue (ends_script status) → length added ≡ length (script_walk s grid script).frames
   pub all_finished : IsTrue (ends_script status) → All (λ (mesh : Mesh). mesh.finished ≡ true) added
 
--- A mesh was certified by this line of the report: its bytes are the text of a conforming list of at most as many triangles as the
+-- A mesh was certified by this line of the report, whoever made it: its bytes are the text of a conforming list of at most as many triangles as the
 -- budget, at the camera that the line names no such list has a lower worst, and the line tells the number of triangles and their worst.
 pub record IsCertifiedMesh (c : Checking) (grid : HeightField) (mesh line : List ℕ) : Type 0 where
   pub camera : CameraAt
@@ -101,10 +100,12 @@ pub record IsCertifiedFit (c : FitChecking) (grid : HeightField) (mesh line : Li
   pub fit : IsFitFor c.target grid triangles
   pub told : line ≡ certified_fit_line grid.n (length triangles) (deviation_of grid.n grid.heights triangles)
 
--- The mesh has the number 1 and the prefix of the words, and its bytes are the text of a best mesh for their error or their budget.
+-- The mesh has the number 1 and the prefix of the words, and its bytes are the text of a list that is a best one for their error or
+-- their budget.
 pub record IsFitMeshOf (f : Fitting) (grid : HeightField) (mesh : Mesh) : Type 0 where
   pub triangles : List ℕ
-  pub fit : IsBestFit f.target grid triangles
+  pub best : IsBestFit f.target grid triangles
+  pub fit : IsFitFor f.target grid triangles
   pub is_mesh : mesh ≡ mesh_with f.prefix 1 (fit_text f.spacing grid triangles) true
 
 -- The meshes that were there stay, and behind them came one at most, which is a best mesh for the error or the budget if it is

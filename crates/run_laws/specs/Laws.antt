@@ -34,7 +34,7 @@ use Rattle.run_laws.specs.Certify.{makes_at, IsMade}
 use Rattle.run_laws.specs.Act.{Told}
 use Rattle.run_laws.specs.Picture.{Picture, ArePictures, IsCertified, last_members}
 use Rattle.run_laws.specs.Turns.{left_turns, right_turns}
-use Rattle.run_laws.specs.Outcome.{Outcome, IsOutcome, HasOneOutcome}
+use Rattle.run_laws.specs.Outcome.{Outcome, IsOutcome, MakesNoCertificate}
 use Rattle.run_laws.specs.Promise.{Seen, EndsRight, LeavesAtReadFault, LeavesAtNoMemory, IsAcceptedCheck, IsAccepted}
 use Rattle.run_laws.specs.Headline.{IsRunOf, KeepsGoodMeshes, IsCertifiedMesh, IsCertifiedFit, KeepsFitMesh}
 use Rattle.run_laws.specs.Fit.{tolerance_of, IsFitFor, IsBestFit}
@@ -91,7 +91,7 @@ pub record KeepsStates (n : ℕ) (walk : Walk) : Type 0 where
 
 -- words and files have one outcome
 abbrev pub OutcomesAreUnique : Type 0
-OutcomesAreUnique = (words : List (List ℕ)) (files : List NamedFile) (end other : Outcome) → HasOneOutcome (command_of words)
+OutcomesAreUnique = (words : List (List ℕ)) (files : List NamedFile) (end other : Outcome) → MakesNoCertificate (command_of words)
     → IsOutcome words files end → IsOutcome words files other → end ≡ other
 
 -- words and files have an outcome

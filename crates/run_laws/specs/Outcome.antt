@@ -1,7 +1,7 @@
 -- The outcome of a run: what its words and the files that they name determine. This project's own.
 -- Words: EngineEnd, Outcome, plain_outcome, text_outcome, picture_acts, shown_acts, sum_acts, stop_acts, stop_status,
 -- engine_end, frames_outcome, IsFramesOutcome, script_walk, made_budget, made_spacing, made_walk, IsMakeOutcome, fit_acts, IsFitOutcome, IsCompared,
--- IsVerdictOutcome, IsCheckOutcome, IsJobOutcome, IsGridOutcome, IsCommandOutcome, IsWordsOutcome, IsOutcome, HasOneOutcome.
+-- IsVerdictOutcome, IsCheckOutcome, IsJobOutcome, IsGridOutcome, IsCommandOutcome, IsWordsOutcome, IsOutcome, MakesNoCertificate.
 use Rattle.std.specs.Prelude.{◌≡◌, ⊤, ℕ, ◌+◌, ◌⊎◌, List, [], ◌∷◌, ◌++◌, length, sum_by, Option, Some, None, Result, Ok, Err}
 use Rattle.mesh_defs.specs.HeightField.{HeightField}
 use Rattle.mesh_defs.specs.State.{State, start_state, priority_in, text_in}
@@ -220,15 +220,15 @@ IsWordsOutcome (Some command) files end = IsCommandOutcome command files end
 unfoldable pub IsOutcome : List (List ℕ) → List NamedFile → Outcome → Type 0
 IsOutcome words files end = IsWordsOutcome (command_of words) files end
 
--- The words and their files leave one outcome. It is a premise: of the certificates that may be made any is right, and every other
--- command has one outcome alone.
-abbrev pub HasOneOutcome : Option Command → Type 0
-HasOneOutcome None = ⊤
-HasOneOutcome (Some (OnGrid grid (Frames s))) = ⊤
-HasOneOutcome (Some (OnGrid grid Facts)) = ⊤
-HasOneOutcome (Some (OnGrid grid (Make m))) = ⊥
-HasOneOutcome (Some (OnGrid grid (Check c))) = ⊤
-HasOneOutcome (Some (OnGrid grid (Fit f))) = ⊤
-HasOneOutcome (Some (OnGrid grid (MakeFit m))) = ⊥
-HasOneOutcome (Some (OnGrid grid (CheckFit c))) = ⊤
-HasOneOutcome (Some (Generated n seed)) = ⊤
+-- The words are none of `certify make` and `certify make-fit`: of the certificates that may be made any is right, and every other
+-- command, and words that are none, have one outcome alone.
+abbrev pub MakesNoCertificate : Option Command → Type 0
+MakesNoCertificate None = ⊤
+MakesNoCertificate (Some (OnGrid grid (Frames s))) = ⊤
+MakesNoCertificate (Some (OnGrid grid Facts)) = ⊤
+MakesNoCertificate (Some (OnGrid grid (Make m))) = ⊥
+MakesNoCertificate (Some (OnGrid grid (Check c))) = ⊤
+MakesNoCertificate (Some (OnGrid grid (Fit f))) = ⊤
+MakesNoCertificate (Some (OnGrid grid (MakeFit m))) = ⊥
+MakesNoCertificate (Some (OnGrid grid (CheckFit c))) = ⊤
+MakesNoCertificate (Some (Generated n seed)) = ⊤

@@ -25,7 +25,8 @@ use Rattle.run_laws.specs.Picture.{Picture, ArePictures}
 use Rattle.run_laws.specs.Act.{Act, Told, Stands, IsCutShort}
 use Rattle.run_laws.specs.Outcome.{Outcome, shown_acts, script_walk, IsOutcome}
 
--- what a shelf tells at one moment
+-- what a shelf tells at one moment: its files, what is unread of the file that was opened last, how often files were opened, and whether
+-- the end of the last one was read; so too where no file is open, as after an opening that failed
 pub record Seen : Type 0 where
   pub files : Option (List NamedFile)
   pub rest : Option (List ℕ)
@@ -89,9 +90,9 @@ may_end (Some command) ScriptRefused = has_script command
 may_end (Some command) Rejected = is_check command
 may_end (Some command) _ = true
 
--- How often files were opened, of the files that the words name: each once where the run was done or its
--- script refused, the grid alone where it is refused, none for words that are no command, and else at most
--- each once: one at least where a read failed, and two where a check rejects.
+-- How often files were opened, of so many that the words name: each once where the run was done or its script refused, the grid alone
+-- where it is refused, none for words that are no command, and else at most each once: at least one where a read failed, and at
+-- least two where a check rejects.
 pub record OpensForStatus (before now files : ℕ) (status : Status) : Type 0 where
   pub done : status ≡ Done → now ≡ before + files
   pub script_refused : status ≡ ScriptRefused → now ≡ before + files
@@ -152,8 +153,8 @@ HasRead (OnGrid name job) files (suc k) read acts =
     (grid : HeightField) × (grid_of (bytes_of files name) ≡ Ok grid) × JobHasRead job grid files k read acts
 HasRead (Generated n seed) files k read acts = ⊥
 
--- A read of the command's file at this place failed, or its opening, and then none of it was read: what the
--- run has done by then stands, and nothing else.
+-- A read of the command's file at this place failed, or its opening. If its opening failed none of it was read, and the shelf tells
+-- that nothing is left to read. What the run has done by then stands, and nothing else.
 pub record FileReadFault (before now : Told) (new : Seen) (command : Command) (files : List NamedFile) (k : ℕ) : Type 0 where
   pub name : List ℕ
   pub read : List ℕ
@@ -166,8 +167,8 @@ pub record FileReadFault (before now : Told) (new : Seen) (command : Command) (f
   pub has_read : HasRead command files k read acts
   pub stands : Stands before now acts
 
--- A read failed, at one of the command's files. Unless it was that of a script nothing was done, whether the
--- shelf tells its files or not.
+-- A read failed, at one of the command's files, counted from 0. Unless it was a script, which is file 1 of a command with one, nothing
+-- was done, whether the shelf tells its files or not.
 pub record CommandReadFault (before now : Told) (old new : Seen) (command : Command) : Type 0 where
   pub file : ℕ
   pub opened : new.opens ≡ old.opens + (file + 1)
@@ -216,8 +217,8 @@ FitCheckHasCome name c files opened = 2 ≤ opened → (grid : HeightField) × (
     × (3 ≤ opened → (cert : FitCertificate) × (triangles : List ℕ) × (fit_cert_in grid.n (bytes_of files c.certificate) ≡ Ok cert)
     × IsFitFaultless c grid cert triangles)
 
--- Memory ran out, which is free. It does so only before a script is opened and before anything is written, and if the command
--- names a grid not before a whole accepted header of it was read.
+-- Memory ran out. Nothing was written, and no script was opened; if the command names a grid, a whole accepted header of it was read;
+-- and a check opened its later files only behind accepted ones. Within these nothing says that it may not.
 pub record CommandNoMemory (before now : Told) (old new : Seen) (command : Command) : Type 0 where
   pub opened : ℕ
   pub count : new.opens ≡ old.opens + opened

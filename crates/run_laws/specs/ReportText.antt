@@ -112,6 +112,7 @@ info_line grid =
     ++ codes "\n"
 
 -- why a grid is refused
+-- (no run tells of memory here: it ends with NoMemory, and writes nothing)
 abbrev pub grid_fault_text : PgmFault → List ℕ
 grid_fault_text BadMagic = codes "bad magic"
 grid_fault_text (BadHeader place) = codes "bad header at " ++ decimal place

@@ -1,6 +1,8 @@
--- What a run promises, in the order of the contract of `roam`: the meshes, what stands, the causes. Each speaks of the moments
--- before the run and behind it, of the words of its command line, of its status, and of the engine that it leaves.
--- This project's own.
+-- What a run promises: the meshes, what stands, the causes. Each speaks of the moments before the run and after it (`now`), of the
+-- words of its command line, of its status, and of the engine that it leaves. This project's own.
+-- Three words from elsewhere: `Grows old new more` says that what was told before is told with just `more` at its end, and nothing of
+-- what is not told; `IsInTime` that what had not failed before was not called again once a call of it had failed; and a count of
+-- faults is how often an object has failed, from its beginning on.
 -- Words: KeepsBestMeshes, CertifiesMesh, TellsCertificates, DoesAll, IsCutOff, EndsByStatus, LeavesOutside, IsCaused.
 use Rattle.std.specs.Prelude.{◌≡◌, ◌≢◌, ◌⊎◌, ◌↔◌, ℕ, ◌+◌, ◌<◌, ◌≤◌, false, IsTrue, IsSome, is_some, List, All, Option, Some, None}
 use Rattle.mesh_defs.specs.HeightField.{HeightField}
@@ -21,7 +23,7 @@ use Rattle.run_laws.specs.Moment.{Moment}
 -- The meshes.
 
 -- Each mesh that is finished is the right one, whatever the status: of a script the best of the budget, or the least of the tolerance,
--- at its frame line; of a fit that of its error or its budget. (Where files and meshes are told.)
+-- at its frame line; of a fit that of its error or its budget. (Where the shelf tells its files, and the sink its meshes.)
 pub record KeepsBestMeshes (before now : Moment) (words : List (List ℕ)) (status : Status) : Type 0 where
   pub of_script : (files : List NamedFile) (all : List Mesh) (s : Scripted) (grid : HeightField)
       → before.shelf.files ≡ Some files → before.sinks.meshes ≡ Some all → IsRunOf words files (Frames s) grid
@@ -30,17 +32,19 @@ pub record KeepsBestMeshes (before now : Moment) (words : List (List ℕ)) (stat
       → before.shelf.files ≡ Some files → before.sinks.meshes ≡ Some all → IsRunOf words files (Fit f) grid
       → KeepsFitMesh f grid before.sinks now.sinks all status
 
--- Where a check is done, the report got a line by which its mesh is certified, and such a mesh is optimal; one of a fitted mesh is the
--- least for its error or the best for its budget.
+-- Where a check is done, the report got one line, by which its mesh is certified, whoever made it. One of `certify check` is optimal,
+-- though perhaps not the mesh that `mesh` writes; one of `certify check-fit` has the fewest triangles for its error, or the least error
+-- for its budget. (Where the shelf tells its files.)
 pub record CertifiesMesh (before now : Moment) (words : List (List ℕ)) (status : Status) : Type 0 where
-  pub of_view : (files : List NamedFile) (c : Checking) (grid : HeightField) → before.shelf.files ≡ Some files
+  pub of_check : (files : List NamedFile) (c : Checking) (grid : HeightField) → before.shelf.files ≡ Some files
       → IsRunOf words files (Check c) grid → status ≡ Done → (line : List ℕ)
       × Grows before.sinks.report now.sinks.report line × IsCertifiedMesh c grid (bytes_of files c.mesh) line
-  pub of_fit : (files : List NamedFile) (c : FitChecking) (grid : HeightField) → before.shelf.files ≡ Some files
+  pub of_check_fit : (files : List NamedFile) (c : FitChecking) (grid : HeightField) → before.shelf.files ≡ Some files
       → IsRunOf words files (CheckFit c) grid → status ≡ Done → (line : List ℕ)
       × Grows before.sinks.report now.sinks.report line × IsCertifiedFit c grid (bytes_of files c.mesh) line
 
--- what each frame of an engine tells of blocking proves that its mesh is optimal
+-- in each frame of an engine that is in an outcome of the words, what blocks is a worst leaf of its mesh, and a mesh with it split has
+-- more triangles than the budget; where nothing blocks, its worst priority is 0
 abbrev pub TellsCertificates : List (List ℕ) → Type 0
 TellsCertificates words = (files : List NamedFile) (end : Outcome) → IsTrue (is_some end.engine)
     → IsOutcome words files end → All IsCertified end.pictures
@@ -64,8 +68,9 @@ pub record IsCutOff (before now : Moment) (words : List (List ℕ)) (files : Lis
   pub cut_short : IsCutShort before.sinks now.sinks end.acts
   pub opened : now.shelf.opens ≡ before.shelf.opens + end.opened
 
--- With Done, Usage, the two refusals and Rejected all of an outcome was done, and with WriteFault it was cut off. With ReadFault what
--- the run had done by then stands, and with NoMemory nothing was written.
+-- With Done, Usage, the two refusals and Rejected all of an outcome was done, and with WriteFault it was cut off: where the shelf tells
+-- its files, or the words name none. With ReadFault what the run had done by then stands (at a script, where the shelf tells its
+-- files), and with NoMemory nothing was written.
 pub record EndsByStatus (before now : Moment) (words : List (List ℕ)) (status : Status) (left : Option EngineEnd) : Type 0 where
   pub complete : IsTrue (is_complete status) → (files : List NamedFile)
       → AreFiles before.shelf.files words files → DoesAll before now words files status left
@@ -78,10 +83,10 @@ pub record EndsByStatus (before now : Moment) (words : List (List ℕ)) (status 
       → (command : Command) × (command_of words ≡ Some command)
       × CommandNoMemory before.sinks now.sinks before.shelf now.shelf command
 
--- How the outside and the engine are left, also where nothing is told: the shelf's files are as before, no mesh is under way,
--- except perhaps after WriteFault, files were opened as often as the status says, with Done the last one was read to its end, an engine
--- is left with Done and ScriptRefused where one makes the frames, and none of the three that came without a failure was called again
--- once a call of it had failed.
+-- How the outside and the engine are left, also where nothing is told. The shelf's files are as before. No mesh is under way, except
+-- perhaps after WriteFault. Files were opened as often as the status allows, and with Done the last one was read to its end. An engine
+-- is left with Done and ScriptRefused where one makes the frames. Of shelf, meshes and report, each that had not failed before the run
+-- was not called again once a call of it had failed.
 pub record LeavesOutside (before now : Moment) (words : List (List ℕ)) (status : Status) (left : Option EngineEnd) : Type 0 where
   pub files : now.shelf.files ≡ before.shelf.files
   pub idle : status ≢ WriteFault → now.under_way ≡ false
@@ -103,6 +108,6 @@ pub record IsCaused (before now : Moment) (words : List (List ℕ)) (status : St
   pub read : (status ≡ ReadFault) ↔ (before.shelf_faults < now.shelf_faults)
   pub write : (status ≡ WriteFault)
       ↔ ((before.sinks.mesh_faults < now.sinks.mesh_faults) ⊎ (before.sinks.report_faults < now.sinks.report_faults))
-  pub shelf_later : before.shelf_faults ≤ now.shelf_faults
-  pub mesh_later : before.sinks.mesh_faults ≤ now.sinks.mesh_faults
-  pub report_later : before.sinks.report_faults ≤ now.sinks.report_faults
+  pub shelf_no_less : before.shelf_faults ≤ now.shelf_faults
+  pub mesh_no_less : before.sinks.mesh_faults ≤ now.sinks.mesh_faults
+  pub report_no_less : before.sinks.report_faults ≤ now.sinks.report_faults

@@ -8,7 +8,7 @@ use Rattle.run_laws.specs.declared.status.Status.TheVariants.{Done, NoMemory, Wr
 use Rattle.word_laws.specs.Words.{Scripted, Frames, command_of}
 use Rattle.run_laws.specs.Act.{ReportText}
 use Rattle.run_laws.specs.Cause.{StatusHasCause}
-use Rattle.run_laws.specs.Outcome.{EngineEnd, Outcome, IsOutcome, HasOneOutcome}
+use Rattle.run_laws.specs.Outcome.{EngineEnd, Outcome, IsOutcome, MakesNoCertificate}
 use Rattle.run_laws.specs.Promise.{AreFiles, EndsRight, IsAccepted, is_complete}
 use Rattle.run_laws.specs.Headline.{IsRunOf}
 use Rattle.run_laws.specs.CutShort.{is_by_frame, StandsInText, LeavesAtWriteFault}
@@ -47,7 +47,7 @@ TextFaultFollows =
     (before now : Moment) (words : List (List ℕ)) (status : Status) (left : Option EngineEnd)
     (files : List NamedFile)
     → EndsByStatus before now words status left → AreFiles before.shelf.files words files
-    → status ≡ WriteFault → HasOneOutcome (command_of words) → (end : Outcome) (text : List ℕ)
+    → status ≡ WriteFault → MakesNoCertificate (command_of words) → (end : Outcome) (text : List ℕ)
     → IsOutcome words files end → end.acts ≡ ReportText text ∷ []
     → StandsInText before.sinks now.sinks [] text
 

@@ -8,8 +8,8 @@ ghost use Rattle.run_laws.specs.Status.{exit_status};
 pub enum Status {
     /// The command was carried out, and its script, where it has one, was read to its end.
     Done = 0,
-    /// Out of memory. Nothing was written. It is free to come for words of a command before its script is opened, but where
-    /// the words name a grid not before a whole accepted header of it was read. A check may also end so at its later files.
+    /// Out of memory. Nothing was written, and no script was opened. The words are a command, and where they name a grid, its header
+    /// was read and accepted. A check may also end so at its later files. Nothing else is said against this answer.
     NoMemory = 1,
     /// The words are no command. Nothing was opened or written.
     Usage = 2,

@@ -23,9 +23,9 @@ returns-clause-certified g c =
     let line : List (List ℕ) = map string_bytes c.args.words.now in
     let outcome = c.run_of_words.ensures.outcome in
     record {
-      of_view = λ files check grid told_files is_check done.
+      of_check = λ files check grid told_files is_check done.
           c.run_laws.ensures.certified line files check grid _ _ _ _ _ is_check (outcome files (λ some. told_files)) done;
-      of_fit = λ files check grid told_files is_check done.
+      of_check_fit = λ files check grid told_files is_check done.
           c.fitting_laws.ensures.certified line files check grid _ _ _ _ _ is_check (outcome files (λ some. told_files)) done;
     }
 
