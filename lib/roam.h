@@ -161,6 +161,11 @@ int32_t roam_fit(roam_handle *h, uint32_t thousandths, uint32_t budget, uint32_t
  * frame, and gives the memory back. The engine is as before. */
 int32_t roam_certificate(roam_handle *h, int64_t x, int64_t y, int64_t z, char *out, size_t room, size_t *length);
 
+/* Writes the addresses that the last frame took out of the mesh and those that it put in, in the order of roam_leaves, and how many
+ * they are: none before the first frame. So a copy of the mesh is patched by what changed alone; ask once after each frame. Room for
+ * the greater of the budgets always suffices. Costs a step for each of them. */
+int32_t roam_changed(roam_handle *h, uint32_t *gone, size_t gone_places, uint32_t *come, size_t come_places, roam_changes_note *out);
+
 /* Of two lists that roam_leaves wrote for one grid: the addresses of the first alone, and of the second alone, and how many
  * there are. Those for which there is no room are counted all the same. */
 void roam_changes(const uint32_t *before, size_t befores, const uint32_t *after, size_t afters, uint32_t *gone, size_t gone_room,

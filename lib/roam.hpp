@@ -98,6 +98,9 @@ public:
     result positions(uint32_t *out, size_t places, size_t &n) { return listed(roam_positions, out, places, n, "positions"); }
     result compact(uint32_t *out, size_t places, size_t &n) { return listed(roam_compact, out, places, n, "compact"); }
     result strip(uint32_t *out, size_t places, size_t &n) { return listed(roam_strip, out, places, n, "strip"); }
+    result changed(uint32_t *gone, size_t gone_places, uint32_t *come, size_t come_places, roam_changes_note &n) {
+        return told(roam_changed(&h, some(gone), gone ? gone_places : 0, some(come), come ? come_places : 0, &n), "changed");
+    }
     result fit(uint32_t thousandths, uint32_t budget, uint32_t *out, size_t places, roam_fit_note &found) {
         return told(roam_fit(&h, thousandths, budget, some(out), out ? places : 0, &found), "fit");
     }
@@ -116,6 +119,12 @@ public:
     void positions(std::vector<uint32_t> &out) { fill(roam_positions, out, 3, size_t{state().most} + 2, "positions"); }
     void compact(std::vector<uint32_t> &out) { fill(roam_compact, out, 3, state().most, "compact"); }
     void strip(std::vector<uint32_t> &out) { fill(roam_strip, out, 3, state().most, "strip"); }
+    void changed(std::vector<uint32_t> &gone, std::vector<uint32_t> &come) { // by the last frame
+        roam_changes_note n;
+        gone.resize(state().most), come.resize(gone.size());
+        changed(gone.data(), gone.size(), come.data(), come.size(), n);
+        gone.resize(n.gone), come.resize(n.come);
+    }
     roam_fit_note fit(uint32_t thousandths, uint32_t budget, std::vector<uint32_t> &out) {
         const size_t steps = state().side - 1;
         roam_fit_note found;

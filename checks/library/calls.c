@@ -57,8 +57,8 @@ static size_t below(size_t end) {
 
 /* --- What a call has to answer, and what has to hold after it. --- */
 
-enum { OPEN, CLOSE, CAMERA, ADD_PLANE, CLEAR_PLANES, BUDGET, SET, RAISE, FRAME, INDICES, LEAVES, CHANGES, STATE, POSITIONS, COMPACT, STRIP, DEVIATION, FIT, CERTIFICATE, LOOK, RENEW, CALLS };
-static const char *const names[CALLS] = { "open", "close", "camera", "add_plane", "clear_planes", "budget", "set", "raise", "frame", "indices", "leaves", "changes", "state",
+enum { OPEN, CLOSE, CAMERA, ADD_PLANE, CLEAR_PLANES, BUDGET, SET, RAISE, FRAME, INDICES, LEAVES, CHANGED, CHANGES, STATE, POSITIONS, COMPACT, STRIP, DEVIATION, FIT, CERTIFICATE, LOOK, RENEW, CALLS };
+static const char *const names[CALLS] = { "open", "close", "camera", "add_plane", "clear_planes", "budget", "set", "raise", "frame", "indices", "leaves", "changed", "changes", "state",
     "positions", "compact", "strip", "deviation", "fit", "certificate", "look", "renew" };
 static unsigned long made[CALLS], refused[CALLS][14];
 static int call; /* the one that is being made */
@@ -85,6 +85,7 @@ static struct engine {
     int64_t camera[3];
     uint16_t height[POINTS]; /* as they are, where the grid has no more */
     uint32_t spacing, triangles, vertices, before_count, before[MOST]; /* of the last frame, and the leaves that were written last */
+    uint32_t old_count, old[MOST], now_count, now[MOST]; /* the leaves before and after the last frame */
 } engines[ENGINES];
 static uint32_t list[ROOM], other[ROOM], gone[ROOM], come[ROOM];
 
@@ -134,6 +135,7 @@ static void do_open(struct engine *e, const uint16_t *from, size_t count, uint32
         e->state.side = ((size_t)1 << level_of(count)) + 1;
         e->state.most = e->state.budget = budget;
         e->is_open = true, e->triangles = 2, e->vertices = 4, e->before_count = 0, e->spacing = spacing;
+        e->old_count = e->now_count = 2, e->old[0] = e->now[0] = 2, e->old[1] = e->now[1] = 3;
         if (count <= POINTS) memcpy(e->height, from, count * sizeof *from);
     }
     test_state(e);
@@ -241,6 +243,11 @@ static void do_frame(struct engine *e) {
         must(it.spare == 0, "spare");
         e->triangles = it.triangles, e->vertices = it.vertices;
         e->state.frames++;
+        size_t count;
+        memcpy(e->old, e->now, sizeof e->old), e->old_count = e->now_count;
+        call = LEAVES;
+        answers(roam_leaves(&e->handle, e->now, MOST, &count), ROAM_OK);
+        call = FRAME, e->now_count = (uint32_t)count;
     } else {
         must(is_filled(&it, sizeof it), "a refused call has written");
     }
@@ -322,6 +329,31 @@ static void test_alone(const uint32_t *first, size_t firsts, const uint32_t *sec
     must(count == alone, "the count is another");
     if (alone < space) space = alone;
     must(is_filled(out + space, (ROOM - space) * sizeof *out), "places were written for which there was no room");
+}
+
+/* How many of the first list the second has not. */
+static size_t alone(const uint32_t *first, size_t firsts, const uint32_t *second, size_t seconds) {
+    size_t count = 0;
+    for (size_t k = 0; k < firsts; k++) count += !has(second, seconds, first[k]);
+    return count;
+}
+
+/* By how many places the rooms are too small, or none. */
+static void do_changed(struct engine *e, size_t gone_lack, size_t come_lack) {
+    call = CHANGED;
+    roam_changes_note it;
+    fill(gone, sizeof gone), fill(come, sizeof come), fill(&it, sizeof it);
+    size_t went = alone(e->old, e->old_count, e->now, e->now_count), came = alone(e->now, e->now_count, e->old, e->old_count);
+    size_t gone_room = went > gone_lack ? went - gone_lack : went, come_room = came > come_lack ? came - come_lack : came;
+    int32_t wanted = !e->is_open ? ROAM_IS_EMPTY : gone_room < went || come_room < came ? ROAM_NO_ROOM : ROAM_OK;
+    answers(roam_changed(&e->handle, gone, gone_room, come, come_room, &it), wanted);
+    if (wanted == ROAM_OK) {
+        test_alone(e->old, e->old_count, e->now, e->now_count, gone, gone_room, it.gone);
+        test_alone(e->now, e->now_count, e->old, e->old_count, come, come_room, it.come);
+    } else {
+        must(is_filled(gone, sizeof gone) && is_filled(come, sizeof come) && is_filled(&it, sizeof it), "a refused call has written");
+    }
+    test_state(e);
 }
 
 static void do_changes(const struct engine *a, const struct engine *b, size_t gone_room, size_t come_room, bool is_strange) {
@@ -609,6 +641,7 @@ static void step(void) {
     case FRAME: do_frame(e); break;
     case INDICES: do_list(e, room_for(3 * (size_t)e->triangles), 3); break;
     case LEAVES: do_list(e, room_for(e->triangles), 1); break;
+    case CHANGED: do_changed(e, below(4) ? 0 : below(3), below(4) ? 0 : below(3)); break;
     case CHANGES: {
         const struct engine *b = &engines[below(ENGINES)];
         do_changes(e, b, room_for(e->before_count), room_for(b->before_count), below(4) == 0);

@@ -40,6 +40,12 @@ namespace Roam {
         public uint Triangles, Vertices;
     }
 
+    /// How many triangles went, and how many came.
+    [StructLayout(LayoutKind.Sequential)]
+    public struct Counts {
+        public UIntPtr Gone, Come;
+    }
+
     /// Its inside is where A x + B y + C z + D >= 0.
     [StructLayout(LayoutKind.Sequential)]
     public struct Plane {
@@ -66,6 +72,7 @@ namespace Roam {
             [DllImport(Library)] public static extern int roam_frame(ref Handle h, out Note note);
             [DllImport(Library)] public static extern int roam_indices(ref Handle h, [Out] uint[] to, UIntPtr places, out UIntPtr triangles);
             [DllImport(Library)] public static extern int roam_leaves(ref Handle h, [Out] uint[] to, UIntPtr places, out UIntPtr triangles);
+            [DllImport(Library)] public static extern int roam_changed(ref Handle h, [Out] uint[] gone, UIntPtr gonePlaces, [Out] uint[] come, UIntPtr comePlaces, out Counts counts);
             [DllImport(Library)] public static extern int roam_state(ref Handle h, out State state);
             [DllImport(Library)] public static extern int roam_positions(ref Handle h, [Out] uint[] to, UIntPtr places, out UIntPtr vertices);
             [DllImport(Library)] public static extern int roam_compact(ref Handle h, [Out] uint[] to, UIntPtr places, out UIntPtr triangles);
@@ -112,6 +119,12 @@ namespace Roam {
         public int Strip(uint[] to) { return Fill(C.roam_strip, to); }
         /// Writes the addresses of the triangles, in the order of the indices.
         public int Leaves(uint[] to) { return Fill(C.roam_leaves, to); }
+        /// Writes the addresses that the last frame took out of the mesh and those that it put in, and answers how many they are.
+        public Counts Changed(uint[] gone, uint[] come) {
+            Counts counts;
+            Must(C.roam_changed(ref h, There(gone, "gone"), (UIntPtr)gone.Length, There(come, "come"), (UIntPtr)come.Length, out counts));
+            return counts;
+        }
         /// Writes x, y and z of each vertex of the mesh, and answers how many vertices there are.
         public int Positions(uint[] to) { return Fill(C.roam_positions, to); }
         /// Writes three places among these vertices for each triangle.

@@ -131,6 +131,7 @@ def _load() -> ctypes.CDLL:
         "budget": [handle, c_uint32], "set": [handle, c_uint32, c_uint32, c_uint16],
         "raise": [handle] + 4 * [c_uint32] + [c_int32], "frame": [handle, POINTER(_Note)],
         "indices": [handle, numbers, c_size_t, count], "leaves": [handle, numbers, c_size_t, count],
+        "changed": [handle] + 2 * [numbers, c_size_t] + [POINTER(_Changes)],
         "changes": 4 * [numbers, c_size_t] + [POINTER(_Changes)], "state": [handle, POINTER(_State)],
         "positions": [handle, numbers, c_size_t, count], "compact": [handle, numbers, c_size_t, count],
         "strip": [handle, numbers, c_size_t, count], "deviation": [handle, POINTER(_Deviation)],
@@ -347,6 +348,13 @@ class Engine:
     def leaves(self, out: Optional[Any] = None) -> Any:
         """The addresses of the triangles, in the same order: numbers that name them in every frame."""
         return self._list("leaves", out, self._triangles, 1)
+
+    def changed(self) -> Changes:
+        """The addresses that the last frame took out of the mesh, and those that it put in: what to patch in a copy of it."""
+        gone, come, counts = _room(self._most), _room(self._most), _Changes()
+        words = [word for it in (gone, come) for word in (_pointer(it, c_uint32), len(it))]
+        self._call("changed", *words, byref(counts))
+        return Changes(gone[:counts.gone], come[:counts.come])
 
     def positions(self, out: Optional[Any] = None) -> Any:
         """x, y and z of each vertex of the last frame's mesh alone, in world units and units of height; as `indices`."""
