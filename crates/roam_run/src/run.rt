@@ -8,8 +8,8 @@ ghost use Rattle.roam_edge.specs.MeshSink.{Mesh};
 ghost use Rattle.roam_edge.specs.Shelf.{NamedFile, bytes_of};
 ghost use Rattle.run_laws.specs.Act.{sinks_tell, report_tells};
 ghost use Rattle.run_laws.specs.Cause.{StatusHasCause};
-ghost use Rattle.word_laws.specs.Words.{Scripted, Fitting, OnGrid, Generated, Frames, is_of_engine, command_of, file_count, Checking};
-ghost use Rattle.run_laws.specs.Outcome.{Outcome, IsOutcome, HasOneOutcome};
+ghost use Rattle.word_laws.specs.Words.{Scripted, Fitting, OnGrid, Generated, Frames, is_of_engine, command_of, file_count, Checking, FitChecking};
+ghost use Rattle.run_laws.specs.Outcome.{Outcome, EngineEnd, IsOutcome, HasOneOutcome};
 ghost use Rattle.run_laws.specs.Promise.{Seen, seen, AreFiles, EndsRight, HasEnded, OpensForStatus, CommandReadFault, LeavesAtReadFault, CommandNoMemory, LeavesAtNoMemory, IsAccepted, is_complete, ends_script, may_end, leaves_engine};
 ghost use Rattle.run_laws.specs.Moment.{moment};
 ghost use Rattle.run_laws.specs.Statement.{KeepsBestMeshes, CertifiesMesh, TellsCertificates, EndsByStatus, LeavesOutside, IsCaused};
@@ -25,6 +25,7 @@ use run_check::run_check;
 use run_engine::{EngineFrames, run_make, sums_of, try_report};
 use run_files::{GridStop, end_with_text, grid_report, read_grid, run_info};
 use run_fit::run_fit;
+use run_fit_check::{run_fit_check, run_fit_make};
 use run_laws::{Status, fitting_laws, run_laws, state_laws};
 use run_script::{run_least, run_script};
 use run_words::{Command, FrameWords, Making, Showing, command_in};
@@ -81,7 +82,7 @@ impl Run {
 /// tolerance in place of the best one of a budget; `measure` a line alone, on how far the mesh is from the surface. `info` reads a grid and writes one line about it. `try` reads nothing: it makes a grid and
 /// a script from a level and a seed, and writes one line with the sums of their frames. `fit` reads a grid, and writes the best mesh of
 /// it for an error or a budget, and one line about it. `certify make` writes a certificate of a grid's best mesh, and `certify check`
-/// whether a mesh is certified by one. Files are read and meshes written in pieces, a mesh is finished before its line is written,
+/// whether a mesh is certified by one; `certify make-fit` and `certify check-fit` do so for a mesh that is fitted. Files are read and meshes written in pieces, a mesh is finished before its line is written,
 /// and the first call that fails ends the run; proved is that an object that came without a failure is not called again once it has
 /// failed (`leaves`). What clauses say of bytes holds where an object tells its contents: those in memory do, real files do not.
 /// Cost (not proved): a few steps a byte of the files; for each frame that of `Engine::frame`, which is what has changed since the
@@ -101,7 +102,8 @@ pub fn roam<F: Shelf, M: MeshSink, R: Sink>(
     requires opens { F.opens shelf.old ≤ 2 ^ 63 }
 
     // The meshes: each finished one is the right one for its command, whatever the status; one that `certify check` accepts is
-    // optimal; and what is told of blocking in a frame's line proves that its mesh is optimal.
+    // optimal, and one that `certify check-fit` accepts the best for its error or budget; and what is told of blocking in a frame's
+    // line proves that its mesh is optimal.
     ensures best { KeepsBestMeshes (moment F.Shelf M.MeshSink R.Sink shelf.old meshes.old report.old)
         (moment F.Shelf M.MeshSink R.Sink shelf.new meshes.new report.new)
         (map string_bytes words.now) result.status }
@@ -157,6 +159,11 @@ pub fn status_of<F: Shelf, M: MeshSink, R: Sink>(
     requires mesh_faults { M.faults meshes.old < 2 ^ 64 - 1 }
     requires report_faults { R.faults report.old < 2 ^ 64 - 1 }
     requires opens { F.opens shelf.old ≤ 2 ^ 63 }
+    ensures ends { (left : Option EngineEnd) ×
+        EndsByStatus (moment F.Shelf M.MeshSink R.Sink shelf.old meshes.old report.old)
+        (moment F.Shelf M.MeshSink R.Sink shelf.new meshes.new report.new)
+        (map string_bytes words.now) result left }
+    ensures usage { (result ≡ Status.Usage) ↔ (command_of (map string_bytes words.now) ≡ None) }
     ensures read_cause { (result ≡ Status.ReadFault) ↔ (F.faults shelf.old < F.faults shelf.new) }
     ensures write_cause { (result ≡ Status.WriteFault) ↔
         ((M.faults meshes.old < M.faults meshes.new) ⊎ (R.faults report.old < R.faults report.new)) }
@@ -284,6 +291,8 @@ fn run_command<F: Shelf, M: MeshSink, R: Sink>(
         Command::Make(words) => Run::without_engine(run_make(alloc, words, shelf, report)),
         Command::Check(words) => Run::without_engine(run_check(alloc, words, shelf, report)),
         Command::Fit(words) => Run::without_engine(run_fit(alloc, words, shelf, meshes, report)),
+        Command::MakeFit(words) => Run::without_engine(run_fit_make(alloc, words, shelf, report)),
+        Command::CheckFit(words) => Run::without_engine(run_fit_check(alloc, words, shelf, report)),
     }
 }
 

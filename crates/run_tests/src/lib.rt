@@ -19,6 +19,8 @@ mod fault_tests;
 #[cfg(test)]
 mod files;
 #[cfg(test)]
+mod fit_certify_tests;
+#[cfg(test)]
 mod fit_tests;
 #[cfg(test)]
 mod frail_shelf;

@@ -19,9 +19,15 @@ returns-clause-best g c =
     }
 
 pub returns-clause-certified : goal.returns-clause-certified
-returns-clause-certified g c files check grid told_files is_check done =
-    c.run_laws.ensures.certified (map string_bytes c.args.words.now) files check grid _ _ _ _ _ is_check
-    (c.run_of_words.ensures.outcome files (λ some. told_files)) done
+returns-clause-certified g c =
+    let line : List (List ℕ) = map string_bytes c.args.words.now in
+    let outcome = c.run_of_words.ensures.outcome in
+    record {
+      of_view = λ files check grid told_files is_check done.
+          c.run_laws.ensures.certified line files check grid _ _ _ _ _ is_check (outcome files (λ some. told_files)) done;
+      of_fit = λ files check grid told_files is_check done.
+          c.fitting_laws.ensures.certified line files check grid _ _ _ _ _ is_check (outcome files (λ some. told_files)) done;
+    }
 
 pub returns-clause-certificate : goal.returns-clause-certificate
 returns-clause-certificate g c = c.run_laws.ensures.certificate (map string_bytes c.args.words.now)

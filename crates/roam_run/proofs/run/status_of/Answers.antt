@@ -1,4 +1,12 @@
+use Rattle.std.proofs.Common.{option_map}
+use Rattle.run_engine.specs.EngineSeen.{engine_seen}
 use Rattle.roam_run.proofs.run.status_of.Goals as goal
+
+pub returns-clause-ends : goal.returns-clause-ends
+returns-clause-ends g c = (option_map engine_seen c.roam.result.engine, rw c.into_status.ensures c.roam.ensures.ends)
+
+pub returns-clause-usage : goal.returns-clause-usage
+returns-clause-usage g c = rw c.into_status.ensures c.roam.ensures.causes.usage
 
 pub returns-clause-read_cause : goal.returns-clause-read_cause
 returns-clause-read_cause g c = rw c.into_status.ensures c.roam.ensures.causes.read
