@@ -82,7 +82,7 @@ cp -- "$top/examples/fit/cert" fit_cert
 cp -- "$top/examples/fit/expected/out000001.obj" fit.obj
 certified='certified fit triangles 1999 deviation 23904 over 256 error 93.375'
 
-# NAME|STATUS|LINE|TARGET|how the file is damaged. Lines 2 to 819 are the reasons that make the mesh, 820 is `mesh`, and one is behind it.
+# NAME|STATUS|LINE|TARGET|how the file is damaged. Lines 2 to 985 are the reasons that make the mesh, 986 is `mesh`, and one is behind it.
 while IFS='|' read -r name status line target file edit; do
   for kept in fit.obj fit_cert; do
     if [ "$kept" = "$file" ]; then sed "$edit" "$kept"; else cat -- "$kept"; fi >"damaged_$kept"
@@ -104,16 +104,16 @@ without_the_reason_behind_the_mesh|7|rejected: too few reasons|budget 2000|fit_c
 without_a_tolerance|7|rejected: bad line 1|budget 2000|fit_cert|1d
 with_a_tolerance_twice|7|rejected: bad line 2|budget 2000|fit_cert|1p
 with_an_empty_line|7|rejected: bad line 11|budget 2000|fit_cert|10a\\\\
-without_the_line_of_the_mesh|7|rejected: bad line 821|budget 2000|fit_cert|820d
-with_that_line_twice|7|rejected: bad line 821|budget 2000|fit_cert|820p
+without_the_line_of_the_mesh|7|rejected: bad line 987|budget 2000|fit_cert|986d
+with_that_line_twice|7|rejected: bad line 987|budget 2000|fit_cert|986p
 with_a_triangle_too_fine_to_split|7|rejected: bad line 2|budget 2000|fit_cert|2s/off 2 /off 131072 /
-with_a_column_past_the_grid|7|rejected: bad line 2|budget 2000|fit_cert|2s/ 149 / 257 /
+with_a_column_past_the_grid|7|rejected: bad line 2|budget 2000|fit_cert|2s/ 13 / 257 /
 with_a_lesser_tolerance|7|rejected: over tolerance|budget 2000|fit_cert|1s/23904/23903/
-with_a_reason_at_another_point|7|rejected: bad reason 1|budget 2000|fit_cert|2s/149 6/0 0/
+with_a_reason_at_another_point|7|rejected: bad reason 1|budget 2000|fit_cert|2s/13 0/0 0/
 with_a_reason_twice|7|rejected: bad reason 2|budget 2000|fit_cert|2p
 without_the_first_reason|7|rejected: bad reason 1|budget 2000|fit_cert|2d
 with_a_reason_of_the_other_half|7|rejected: bad reason 1|budget 2000|fit_cert|2s/off 2 /off 3 /
-without_the_last_reason_before_the_mesh|7|rejected: over tolerance|budget 2000|fit_cert|819d
+without_the_last_reason_before_the_mesh|7|rejected: over tolerance|budget 2000|fit_cert|985d
 of_a_mesh_with_another_height|7|rejected: mesh differs at *|budget 2000|fit.obj|1s/.\$/x/
 of_a_mesh_with_a_face_less|7|rejected: mesh differs at *|budget 2000|fit.obj|\$d
 TABLE
