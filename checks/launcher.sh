@@ -139,6 +139,14 @@ sleep 0.01
 echo changed >"$fake/repository/crates/left/src/text"
 wide_run foretold_again 1 3 '^roam: proving and building 2 of 5 crates on 1 processors, about 3 minutes; '
 decide launcher_counts_only_what_is_to_be_proved ${why[0]+"${why[@]}"}
+rm -rf "$fake/repository/crates"/*/out
+
+# A crate of which little stands above, and which takes longer than all of the chain.
+wide
+printf '# seconds\nleft 500\nright 100\nchain1 10\nchain2 200\nroam_cli 90\n' >"$fake/repository/bench/seconds.txt"
+wide_run longest_first 1 3 'roam: left is proved, in [0-9]* s; [0-9] left$'
+[ "$(head -n 1 "$fake/bin/commands")" = 'lib left' ] || why+=("commands: $(tr '\n' ' ' <"$fake/bin/commands")")
+decide launcher_begins_with_what_takes_longest ${why[0]+"${why[@]}"}
 rm -r "$fake/repository/bench"
 rm -rf "$fake/repository/crates"/*/out
 
