@@ -149,6 +149,10 @@ class Session:
         old = set(map(int, self.leaves)) if len(self.leaves) else set(leaves)
         assert [int(a) for a in gone] == sorted_as(self.leaves, old - set(leaves)), "what went is another"
         assert [int(a) for a in come] == sorted_as(leaves, set(leaves) - old), "what came is another"
+        last = list(map(int, self.leaves)) if len(self.leaves) else [2, 3]
+        told = self.engine.changed()
+        assert [int(a) for a in told.gone] == sorted_as(last, set(last) - set(leaves)), "what the frame took out is another"
+        assert [int(a) for a in told.come] == sorted_as(leaves, set(leaves) - set(last)), "what the frame put in is another"
         self.before, self.leaves = split, found
 
 

@@ -1,12 +1,11 @@
 -- What the frame changed may be patched in, and then the buffer shows the mesh.
-use Rattle.std.proofs.Common.{◌≡◌, ℕ, ◌+◌, ◌*◌, ◌^◌, ◌≤◌, min, not, All, List, length, map, sym, ap, ◌∙◌, subst, arith}
+use Rattle.std.proofs.Common.{◌≡◌, ℕ, ◌*◌, ◌≤◌, not, All, List, length, ap, ◌∙◌, subst, arith}
 use Rattle.std.specs.List.Sorted.{IsPermutation}
 use Rattle.std.proofs.lemmas.List.Elements.{All-filter}
 use Rattle.std.proofs.lemmas.List.Sorted.{IsPermutation-map, length_permutation}
 use Rattle.mesh_defs.specs.Triangle.{level_of}
-use Rattle.mesh_defs.specs.ClosedSet.{among, leaves_of}
+use Rattle.mesh_defs.specs.ClosedSet.{among}
 use Rattle.frame_loop.specs.Mesh.{pool_members}
-use Rattle.mesh_arrays.specs.Changes.{alone}
 use Rattle.draw_buffer.specs.Times.{times}
 use Rattle.draw_buffer.specs.Corners.{grid_indices}
 use Rattle.frame_loop.specs.Engine.{mesh_seen}
