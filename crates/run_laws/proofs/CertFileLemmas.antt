@@ -4,10 +4,8 @@ use Rattle.std.proofs.lemmas.Bool.{lt-ltb}
 use Rattle.std.proofs.lemmas.List.Elements.{All-from_recursion}
 use Rattle.roam_script.specs.declared.limits.TheConstants.{MOST_LINE_BYTES}
 use Rattle.text_laws.specs.Fields.{fields_of, without_last_cr}
-use Rattle.cert_text.specs.Certificate.{Certificate}
 use Rattle.cert_text.specs.CertLine.{fields_line, line_in}
 use Rattle.cert_text.specs.CertReader.{ReadSoFar, nothing_read, taken, cert_line_in}
-use Rattle.fit_certificate_laws.specs.Certificate.{FitCertificate}
 use Rattle.fit_cert_text.specs.FitLine as fit_line
 use Rattle.fit_cert_text.specs.FitCertReader.{fit_line_in}
 use Rattle.fit_cert_text.specs.FitCertReader as fit

@@ -1,11 +1,10 @@
 -- What making and checking a certificate of a fitted mesh come to: there is an outcome, of a check one alone, and a mesh that is
 -- certified is a best one.
-use Rattle.std.proofs.Common.{◌≡◌, ◌≢◌, ℕ, ◌≤◌, List, [], ◌++◌, Option, Some, Result, Ok, Err, IsTrue, length, refl, sym, ◌∙◌, ap, ap₂, subst, inl, inr, arith, append-nil}
+use Rattle.std.proofs.Common.{◌≡◌, ◌≢◌, ℕ, List, ◌++◌, Option, Some, Result, Ok, Err, IsTrue, refl, sym, ◌∙◌, ap, ap₂, subst, inl, inr, append-nil}
 use Rattle.mesh_defs.specs.HeightField.{HeightField}
 use Rattle.roam_edge.specs.Shelf.{NamedFile, bytes_of}
 use Rattle.pgm_grid.specs.declared.fault.PgmFault.{PgmFault}
 use Rattle.pgm_grid.specs.Laws.{TextsAreRead}
-use Rattle.deviation_laws.specs.PlaneHeight.{deviation_of}
 use Rattle.obj_write.specs.Written.{Grows}
 use Rattle.certificate_laws.specs.declared.reason.Reject.TheVariants.{BadLine, MeshDiffers}
 use Rattle.fit_certificate_laws.specs.declared.reason.Target.{Target as Goal}
@@ -19,7 +18,7 @@ use Rattle.fit_certificate_laws.proofs.FoundLemmas.{sound_found}
 use Rattle.fit_cert_text.specs.FitCertText.{fit_cert_text}
 use Rattle.run_laws.specs.declared.status.Status.{Status}
 use Rattle.run_laws.specs.declared.status.Status.TheVariants.{Done, NoMemory, ReadFault, Rejected}
-use Rattle.word_laws.specs.Words.{Target, AtError, InBudget, FitMaking, FitChecking, CheckFit, Command, OnGrid}
+use Rattle.word_laws.specs.Words.{Target, AtError, InBudget, FitMaking, FitChecking, CheckFit, Command}
 use Rattle.run_laws.specs.CertFile.{fit_cert_in}
 use Rattle.run_laws.specs.Certify.{IsFitFaultless}
 use Rattle.run_laws.specs.Fit.{goal_of, IsFitFor, fit_text}

@@ -12,7 +12,7 @@ use Rattle.pgm_grid.specs.Progress.{grid_of}
 use Rattle.run_laws.specs.declared.status.Status.{Status}
 use Rattle.run_laws.specs.declared.status.Status.TheVariants as ends
 use Rattle.run_laws.specs.Walk.{Walk, start_walk}
-use Rattle.word_laws.specs.Words.{Show, Scripted, Job, Frames, Facts, Command, OnGrid, Make, Check, Fit, FitChecking, MakeFit, CheckFit, names_of}
+use Rattle.word_laws.specs.Words.{Show, Scripted, Job, Frames, Facts, Command, OnGrid, Make, Check, Fit, MakeFit, CheckFit, names_of}
 use Rattle.run_laws.specs.Picture.{Picture}
 use Rattle.run_laws.specs.Act.{Act, Told, told, Stands}
 use Rattle.run_laws.specs.ReportText.{info_line, grid_refusal}

@@ -1,7 +1,6 @@
 -- Words that are no command, and commands of eight words.
-use Rattle.std.proofs.Common.{◌≡◌, ℕ, ◌<◌, if◌then◌else◌, List, [], ◌∷◌, length, get_or, map, Option, None, codes, bytes_eq, refl, arith, ◌≤◌, true, ◌&&◌}
-use Rattle.std.proofs.lemmas.Bool.{cond-true}
-use Rattle.word_laws.specs.Words.{command_of, Command, eight_command}
+use Rattle.std.proofs.Common.{◌≡◌, ℕ, ◌<◌, List, [], ◌∷◌, length, get_or, map, None, refl, arith, ◌≤◌}
+use Rattle.word_laws.specs.Words.{command_of, eight_command}
 
 -- the entries of a list of eight
 pub eight-words : {W : Type 0} (f : W → List ℕ) (ws : List W) (a b c d e h i j : W) → 8 ≤ length ws → length ws < 9 → a ≡ get_or ws 0 a → b ≡ get_or ws 1 b → c ≡ get_or ws 2 c → d ≡ get_or ws 3 d

@@ -1,4 +1,4 @@
-use Rattle.std.proofs.Common.{length, ap, arith}
+use Rattle.std.proofs.Common.{arith}
 use Rattle.mesh_compare.proofs.comparing.compare.Goals as goal
 
 pub compare_lines-requires-clause-few : goal.compare_lines-requires-clause-few

@@ -1,4 +1,4 @@
-use Rattle.std.proofs.Common.{◌≡◌, ℕ, ◌+◌, ◌*◌, ◌^◌, ◌≤◌, List, Err, length, sym, ◌∙◌, ap, subst, arith}
+use Rattle.std.proofs.Common.{◌≡◌, ℕ, ◌+◌, ◌*◌, ◌^◌, ◌≤◌, List, length, sym, ◌∙◌, ap, subst, arith}
 use Rattle.mesh_defs.specs.HeightField.{HeightField}
 use Rattle.least_laws.proofs.FlagLemmas.{end-high}
 use Rattle.roam_edge.specs.Shelf.{bytes_of}
@@ -12,7 +12,7 @@ difference-requires-clause-few g c =
     let n : ℕ = c.args.wedges.now.n in
     let low : n ≤ 11 = omega (arith, c.n-level.ensures.high, c.n-level.ensures.value, ap (λ (w : HeightField). w.n) c.grid.ensures.value) in
     let few : length c.in-Ok.mesh.items ≤ 2 ^ (2 * n + 1) =
-        subst (λ (w : HeightField). length c.in-Ok.mesh.items ≤ 2 ^ (2 * w.n + 1)) c.grid-2.ensures.value c.in-Ok.ensures.few in
+    subst (λ (w : HeightField). length c.in-Ok.mesh.items ≤ 2 ^ (2 * w.n + 1)) c.grid-2.ensures.value c.in-Ok.ensures.few in
     omega (arith, few, end-high n low, ap length c.deref.ensures.value)
 
 pub returns-in-Ok-None-clause-ok : goal.returns-in-Ok-None-clause-ok
