@@ -16,7 +16,7 @@ use triangle_pool::Pool;
 
 /// Leaves and numbers are mended where at most one in so many of the leaves that there is room for was split or merged, and else made
 /// anew.
-const MENDED_SHARE: usize = 16;
+const MENDED_SHARE: usize = 8;
 
 /// What stands where no change was listed yet.
 const NO_CHANGE: VertexChange = VertexChange {
