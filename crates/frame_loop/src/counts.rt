@@ -11,7 +11,7 @@ impl Engine {
     pub fn vertices(&self) -> u32
         ensures { result ≡ length (vertices_of self.now.state.grid.n (mesh_seen self.now)) }
     {
-        let _view = self.view();
+        let _pool = self.mesh.pool();
         self.vertices
     }
 }

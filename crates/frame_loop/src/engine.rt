@@ -1,11 +1,10 @@
 //! The engine.
 
-ghost use Rattle.std.specs.Prelude.{◌≡◌, ℕ, ◌+◌, ◌-◌, ◌*◌, ◌<◌, ◌≤◌, ◌^◌, min, false, All, None, IfOk, length};
+ghost use Rattle.std.specs.Prelude.{◌≡◌, ℕ, ◌+◌, ◌-◌, ◌*◌, ◌<◌, ◌≤◌, ◌^◌, min, [], All, None, IfOk, length};
 ghost use Rattle.mesh_defs.specs.View.{start_view};
 ghost use Rattle.mesh_defs.specs.State.{start_state, with_camera, with_budget, move_length};
 ghost use Rattle.mesh_defs.specs.Triangle.{level_of};
-ghost use Rattle.mesh_defs.specs.ClosedSet.{leaves_of, among, IsClosed};
-ghost use Rattle.edge_laws.specs.Slots.{split_set};
+ghost use Rattle.mesh_defs.specs.ClosedSet.{IsClosed};
 ghost use Rattle.triangle_pool.specs.declared.pool.TheConstants.{MOST_LEAVES};
 ghost use Rattle.obj_write.specs.Numbers.{numbers_of};
 ghost use Rattle.mesh_defs.specs.HeightField.{side_of};
@@ -15,6 +14,7 @@ ghost use Rattle.roam_mesh.specs.Mesh.{stamp_of, pool_members, OnlyEntriesStampe
 ghost use Rattle.frame_loop.specs.declared.limits.TheConstants.{LONGEST_WAY};
 ghost use Rattle.frame_loop.specs.Outlook.{outlook_of, AreBracketed};
 ghost use Rattle.frame_loop.specs.Changes.{no_changes};
+ghost use Rattle.frame_loop.specs.Engine.{is_split, mesh_seen};
 
 use crate::laws::outlook_laws;
 use crate::listing::number_leaves;
@@ -83,7 +83,8 @@ impl Model for Engine {
 }
 
 impl Engine {
-    /// The engine of a grid: seen from (0, 0, 0), no plane, the two halves of the square. All memory is taken here.
+    /// The engine of a grid: seen from (0, 0, 0), no plane, the two halves of the square, of which none is split. All memory is taken
+    /// here: for as many leaves as the budget allows, or as the grid can have.
     pub fn make(alloc: Global, grid: Grid, budget: u32, spacing: u32) -> Result<Engine, NoMemory>
         requires some { 2 ≤ budget }
         requires few { budget ≤ MOST_LEAVES }
@@ -91,7 +92,9 @@ impl Engine {
         requires spacing_high { spacing ≤ GREATEST_SPACING }
         ensures state { IfOk result (λ e. e.state ≡ start_state grid spacing budget) }
         ensures most { IfOk result (λ e. e.most ≡ budget) }
-        ensures base { IfOk result (λ e. (a : ℕ) → split_set e.mesh.pool.pairs a ≡ false) }
+        ensures base { IfOk result (λ e. pool_members e.mesh.pool ≡ []) }
+        ensures n { IfOk result (λ e. e.mesh.pool.n ≡ grid.n) }
+        ensures room { IfOk result (λ e. e.mesh.pool.most ≡ min budget (2 * 4 ^ grid.n)) }
         ensures stamps { IfOk result (λ e. (a : ℕ) → stamp_of e.mesh a ≡ None) }
         ensures odometer { IfOk result (λ e. e.odometer ≡ 0) }
         ensures frames { IfOk result (λ e. e.frames ≡ 0) }
@@ -221,6 +224,8 @@ impl Engine {
     /// The pool of the mesh. `kept` and `only` tell of the stamps of its triangles, before the first frame and between frames.
     pub fn pool(&self) -> &Pool
         ensures pool { result.now ≡ self.now.mesh.pool }
+        ensures n { result.now.n ≡ self.now.state.grid.n }
+        ensures room { result.now.most ≡ min self.now.most (2 * 4 ^ self.now.state.grid.n) }
         ensures kept { AreBracketed (outlook_of self.now.state) self.now.odometer self.now.mesh }
         ensures only { OnlyEntriesStamped self.now.mesh }
     {
@@ -229,14 +234,13 @@ impl Engine {
 
     /// The mesh of the last frame, or the two halves of the square before the first one, with the heights and planes as they are.
     pub fn view(&self) -> MeshView<'_>
-        ensures leaves { result.leaves.now ≡ leaves_of self.now.state.grid.n (split_set self.now.mesh.pool.pairs) }
+        ensures leaves { result.leaves.now ≡ mesh_seen self.now }
         ensures wedges { result.wedges.now ≡ self.now.state.grid }
         ensures planes { result.planes.now ≡ self.now.state.view.planes }
         ensures spacing { result.spacing ≡ self.now.state.view.spacing }
         ensures numbers { result.numbers.now ≡ numbers_of self.now.state.grid.n result.leaves.now }
-        ensures members { result.leaves.now ≡ leaves_of self.now.state.grid.n (among (pool_members self.now.mesh.pool)) }
         ensures levels { All (λ a. level_of a ≤ 2 * self.now.state.grid.n) result.leaves.now }
-        ensures closed { IsClosed self.now.state.grid.n (split_set self.now.mesh.pool.pairs) }
+        ensures closed { IsClosed self.now.state.grid.n (is_split self.now) }
         ensures few { length result.leaves.now ≤ self.now.most }
         ensures spacing_low { 1 ≤ result.spacing }
         ensures spacing_high { result.spacing ≤ GREATEST_SPACING }

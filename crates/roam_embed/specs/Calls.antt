@@ -3,20 +3,19 @@
 -- All of it is this project's own.
 -- Words: IsOpenAnswer, IsOpened, IsCameraMoved, IsPlaneAdded, ArePlanesCleared, IsBudgetPut, IsHeightPut, IsAreaRaised, IsFrameMade,
 -- AreIndicesTold, AreLeavesTold.
-use Rattle.std.specs.Prelude.{◌≡◌, ◌≢◌, ℕ, ◌+◌, ◌*◌, ◌<◌, ◌≤◌, ◌↔◌, ◌⊎◌, true, false, List, ◌++◌, length, drop, All, Contains, None, ℤ, unsigned_abs}
+use Rattle.std.specs.Prelude.{◌≡◌, ◌≢◌, ℕ, ◌+◌, ◌*◌, ◌<◌, ◌≤◌, ◌↔◌, ◌⊎◌, true, false, List, ◌++◌, length, drop, All, Contains, None, ℤ, unsigned_abs, []}
 use Rattle.mesh_defs.specs.BoundingBox.{CameraAt, holds_point, point}
 use Rattle.mesh_defs.specs.View.{ViewPlane}
 use Rattle.mesh_defs.specs.State.{start_state, with_camera, with_plane, without_planes, with_budget, with_height, with_raised, move_length, priority_in}
 use Rattle.mesh_defs.specs.Triangle.{corners_of}
 use Rattle.mesh_defs.specs.BestMesh.{IsBestMesh}
 use Rattle.bintree_laws.specs.Areas.{overlaps}
-use Rattle.edge_laws.specs.Slots.{split_set}
 use Rattle.triangle_pool.specs.declared.pool.TheConstants.{MOST_LEAVES}
 use Rattle.wedgie_tree.specs.declared.wedges.TheConstants.{GREATEST_SPACING}
 use Rattle.wedgie_tree.specs.Edits.{area_of}
 use Rattle.cull_marks.specs.Plane.{IsPlane}
 use Rattle.view_priority.specs.Camera.{IsCamera}
-use Rattle.roam_mesh.specs.Mesh.{stamp_of}
+use Rattle.roam_mesh.specs.Mesh.{stamp_of, pool_members}
 use Rattle.frame_loop.specs.Engine.{EngineState, mesh_seen, IsExpired, IsFrameDone}
 use Rattle.roam_embed.specs.declared.answer.Answer.{Answer}
 use Rattle.roam_embed.specs.declared.answer.Answer.TheVariants.{Done, NoMemory, BadGrid, BadBudget, BadSpacing, BadCamera, BadPlane, TooManyPlanes, OutsideGrid, BadChange, Worn, NoRoom}
@@ -40,7 +39,7 @@ pub record IsOpened (heights : List ℕ) (budget spacing : ℕ) (e : EngineState
   pub level : IsPointCount (length heights) e.state.grid.n
   pub state : e.state ≡ start_state (record { n = e.state.grid.n; maxval = 65535; heights = heights }) spacing budget
   pub most : e.most ≡ budget
-  pub base : (a : ℕ) → split_set e.mesh.pool.pairs a ≡ false
+  pub base : pool_members e.mesh.pool ≡ []
   pub stamps : (a : ℕ) → stamp_of e.mesh a ≡ None
   pub odometer : e.odometer ≡ 0
   pub frames : e.frames ≡ 0

@@ -6,12 +6,11 @@ use Rattle.std.specs.Prelude.{◌≡◌, ℕ, ◌*◌, ◌^◌, ◌<◌, ◌≤�
 use Rattle.std.specs.List.{flat_map}
 use Rattle.mesh_defs.specs.declared.point.Point.{Point}
 use Rattle.mesh_defs.specs.MeshText.{vertices_of}
-use Rattle.edge_laws.specs.Slots.{split_set}
 use Rattle.deviation_laws.specs.PlaneHeight.{deviation_of}
 use Rattle.strip_laws.specs.Strip.{strip_of}
 use Rattle.obj_write.specs.Arrays.{positions_of, places_of}
 use Rattle.mesh_arrays.specs.Indices.{indices_of}
-use Rattle.frame_loop.specs.Engine.{EngineState, mesh_seen}
+use Rattle.frame_loop.specs.Engine.{EngineState, is_split, mesh_seen}
 use Rattle.roam_embed.specs.Drawn.{drawn, corner_positions}
 use Rattle.roam_embed.specs.declared.answer.Answer.{Answer}
 use Rattle.roam_embed.specs.declared.answer.Answer.TheVariants.{Done, NoMemory, NoRoom}
@@ -27,7 +26,7 @@ positions_seen e = positions_of e.state.grid.n e.state.grid.heights e.state.view
 
 -- the triangles of the mesh in the order of its strip
 abbrev pub strip_seen : EngineState → List ℕ
-strip_seen e = strip_of e.state.grid.n (split_set e.mesh.pool.pairs)
+strip_seen e = strip_of e.state.grid.n (is_split e)
 
 -- x, y and z of each vertex stand in the first places of an array, and how many vertices there are is told
 pub record ArePositionsTold (e : EngineState) (array_before array : List ℕ) (count_before count : ℕ) (answer : Answer) : Type 0 where

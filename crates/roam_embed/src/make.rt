@@ -1,11 +1,10 @@
 //! An engine made of a caller's heights.
 
-ghost use Rattle.std.specs.Prelude.{◌≡◌, ◌≢◌, ℕ, ◌≤◌, false, None, length, IfOk, IfErr, IfSome, IsNone};
+ghost use Rattle.std.specs.Prelude.{◌≡◌, ◌≢◌, ℕ, ◌≤◌, [], None, length, IfOk, IfErr, IfSome, IsNone};
 ghost use Rattle.mesh_defs.specs.State.{start_state};
-ghost use Rattle.edge_laws.specs.Slots.{split_set};
 ghost use Rattle.triangle_pool.specs.declared.pool.TheConstants.{MOST_LEAVES};
 ghost use Rattle.wedgie_tree.specs.declared.wedges.TheConstants.{GREATEST_SPACING};
-ghost use Rattle.roam_mesh.specs.Mesh.{stamp_of};
+ghost use Rattle.roam_mesh.specs.Mesh.{stamp_of, pool_members};
 ghost use Rattle.roam_embed.specs.Grid.{IsPointCount, HasGrid};
 ghost use Rattle.roam_embed.specs.Calls.{IsOpenAnswer, IsOpened};
 
@@ -76,8 +75,7 @@ fn make_engine(
     ensures state { IfOk result (λ engine. engine.value.state ≡ start_state
         (record { n = n; maxval = 65535; heights = heights.now }) spacing budget) }
     ensures most { IfOk result (λ engine. engine.value.most ≡ budget) }
-    ensures base { IfOk result (λ engine. (a : ℕ) →
-        split_set engine.value.mesh.pool.pairs a ≡ false) }
+    ensures base { IfOk result (λ engine. pool_members engine.value.mesh.pool ≡ []) }
     ensures stamps { IfOk result (λ engine. (a : ℕ) → stamp_of engine.value.mesh a ≡ None) }
     ensures odometer { IfOk result (λ engine. engine.value.odometer ≡ 0) }
     ensures frames { IfOk result (λ engine. engine.value.frames ≡ 0) }

@@ -31,25 +31,16 @@ use Rattle.run_engine.specs.NoteSeen.{picture_seen}
 pub members-ascend : (pool : PoolState) → IsAscending (pool_members pool)
 members-ascend pool = ascending-filter (split_set pool.pairs) (range_with_len 0 (4 * 2 ^ (2 * pool.n))) (ascending-range 0 (4 * 2 ^ (2 * pool.n)))
 
--- nothing passes a test that is always false
-filter-none : (has : ℕ → Bool) → ((a : ℕ) → has a ≡ false) → (xs : List ℕ) → filter has xs ≡ []
-filter-none has none [] = refl
-filter-none has none (x ∷ xs) = rw (none x) (filter-none has none xs)
-
--- where nothing is split there are none
-pub no-members : (pool : PoolState) → ((a : ℕ) → split_set pool.pairs a ≡ false) → pool_members pool ≡ []
-no-members pool none = filter-none (split_set pool.pairs) none (range_with_len 0 (4 * 2 ^ (2 * pool.n)))
-
 -- an engine that was just made follows the walk before the first line
 pub followed-begins : (grid : HeightField) (spacing budget : ℕ) (engine : EngineState) → engine.state ≡ start_state grid spacing budget → engine.most ≡ budget
-    → ((a : ℕ) → split_set engine.mesh.pool.pairs a ≡ false) → engine.odometer ≡ 0 → engine.frames ≡ 0 → engine.mesh.pool.splits ≡ 0 → engine.mesh.pool.merges ≡ 0
+    → pool_members engine.mesh.pool ≡ [] → engine.odometer ≡ 0 → engine.frames ≡ 0 → engine.mesh.pool.splits ≡ 0 → engine.mesh.pool.merges ≡ 0
     → HasFollowed (start_walk budget (start_state grid spacing budget)) [] engine
 followed-begins grid spacing budget engine state most none odometer frames splits merges = record {
   at_state = state;
   greatest = most;
   gone = odometer;
   made = frames;
-  set = no-members engine.mesh.pool none;
+  set = none;
   all_splits = splits;
   all_merges = merges;
 }

@@ -14,7 +14,7 @@ pub patch-requires-clause-come : goal.patch-requires-clause-come
 patch-requires-clause-come c a =
     let e = c.args.engine.now in
     let empty = ap (λ (xs : List ℕ). times xs a) (c.in_ok-buffer.ensures.triangles) ∙ times-none a in
-    let leaves = ap (λ (xs : List ℕ). times xs a) c.view.ensures.members in
+    let leaves = ap (λ (xs : List ℕ). times xs a) c.view.ensures.leaves in
     let leaf = times-leaves (mesh_seen e) a (c.set_leaf_laws.ensures.once e.state.grid.n (among (pool_members e.mesh.pool)) a) in
     omega arith
 
@@ -27,7 +27,7 @@ returns c =
     let most = c.patch.ensures.most ∙ c.in_ok-buffer.ensures.most ∙ c.room.ensures.value in
     let same : (a : ℕ) → times (mesh_seen e) a ≡ times new.triangles a = λ a.
     let empty = ap (λ (xs : List ℕ). times xs a) (c.in_ok-buffer.ensures.triangles) ∙ times-none a in
-    let leaves = ap (λ (xs : List ℕ). times xs a) c.view.ensures.members in
+    let leaves = ap (λ (xs : List ℕ). times xs a) c.view.ensures.leaves in
     let none = times-none a in
     let members = c.patch.ensures.members a in
     omega arith in

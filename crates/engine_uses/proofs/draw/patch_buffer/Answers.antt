@@ -17,7 +17,7 @@ patch-requires-clause-levels c =
     let behind = c.requires.behind in
     let level : ℕ → Type 0 = λ a. level_of a ≤ 2 * c.args.engine.now.state.grid.n in
     let come = c.changes-changes.ensures.come ∙ behind.changed.new in
-    let seen : All level (mesh_seen c.args.engine.now) = subst (All level) c.view-few.ensures.members c.view-few.ensures.levels in
+    let seen : All level (mesh_seen c.args.engine.now) = subst (All level) c.view-few.ensures.leaves c.view-few.ensures.levels in
     rw (come, behind.drawn.grid) (All-filter (λ a. not (among behind.before a)) level (mesh_seen c.args.engine.now) seen)
 
 pub patch-requires-clause-gone : goal.patch-requires-clause-gone
@@ -53,7 +53,7 @@ patch-requires-clause-room c =
     let gone = ap length (c.changes-changes.ensures.gone ∙ behind.changed.left) in
     let come = ap length (c.changes-changes.ensures.come ∙ behind.changed.new) in
     let long = length_permutation behind.before c.args.buffer.now.triangles behind.drawn.places in
-    let seen = ap length c.view-few.ensures.members in
+    let seen = ap length c.view-few.ensures.leaves in
     let few = c.view-few.ensures.few in
     let most = c.set_leaf_laws.ensures.most e.state.grid.n has in
     let room = behind.room in

@@ -6,7 +6,7 @@ use Rattle.mesh_defs.specs.ClosedSet.{leaves_of}
 use Rattle.mesh_defs.specs.declared.level.TheConstants.{GREATEST_LEVEL}
 use Rattle.mesh_defs.proofs.ListLemmas.{Contains-in}
 use Rattle.closure_laws.proofs.SetListLemmas.{All-in}
-use Rattle.edge_laws.specs.Slots.{split_set}
+use Rattle.frame_loop.specs.Engine.{is_split}
 use Rattle.strip_laws.specs.Strip.{strip_of}
 use Rattle.strip_laws.proofs.OrderLemmas.{leaf-strip_of}
 use Rattle.roam_embed.proofs.shapes.put_strip.Goals as goal
@@ -20,20 +20,20 @@ pub strip-requires-clause-leaves : goal.strip-requires-clause-leaves
 strip-requires-clause-leaves c =
     let e = c.args.engine.now in
     let small : e.state.grid.n ≤ GREATEST_LEVEL = grind (arith, common_steps) in
-    (e.state.grid.n, split_set e.mesh.pool.pairs, record { in_grid = small; closed = c.view-view.ensures.closed; is = c.view-view.ensures.leaves })
+    (e.state.grid.n, is_split e, record { in_grid = small; closed = c.view-view.ensures.closed; is = c.view-view.ensures.leaves })
 
 pub returns-clause-strip : goal.returns-clause-strip
 returns-clause-strip c =
     let e = c.args.engine.now in
     let small : e.state.grid.n ≤ GREATEST_LEVEL = grind (arith, common_steps) in
-    c.strip.ensures.order e.state.grid.n (split_set e.mesh.pool.pairs)
+    c.strip.ensures.order e.state.grid.n (is_split e)
     (record { in_grid = small; closed = c.view-view.ensures.closed; is = c.view-view.ensures.leaves })
 
 pub returns-clause-levels : goal.returns-clause-levels
 returns-clause-levels c =
     let e = c.args.engine.now in
     let n : ℕ = e.state.grid.n in
-    let has : ℕ → Bool = split_set e.mesh.pool.pairs in
+    let has : ℕ → Bool = is_split e in
     let P : List ℕ → Type 0 = λ l. All (λ a. level_of a ≤ 2 * n) l in
     let small : n ≤ GREATEST_LEVEL = grind (arith, common_steps) in
     let is = c.strip.ensures.order n has (record { in_grid = small; closed = c.view-view.ensures.closed; is = c.view-view.ensures.leaves }) in

@@ -16,7 +16,7 @@ pub certify_mesh-requires-clause-optimal : goal.certify_mesh-requires-clause-opt
 certify_mesh-requires-clause-optimal c =
     let words = c.args.words.now in
     let grid : HeightField = c.args.engine.now.state.grid in
-    let listed = c.in_ok-leaves.ensures.items_if_clones_equal (λ x y h. h) ∙ c.view-view.ensures.members in
+    let listed = c.in_ok-leaves.ensures.items_if_clones_equal (λ x y h. h) ∙ c.view-view.ensures.leaves in
     let best = subst (λ (l : List ℕ). IsBestMesh grid.n words.budget (priority_in (makes_at (making_seen words) grid)) l) (sym listed) c.requires.best in
     subst (λ (w : HeightField). IsOptimal w.n words.budget (priority_of w.n w.heights (view_from words.camera words.spacing [])) c.in_ok-leaves.leaves.items)
     (sym c.view-view.ensures.wedges) (optimal-best _ _ _ _ best)
@@ -25,7 +25,7 @@ pub certify_mesh-requires-clause-worst : goal.certify_mesh-requires-clause-worst
 certify_mesh-requires-clause-worst c =
     let words = c.args.words.now in
     let grid : HeightField = c.args.engine.now.state.grid in
-    let listed = c.in_ok-leaves.ensures.items_if_clones_equal (λ x y h. h) ∙ c.view-view.ensures.members in
+    let listed = c.in_ok-leaves.ensures.items_if_clones_equal (λ x y h. h) ∙ c.view-view.ensures.leaves in
     let worst = subst (λ (l : List ℕ). c.args.worst ≡ worst_of (priority_in (makes_at (making_seen words) grid)) l) (sym listed) c.requires.worst in
     subst (λ (w : HeightField). c.args.worst ≡ worst_of (priority_of w.n w.heights (view_from words.camera words.spacing [])) c.in_ok-leaves.leaves.items)
     (sym c.view-view.ensures.wedges) worst
@@ -34,7 +34,7 @@ pub returns : goal.returns
 returns c =
     let words = c.args.words.now in
     let grid : HeightField = c.args.engine.now.state.grid in
-    let listed = c.in_ok-leaves.ensures.items_if_clones_equal (λ x y h. h) ∙ c.view-view.ensures.members in
+    let listed = c.in_ok-leaves.ensures.items_if_clones_equal (λ x y h. h) ∙ c.view-view.ensures.leaves in
     made-of (making_seen words) grid c.in_ok-leaves.leaves.items c.certify_mesh.result
     (subst (λ (l : List ℕ). IsBestMesh grid.n words.budget (priority_in (makes_at (making_seen words) grid)) l) (sym listed) c.requires.best)
     c.certify_mesh.ensures.camera c.certify_mesh.ensures.leaves
