@@ -121,11 +121,8 @@ def words_of_a_run():
     return words if roll.random() < 0.98 else words[:-1]
 
 
-def damaged_line(lines):
-    """Leaves out, repeats, exchanges or changes lines of a certificate, or adds one: of the reasons, if there are any, or of all lines."""
-    reasons = [i for i, entry in enumerate(lines) if entry.startswith(("want", "parent", "mate"))]
-    place, other = (roll.choice(roll.choice([reasons, reasons, range(len(lines))]) or range(len(lines))) for _ in range(2))
-    kind = roll.choice(["drop", "drop", "repeat", "exchange", "number", "number", "word", "add", "end", "long", "few", "few", "split", "split"])
+def damaged_anywhere(lines, kind, place, other, others):
+    """Leaves out, repeats or exchanges a line of any text, or changes a number of it, also to one of the others; answers whether it did."""
     if kind == "drop":
         del lines[place]
     elif kind == "repeat":
@@ -137,9 +134,22 @@ def damaged_line(lines):
         at = roll.randrange(len(fields) or 1)
         if at > 0 and fields[at].isdigit():
             number = int(fields[at])
-            fields[at] = roll.choice([number + 1, number - 1, number ^ 1, number // 2, 2 * number, roll.randint(0, 2 ** 25), -number, f"0{number}"])
+            near = [number + 1, number - 1, number ^ 1, number // 2, 2 * number]
+            fields[at] = roll.choice(near + others(number) + [f"0{number}"])
         lines[place] = " ".join(str(field) for field in fields)
-    elif kind == "word":
+    else:
+        return False
+    return True
+
+
+def damaged_line(lines):
+    """Leaves out, repeats, exchanges or changes lines of a certificate, or adds one: of the reasons, if there are any, or of all lines."""
+    reasons = [i for i, entry in enumerate(lines) if entry.startswith(("want", "parent", "mate"))]
+    place, other = (roll.choice(roll.choice([reasons, reasons, range(len(lines))]) or range(len(lines))) for _ in range(2))
+    kind = roll.choice(["drop", "drop", "repeat", "exchange", "number", "number", "word", "add", "end", "long", "few", "few", "split", "split"])
+    if damaged_anywhere(lines, kind, place, other, lambda number: [roll.randint(0, 2 ** 25), -number]):
+        return
+    if kind == "word":
         lines[place] = " ".join([roll.choice(["leaf", "want", "parent", "mate", "Want", "camera"])] + lines[place].split()[1:])
     elif kind == "add":
         lines.insert(roll.choice([place, len(lines)]), roll.choice(["", "# comment", "leaf 2", "want 2", "mate 3", "parent 2", "want 9 9", "want x"]))
@@ -161,20 +171,9 @@ def damaged_fit_line(lines):
     reasons = [i for i, entry in enumerate(lines) if entry.startswith("off")]
     place, other = (roll.choice(roll.choice([reasons, reasons, range(len(lines))]) or range(len(lines))) for _ in range(2))
     kind = roll.choice(["drop", "drop", "repeat", "exchange", "number", "number", "number", "word", "add", "end", "last", "long", "tolerance", "mesh"])
-    if kind == "drop":
-        del lines[place]
-    elif kind == "repeat":
-        lines.insert(other, lines[place])
-    elif kind == "exchange":
-        lines[place], lines[other] = lines[other], lines[place]
-    elif kind == "number":
-        fields = lines[place].split()
-        at = roll.randrange(len(fields) or 1)
-        if at > 0 and fields[at].isdigit():
-            number = int(fields[at])
-            fields[at] = roll.choice([number + 1, number - 1, number ^ 1, number // 2, 2 * number, roll.randint(0, m), roll.randint(0, 2 ** 25), f"0{number}"])
-        lines[place] = " ".join(str(field) for field in fields)
-    elif kind == "word":
+    if damaged_anywhere(lines, kind, place, other, lambda number: [roll.randint(0, m), roll.randint(0, 2 ** 25)]):
+        return
+    if kind == "word":
         lines[place] = " ".join([roll.choice(["off", "mesh", "tolerance", "Off"])] + lines[place].split()[1:])
     elif kind == "add":
         lines.insert(roll.choice([place, len(lines)]), roll.choice(["", "# comment", "mesh", "off 2 1 1", "off 3 1 1", "off 2 1", "tolerance 1", "mesh 1"]))
