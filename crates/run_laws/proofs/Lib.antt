@@ -21,4 +21,5 @@ pub mod FileLemmas
 pub mod StageLemmas
 pub mod GridLemmas
 pub mod StatementLemmas
+pub mod RunLemmas
 mod GeneratedLemmas

@@ -1,15 +1,61 @@
--- How a command ends, where memory does not run out and no read fails, and what its engine tells then.
--- Words: CommandEnds.
-use Rattle.std.specs.Prelude.{◌≡◌, ◌≢◌, IsTrue, List, Option}
-use Rattle.roam_edge.specs.Shelf.{NamedFile}
+-- How a command is carried out: how it ends, what its engine tells then, and what reading its files and telling its end come to.
+-- Words: CommandEnds, Runs, HasOpened, ReadsGrid, TellsLast.
+use Rattle.std.specs.Prelude.{◌≡◌, ◌≢◌, ◌⊎◌, ℕ, ◌+◌, IsTrue, List, Option, Some, Ok}
+use Rattle.mesh_defs.specs.HeightField.{HeightField}
+use Rattle.roam_edge.specs.Fault.{IsInTime}
+use Rattle.roam_edge.specs.Shelf.{NamedFile, bytes_of}
+use Rattle.pgm_grid.specs.Progress.{grid_of}
 use Rattle.run_laws.specs.declared.status.Status.{Status}
-use Rattle.run_laws.specs.declared.status.Status.TheVariants.{NoMemory, ReadFault}
+use Rattle.run_laws.specs.declared.status.Status.TheVariants.{NoMemory, ReadFault, WriteFault}
 use Rattle.word_laws.specs.Words.{Command}
 use Rattle.run_laws.specs.Act.{Told}
-use Rattle.run_laws.specs.Outcome.{Outcome, EngineEnd, IsCommandOutcome}
-use Rattle.run_laws.specs.Promise.{Seen, EndsAs, is_complete}
+use Rattle.run_laws.specs.Cause.{StatusHasCause, StatusWritesHaveCause}
+use Rattle.run_laws.specs.Outcome.{Outcome, EngineEnd, IsCommandOutcome, text_outcome}
+use Rattle.run_laws.specs.Promise.{Seen, EndsAs, HasEnded, HasReadHeader, is_complete, may_end}
+use Rattle.run_laws.specs.Maker.{DoesAs}
+use Rattle.run_laws.specs.Moment.{Moment, OnlyReads}
+use Rattle.run_laws.specs.Statement.{EndsByStatus, LeavesOutside}
 
 -- unless memory ran out or a read failed, the command ends as its outcome, and leaves its engine
-pub record CommandEnds (before now : Told) (old new : Seen) (command : Command) (files : List NamedFile) (status : Status) (left : Option EngineEnd) : Type 0 where
-  pub ends : status ≢ NoMemory → status ≢ ReadFault → (end : Outcome) × IsCommandOutcome command files end × EndsAs before now old new end status
+pub record CommandEnds (before now : Told) (old new : Seen) (command : Command) (files : List NamedFile) (status : Status)
+    (left : Option EngineEnd) : Type 0 where
+  pub ends : status ≢ NoMemory → status ≢ ReadFault
+      → (end : Outcome) × IsCommandOutcome command files end × EndsAs before now old new end status
       × (IsTrue (is_complete status) → left ≡ end.engine)
+
+-- The words were carried out that are this command, or none: what stands by the status, how the outside and the engine are left, and
+-- that the status has its cause. Every function that carries a command out promises this.
+pub record Runs (before now : Moment) (command : Option Command) (status : Status) (left : Option EngineEnd) : Type 0 where
+  pub ends : EndsByStatus before now command status left
+  pub leaves : LeavesOutside before now command status left
+  pub allowed : IsTrue (may_end command status)
+  pub causes : StatusHasCause before.shelf_faults now.shelf_faults before.sinks.mesh_faults now.sinks.mesh_faults
+      before.sinks.report_faults now.sinks.report_faults status
+
+-- so many files were opened and read, no read failed, and no sink was called
+pub record HasOpened (before now : Moment) (files : ℕ) : Type 0 where
+  pub only : OnlyReads before now
+  pub opens : now.shelf.opens ≡ before.shelf.opens + files
+  pub faults : now.shelf_faults ≡ before.shelf_faults
+  pub in_time : IsInTime before.shelf_late before.shelf_faults now.shelf_late
+
+-- the grid of this name was read to its end, and it is this grid, where the shelf tells its files
+pub record ReadsGrid (before now : Moment) (name : List ℕ) (grid : HeightField) : Type 0 where
+  pub opened : HasOpened before now 1
+  pub ended : HasEnded now.shelf
+  pub header : (files : List NamedFile) → before.shelf.files ≡ Some files
+      → HasReadHeader (bytes_of files name) now.shelf.rest
+  pub is_grid : (files : List NamedFile) → before.shelf.files ≡ Some files → grid_of (bytes_of files name) ≡ Ok grid
+
+-- the last text of a run was written, which ends with this status unless the write failed
+pub record TellsLast (before now : Moment) (text : List ℕ) (meant status : Status) : Type 0 where
+  pub shelf : now.shelf ≡ before.shelf
+  pub shelf_faults : now.shelf_faults ≡ before.shelf_faults
+  pub shelf_late : now.shelf_late ≡ before.shelf_late
+  pub ends : (status ≡ meant) ⊎ (status ≡ WriteFault)
+  pub does : (files : ℕ) → DoesAs before.sinks now.sinks (text_outcome text meant files) status
+  pub idle : status ≢ WriteFault → now.under_way ≡ before.under_way
+  pub writes : StatusWritesHaveCause before.sinks.mesh_faults now.sinks.mesh_faults
+      before.sinks.report_faults now.sinks.report_faults status
+  pub meshes_in_time : IsInTime before.mesh_late before.sinks.mesh_faults now.mesh_late
+  pub report_in_time : IsInTime before.report_late before.sinks.report_faults now.report_late

@@ -1,10 +1,12 @@
--- The moment: what the outside of a run tells before it or behind it. This project's own words.
--- Words: Moment, moment.
-use Rattle.std.specs.Prelude.{ℕ, Bool}
+-- The moment: what the outside of a run tells before it or behind it, and what calls do between two. This project's own words.
+-- Words: Moment, moment, OnlyReads, OnlyWrites, Does.
+use Rattle.std.specs.Prelude.{◌≡◌, ℕ, Bool, List, Result, OnOk, OnErr}
 use Rattle.roam_edge.specs.declared.shelf.Shelf as reading
 use Rattle.roam_edge.specs.declared.mesh_sink.MeshSink as showing
 use Rattle.roam_edge.specs.declared.sink.Sink as reporting
-use Rattle.run_laws.specs.Act.{Told, sinks_tell}
+use Rattle.roam_edge.specs.Fault.{IsInTime}
+use Rattle.run_laws.specs.Act.{Act, Told, sinks_tell, Stands, IsCutShort}
+use Rattle.run_laws.specs.Cause.{WritesHaveCause}
 use Rattle.run_laws.specs.Promise.{Seen, shelf_tells}
 
 -- what the shelf tells, what the two sinks tell, whether a mesh is begun and not finished, how often the shelf has failed, and
@@ -30,3 +32,28 @@ moment f m r files meshes report = record {
   mesh_late = m.late meshes;
   report_late = r.late report;
 }
+
+-- no sink was called, and the shelf has the same files
+pub record OnlyReads (before now : Moment) : Type 0 where
+  pub files : now.shelf.files ≡ before.shelf.files
+  pub sinks : now.sinks ≡ before.sinks
+  pub under_way : now.under_way ≡ before.under_way
+  pub mesh_late : now.mesh_late ≡ before.mesh_late
+  pub report_late : now.report_late ≡ before.report_late
+
+-- The shelf was not called. The call fails exactly where a count of the sinks rose, and else no other mesh is under way than before.
+pub record OnlyWrites {T E : Type 0} (before now : Moment) (answer : Result T E) : Type 0 where
+  pub shelf : now.shelf ≡ before.shelf
+  pub shelf_faults : now.shelf_faults ≡ before.shelf_faults
+  pub shelf_late : now.shelf_late ≡ before.shelf_late
+  pub idle : OnOk answer (now.under_way ≡ before.under_way)
+  pub faults : WritesHaveCause before.sinks.mesh_faults now.sinks.mesh_faults
+      before.sinks.report_faults now.sinks.report_faults answer
+  pub meshes_in_time : IsInTime before.mesh_late before.sinks.mesh_faults now.mesh_late
+  pub report_in_time : IsInTime before.report_late before.sinks.report_faults now.report_late
+
+-- these acts were done, or cut short where the call fails
+pub record Does {T E : Type 0} (before now : Moment) (acts : List Act) (answer : Result T E) : Type 0 where
+  pub only : OnlyWrites before now answer
+  pub done : OnOk answer (Stands before.sinks now.sinks acts)
+  pub cut_short : OnErr answer (IsCutShort before.sinks now.sinks acts)

@@ -41,8 +41,8 @@ abbrev pub shelf_tells : {F : Type 0} → reading.Ghosts F → F → Seen
 shelf_tells f shelf = record { files = f.files shelf; rest = f.rest shelf; opens = f.opens shelf; ended = f.ended shelf }
 
 -- these are the files that the shelf tells; words that name no file have an outcome over any
-abbrev pub AreFiles : Option (List NamedFile) → List (List ℕ) → List NamedFile → Type 0
-AreFiles told words files = 0 < file_count (command_of words) → told ≡ Some files
+abbrev pub AreFiles : Option (List NamedFile) → Option Command → List NamedFile → Type 0
+AreFiles told command files = 0 < file_count command → told ≡ Some files
 
 -- the run came to its end or to a refusal, and nothing outside failed
 abbrev pub is_complete : Status → Bool

@@ -1,5 +1,5 @@
 -- What a run promises: the meshes, what stands, the causes. Each speaks of the moments before the run and after it (`now`), of the
--- words of its command line, of its status, and of the engine that it leaves. This project's own.
+-- words of its command line or of the command that they are, of its status, and of the engine that it leaves. This project's own.
 -- Three words from elsewhere: `Grows old new more` says that what was told before is told with just `more` at its end, and nothing of
 -- what is not told; `IsInTime` that what had not failed before was not called again once a call of it had failed; and a count of
 -- faults is how often an object has failed, from its beginning on.
@@ -12,10 +12,10 @@ use Rattle.roam_edge.specs.Fault.{IsInTime}
 use Rattle.obj_write.specs.Written.{Grows}
 use Rattle.run_laws.specs.declared.status.Status.{Status}
 use Rattle.run_laws.specs.declared.status.Status.TheVariants.{Done, NoMemory, Usage, ReadFault, WriteFault}
-use Rattle.word_laws.specs.Words.{Scripted, Checking, Fitting, FitChecking, Frames, Check, Fit, CheckFit, Command, prefix_of, command_of, file_count}
+use Rattle.word_laws.specs.Words.{Scripted, Checking, Fitting, FitChecking, Frames, Check, Fit, CheckFit, Command, prefix_of, file_count}
 use Rattle.run_laws.specs.Act.{Stands, IsCutShort}
 use Rattle.run_laws.specs.Picture.{IsCertified}
-use Rattle.run_laws.specs.Outcome.{EngineEnd, Outcome, IsOutcome}
+use Rattle.run_laws.specs.Outcome.{EngineEnd, Outcome, IsWordsOutcome, IsOutcome}
 use Rattle.run_laws.specs.Promise.{AreFiles, is_complete, HasEnded, may_end, OpensForStatus, CommandReadFault, CommandNoMemory, leaves_engine}
 use Rattle.run_laws.specs.Headline.{IsRunOf, KeepsGoodMeshes, IsCertifiedMesh, IsCertifiedFit, KeepsFitMesh}
 use Rattle.run_laws.specs.Moment.{Moment}
@@ -52,59 +52,59 @@ TellsCertificates words = (files : List NamedFile) (end : Outcome) → IsTrue (i
 -- What stands.
 
 -- All of an outcome was done: its acts stand and nothing else, this is its status, its files were opened, and its engine is left.
-pub record DoesAll (before now : Moment) (words : List (List ℕ)) (files : List NamedFile) (status : Status)
+pub record DoesAll (before now : Moment) (command : Option Command) (files : List NamedFile) (status : Status)
     (left : Option EngineEnd) : Type 0 where
   pub end : Outcome
-  pub is_outcome : IsOutcome words files end
+  pub is_outcome : IsWordsOutcome command files end
   pub ends_so : status ≡ end.status
   pub stands : Stands before.sinks now.sinks end.acts
   pub opened : now.shelf.opens ≡ before.shelf.opens + end.opened
   pub engine : left ≡ end.engine
 
 -- The acts of an outcome were cut short: some stand, whole and in order, and of the next one a part. Its files were opened.
-pub record IsCutOff (before now : Moment) (words : List (List ℕ)) (files : List NamedFile) : Type 0 where
+pub record IsCutOff (before now : Moment) (command : Option Command) (files : List NamedFile) : Type 0 where
   pub end : Outcome
-  pub is_outcome : IsOutcome words files end
+  pub is_outcome : IsWordsOutcome command files end
   pub cut_short : IsCutShort before.sinks now.sinks end.acts
   pub opened : now.shelf.opens ≡ before.shelf.opens + end.opened
 
 -- With Done, Usage, the two refusals and Rejected all of an outcome was done, and with WriteFault it was cut off: where the shelf tells
--- its files, or the words name none. With ReadFault what the run had done by then stands (at a script, where the shelf tells its
+-- its files, or no file is named. With ReadFault what the run had done by then stands (at a script, where the shelf tells its
 -- files), and with NoMemory nothing was written.
-pub record EndsByStatus (before now : Moment) (words : List (List ℕ)) (status : Status) (left : Option EngineEnd) : Type 0 where
+pub record EndsByStatus (before now : Moment) (command : Option Command) (status : Status) (left : Option EngineEnd) : Type 0 where
   pub complete : IsTrue (is_complete status) → (files : List NamedFile)
-      → AreFiles before.shelf.files words files → DoesAll before now words files status left
+      → AreFiles before.shelf.files command files → DoesAll before now command files status left
   pub write_fault : status ≡ WriteFault → (files : List NamedFile)
-      → AreFiles before.shelf.files words files → IsCutOff before now words files
+      → AreFiles before.shelf.files command files → IsCutOff before now command files
   pub read_fault : status ≡ ReadFault
-      → (command : Command) × (command_of words ≡ Some command)
-      × CommandReadFault before.sinks now.sinks before.shelf now.shelf command
+      → (one : Command) × (command ≡ Some one)
+      × CommandReadFault before.sinks now.sinks before.shelf now.shelf one
   pub no_memory : status ≡ NoMemory
-      → (command : Command) × (command_of words ≡ Some command)
-      × CommandNoMemory before.sinks now.sinks before.shelf now.shelf command
+      → (one : Command) × (command ≡ Some one)
+      × CommandNoMemory before.sinks now.sinks before.shelf now.shelf one
 
 -- How the outside and the engine are left, also where nothing is told. The shelf's files are as before. No mesh is under way, except
 -- perhaps after WriteFault. Files were opened as often as the status allows, and with Done the last one was read to its end. An engine
 -- is left with Done and ScriptRefused where one makes the frames. Of shelf, meshes and report, each that had not failed before the run
 -- was not called again once a call of it had failed.
-pub record LeavesOutside (before now : Moment) (words : List (List ℕ)) (status : Status) (left : Option EngineEnd) : Type 0 where
+pub record LeavesOutside (before now : Moment) (command : Option Command) (status : Status) (left : Option EngineEnd) : Type 0 where
   pub files : now.shelf.files ≡ before.shelf.files
   pub idle : status ≢ WriteFault → now.under_way ≡ false
   pub opens :
-      OpensForStatus before.shelf.opens now.shelf.opens (file_count (command_of words)) status
-  pub read_out : status ≡ Done → 0 < file_count (command_of words) → HasEnded now.shelf
-  pub engine : IsSome left ↔ IsTrue (leaves_engine (command_of words) status)
+      OpensForStatus before.shelf.opens now.shelf.opens (file_count command) status
+  pub read_out : status ≡ Done → 0 < file_count command → HasEnded now.shelf
+  pub engine : IsSome left ↔ IsTrue (leaves_engine command status)
   pub shelf_in_time : IsInTime before.shelf_late before.shelf_faults now.shelf_late
   pub meshes_in_time : IsInTime before.mesh_late before.sinks.mesh_faults now.mesh_late
   pub report_in_time : IsInTime before.report_late before.sinks.report_faults now.report_late
 
 -- The causes.
 
--- The words allow the status, and it is Usage exactly where they are no command. It is ReadFault exactly where the shelf's count of
+-- The command allows the status, and it is Usage exactly where there is none. It is ReadFault exactly where the shelf's count of
 -- faults rose, and WriteFault exactly where that of the meshes or of the report rose. No count falls.
-pub record IsCaused (before now : Moment) (words : List (List ℕ)) (status : Status) : Type 0 where
-  pub allowed : IsTrue (may_end (command_of words) status)
-  pub usage : (status ≡ Usage) ↔ (command_of words ≡ None)
+pub record IsCaused (before now : Moment) (command : Option Command) (status : Status) : Type 0 where
+  pub allowed : IsTrue (may_end command status)
+  pub usage : (status ≡ Usage) ↔ (command ≡ None)
   pub read : (status ≡ ReadFault) ↔ (before.shelf_faults < now.shelf_faults)
   pub write : (status ≡ WriteFault)
       ↔ ((before.sinks.mesh_faults < now.sinks.mesh_faults) ⊎ (before.sinks.report_faults < now.sinks.report_faults))

@@ -5,7 +5,7 @@ use Rattle.mesh_defs.specs.HeightField.{HeightField}
 use Rattle.roam_edge.specs.Shelf.{NamedFile, bytes_of}
 use Rattle.run_laws.specs.declared.status.Status.{Status}
 use Rattle.run_laws.specs.declared.status.Status.TheVariants.{Done, NoMemory, WriteFault}
-use Rattle.word_laws.specs.Words.{Scripted, Frames, command_of}
+use Rattle.word_laws.specs.Words.{Scripted, Frames, Command, command_of}
 use Rattle.run_laws.specs.Act.{ReportText}
 use Rattle.run_laws.specs.Cause.{StatusHasCause}
 use Rattle.run_laws.specs.Outcome.{EngineEnd, Outcome, IsOutcome, MakesNoCertificate}
@@ -20,7 +20,7 @@ abbrev pub OutcomeFollows : Type 0
 OutcomeFollows =
     (before now : Moment) (words : List (List ℕ)) (status : Status) (left : Option EngineEnd)
     (files : List NamedFile)
-    → EndsByStatus before now words status left → AreFiles before.shelf.files words files
+    → EndsByStatus before now (command_of words) status left → AreFiles before.shelf.files (command_of words) files
     → EndsRight before.sinks now.sinks before.shelf now.shelf words files status
 
 -- each outcome of the words and files tells what the engine is that is left
@@ -28,7 +28,7 @@ abbrev pub EngineFollows : Type 0
 EngineFollows =
     (before now : Moment) (words : List (List ℕ)) (status : Status) (left : Option EngineEnd)
     (files : List NamedFile)
-    → EndsByStatus before now words status left → AreFiles before.shelf.files words files
+    → EndsByStatus before now (command_of words) status left → AreFiles before.shelf.files (command_of words) files
     → (end : Outcome) → IsOutcome words files end → IsTrue (is_complete status) → left ≡ end.engine
 
 -- where a write failed in a run that shows its frames one by one, one of four cases stands
@@ -36,7 +36,7 @@ abbrev pub RunFaultFollows : Type 0
 RunFaultFollows =
     (before now : Moment) (words : List (List ℕ)) (status : Status) (left : Option EngineEnd)
     (files : List NamedFile)
-    (s : Scripted) (grid : HeightField) → EndsByStatus before now words status left
+    (s : Scripted) (grid : HeightField) → EndsByStatus before now (command_of words) status left
     → before.shelf.files ≡ Some files → status ≡ WriteFault
     → IsRunOf words files (Frames s) grid → IsTrue (is_by_frame s.show)
     → LeavesAtWriteFault before.sinks now.sinks s grid (bytes_of files s.script)
@@ -46,7 +46,7 @@ abbrev pub TextFaultFollows : Type 0
 TextFaultFollows =
     (before now : Moment) (words : List (List ℕ)) (status : Status) (left : Option EngineEnd)
     (files : List NamedFile)
-    → EndsByStatus before now words status left → AreFiles before.shelf.files words files
+    → EndsByStatus before now (command_of words) status left → AreFiles before.shelf.files (command_of words) files
     → status ≡ WriteFault → MakesNoCertificate (command_of words) → (end : Outcome) (text : List ℕ)
     → IsOutcome words files end → end.acts ≡ ReportText text ∷ []
     → StandsInText before.sinks now.sinks [] text
@@ -56,14 +56,14 @@ abbrev pub CompleteFollows : Type 0
 CompleteFollows =
     (before now : Moment) (words : List (List ℕ)) (status : Status) (left : Option EngineEnd)
     (files : List NamedFile)
-    → EndsByStatus before now words status left → IsCaused before now words status
-    → AreFiles before.shelf.files words files → IsAccepted words files
+    → EndsByStatus before now (command_of words) status left → IsCaused before now (command_of words) status
+    → AreFiles before.shelf.files (command_of words) files → IsAccepted words files
     → now.shelf_faults ≡ before.shelf_faults → now.sinks.mesh_faults ≡ before.sinks.mesh_faults
     → now.sinks.report_faults ≡ before.sinks.report_faults → (status ≡ Done) ⊎ (status ≡ NoMemory)
 
 -- a count of faults rose only where the status names it, and then by one at least, unless it stands at its greatest value
 abbrev pub FaultsFollow : Type 0
-FaultsFollow = (before now : Moment) (words : List (List ℕ)) (status : Status)
-    → IsCaused before now words status
+FaultsFollow = (before now : Moment) (command : Option Command) (status : Status)
+    → IsCaused before now command status
     → StatusHasCause before.shelf_faults now.shelf_faults before.sinks.mesh_faults now.sinks.mesh_faults
     before.sinks.report_faults now.sinks.report_faults status

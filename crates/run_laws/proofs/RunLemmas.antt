@@ -1,0 +1,301 @@
+-- How a command on a grid is carried out: it stops at its grid, memory runs out, or one text ends it.
+use Rattle.std.proofs.Common.{◌≡◌, ◌≢◌, ◌⊎◌, ◌↔◌, ℕ, ◌+◌, ◌^◌, ◌≤◌, ◌&&◌, Bool, true, false, IsTrue, IsSome, List, [], length, nat_lt, Option, None, Some, Result, Ok, Err, inl, inr, refl, sym, ◌∙◌, ap, subst, arith}
+use Rattle.roam_edge.specs.Fault.{Rose, next_count, IsInTime}
+use Rattle.roam_edge.specs.Shelf.{NamedFile, bytes_of}
+use Rattle.run_laws.specs.declared.status.Status.{Status}
+use Rattle.run_laws.specs.declared.status.Status.TheVariants.{Done, NoMemory, GridRefused, ReadFault, WriteFault}
+use Rattle.word_laws.specs.Words.{Job, Command, OnGrid, is_of_engine, Frames, Facts, Make, Check, Fit, MakeFit, CheckFit, names_of, file_count}
+use Rattle.mesh_defs.specs.HeightField.{HeightField}
+use Rattle.pgm_grid.specs.declared.fault.PgmFault.{PgmFault}
+use Rattle.pgm_grid.specs.Progress.{grid_of}
+use Rattle.run_laws.specs.Act.{Told}
+use Rattle.run_laws.specs.Cause.{StatusWritesHaveCause}
+use Rattle.run_laws.specs.ReportText.{grid_refusal}
+use Rattle.run_laws.specs.Outcome.{EngineEnd, text_outcome, IsJobOutcome, IsGridOutcome, IsCommandOutcome}
+use Rattle.run_laws.specs.Promise.{Seen, HasEnded, HasReadHeader, IsUndecided, OpensForStatus, CommandReadFault, CommandNoMemory, is_complete, ends_script, may_end, leaves_engine}
+use Rattle.run_laws.specs.Maker.{DoesAs}
+use Rattle.run_laws.specs.FileStop.{StopsReading}
+use Rattle.run_laws.specs.Moment.{Moment, OnlyReads}
+use Rattle.run_laws.specs.Leaving.{Runs, HasOpened, ReadsGrid, TellsLast}
+use Rattle.run_laws.proofs.GridLemmas.{not-complete, grid-fault, grid-memory}
+use Rattle.run_laws.proofs.StatementLemmas.{ends-by-status}
+
+abbrev no-engine : Option EngineEnd
+no-engine = None
+
+-- no engine is left where the definitions leave none
+none-left : (command : Option Command) (status : Status) → leaves_engine command status ≡ false
+    → IsSome no-engine ↔ IsTrue (leaves_engine command status)
+none-left command status is =
+    let P : Bool → Type 0 = λ b. IsSome no-engine ↔ IsTrue b in
+    subst P (sym is) ((λ e. e), (λ e. e))
+
+and-false : (b : Bool) → (b && false) ≡ false
+and-false true = refl
+and-false false = refl
+
+-- none is left of a command on a grid that was not carried out to its end or to a refusal of its script
+none-unended : (name : List ℕ) (job : Job) (status : Status) → ends_script status ≡ false
+    → leaves_engine (Some (OnGrid name job)) status ≡ false
+none-unended name (Frames s) status is = ap (λ b. is_of_engine s.show && b) is ∙ and-false (is_of_engine s.show)
+none-unended name Facts status is = refl
+none-unended name (Make m) status is = refl
+none-unended name (Check c) status is = refl
+none-unended name (Fit f) status is = refl
+none-unended name (MakeFit m) status is = refl
+none-unended name (CheckFit c) status is = refl
+
+-- a command on a grid names a file
+names-some : (name : List ℕ) (job : Job) → nat_lt 0 (length (names_of (OnGrid name job))) ≡ true
+names-some name (Frames s) = refl
+names-some name Facts = refl
+names-some name (Make m) = refl
+names-some name (Check c) = refl
+names-some name (Fit f) = refl
+names-some name (MakeFit m) = refl
+names-some name (CheckFit c) = refl
+
+in-time-then : (late middle last : Bool) (faults : ℕ) → IsInTime late faults middle → last ≡ middle → IsInTime late faults last
+in-time-then late middle last faults one same not_late none = same ∙ one not_late none
+
+same-in-time : (late last : Bool) (faults : ℕ) → last ≡ late → IsInTime late faults last
+same-in-time late last faults same not_late none = same ∙ not_late
+
+module _ (before now : Moment) (name : List ℕ) (job : Job) (idle : before.under_way ≡ false) (only : OnlyReads before now)
+    (opened : now.shelf.opens ≡ before.shelf.opens + 1)
+    (in_time : IsInTime before.shelf_late before.shelf_faults now.shelf_late) where
+  abbrev command : Option Command
+  command = Some (OnGrid name job)
+
+  -- a read of its grid failed, or its opening
+  pub grid-failed : Rose before.shelf_faults now.shelf_faults
+      → ((files : List NamedFile) → before.shelf.files ≡ Some files
+      → StopsReading IsUndecided (bytes_of files name) now.shelf.rest now.shelf.ended)
+      → Runs before now command ReadFault None
+  grid-failed rose stops = record {
+    ends = ends-by-status before now (OnGrid name job) ReadFault None
+        (λ files are. record { ends = λ m r. absurd (r refl) })
+        (λ is. (let P : Told → Type 0 = λ t. CommandReadFault before.sinks t before.shelf now.shelf (OnGrid name job) in
+        subst P (sym only.sinks) (grid-fault before.sinks before.shelf now.shelf name job opened stops)))
+        (λ e. cc);
+    leaves = record {
+      files = only.files;
+      idle = λ not. only.under_way ∙ idle;
+      opens = record {
+        done = λ e. cc;
+        script_refused = λ e. cc;
+        grid_refused = λ e. cc;
+        usage = λ e. cc;
+        read_fault = λ e. omega (arith, opened);
+        rejected = λ e. cc;
+        least = omega (arith, opened);
+        most = omega (arith, opened);
+      };
+      read_out = λ e. cc;
+      engine = none-left command ReadFault (none-unended name job ReadFault refl);
+      shelf_in_time = in_time;
+      meshes_in_time = same-in-time _ _ _ only.mesh_late;
+      report_in_time = same-in-time _ _ _ only.report_late;
+    };
+    allowed = names-some name job;
+    causes = record {
+      read = λ e. rose;
+      not_read = λ not. absurd (not refl);
+      writes = record {
+        write = λ e. cc;
+        not_write = λ not. record { meshes_same = ap (λ (t : Told). t.mesh_faults) only.sinks; report_same = ap (λ (t : Told). t.report_faults) only.sinks };
+      };
+    };
+  }
+
+  -- memory ran out once so much of its grid was read
+  pub grid-spent : now.shelf_faults ≡ before.shelf_faults
+      → ((files : List NamedFile) → before.shelf.files ≡ Some files → HasReadHeader (bytes_of files name) now.shelf.rest)
+      → Runs before now command NoMemory None
+  grid-spent calm header = record {
+    ends = ends-by-status before now (OnGrid name job) NoMemory None
+        (λ files are. record { ends = λ m r. absurd (m refl) })
+        (λ e. cc)
+        (λ is. (let P : Told → Type 0 = λ t. CommandNoMemory before.sinks t before.shelf now.shelf (OnGrid name job) in
+        subst P (sym only.sinks) (grid-memory before.sinks before.shelf now.shelf name job opened header)));
+    leaves = record {
+      files = only.files;
+      idle = λ not. only.under_way ∙ idle;
+      opens = record {
+        done = λ e. cc;
+        script_refused = λ e. cc;
+        grid_refused = λ e. cc;
+        usage = λ e. cc;
+        read_fault = λ e. cc;
+        rejected = λ e. cc;
+        least = omega (arith, opened);
+        most = omega (arith, opened);
+      };
+      read_out = λ e. cc;
+      engine = none-left command NoMemory (none-unended name job NoMemory refl);
+      shelf_in_time = in_time;
+      meshes_in_time = same-in-time _ _ _ only.mesh_late;
+      report_in_time = same-in-time _ _ _ only.report_late;
+    };
+    allowed = refl;
+    causes = record {
+      read = λ e. cc;
+      not_read = λ not. calm;
+      writes = record {
+        write = λ e. cc;
+        not_write = λ not. record { meshes_same = ap (λ (t : Told). t.mesh_faults) only.sinks; report_same = ap (λ (t : Told). t.report_faults) only.sinks };
+      };
+    };
+  }
+
+module _ (before middle now : Moment) (name : List ℕ) (job : Job) (k : ℕ) (idle : before.under_way ≡ false)
+    (read : HasOpened before middle k) (text : List ℕ) (meant : Status)
+    (outcome : (files : List NamedFile) → before.shelf.files ≡ Some files
+    → IsCommandOutcome (OnGrid name job) files (text_outcome text meant k)) where
+  abbrev named : Option Command
+  named = Some (OnGrid name job)
+
+  opens-now : (status : Status) → TellsLast middle now text meant status → now.shelf.opens ≡ middle.shelf.opens
+  opens-now status tells = ap (λ (s : Seen). s.opens) tells.shelf
+
+  mesh-faults : middle.sinks.mesh_faults ≡ before.sinks.mesh_faults
+  mesh-faults = ap (λ (t : Told). t.mesh_faults) read.only.sinks
+
+  report-faults : middle.sinks.report_faults ≡ before.sinks.report_faults
+  report-faults = ap (λ (t : Told). t.report_faults) read.only.sinks
+
+  by-status : (status : Status) → status ≢ ReadFault → status ≢ NoMemory → TellsLast middle now text meant status
+      → OpensForStatus before.shelf.opens middle.shelf.opens (file_count named) status → IsTrue (may_end named status)
+      → leaves_engine named status ≡ false → (status ≡ Done → HasEnded middle.shelf) → Runs before now named status None
+  by-status status not_read not_memory tells opens allowed left ended = record {
+    ends = ends-by-status before now (OnGrid name job) status None
+        (λ files are. record {
+          ends = λ m r. (
+            text_outcome text meant k,
+            outcome files (are (omega arith)),
+            record {
+              opened = opens-now status tells ∙ read.opens;
+              complete = (subst D read.only.sinks (tells.does k)).complete;
+              cut_short = (subst D read.only.sinks (tells.does k)).cut_short;
+            },
+            λ complete. refl,
+          );
+        })
+        (λ is. absurd (not_read is))
+        (λ is. absurd (not_memory is));
+    leaves = record {
+      files = ap (λ (s : Seen). s.files) tells.shelf ∙ read.only.files;
+      idle = λ not. tells.idle not ∙ (read.only.under_way ∙ idle);
+      opens = subst O (sym (opens-now status tells)) opens;
+      read_out = λ done some. subst HasEnded (sym tells.shelf) (ended done);
+      engine = none-left named status left;
+      shelf_in_time = in-time-then _ _ _ _ read.in_time tells.shelf_late;
+      meshes_in_time = λ not_late none. tells.meshes_in_time (read.only.mesh_late ∙ not_late) (mesh-faults ∙ none);
+      report_in_time = λ not_late none. tells.report_in_time (read.only.report_late ∙ not_late) (report-faults ∙ none);
+    };
+    allowed = allowed;
+    causes = record {
+      read = λ is. absurd (not_read is);
+      not_read = λ not. tells.shelf_faults ∙ read.faults;
+      writes = subst W read.only.sinks tells.writes;
+    };
+  }
+    where
+      D : Told → Type 0
+      D t = DoesAs t now.sinks (text_outcome text meant k) status
+
+      O : ℕ → Type 0
+      O opened = OpensForStatus before.shelf.opens opened (file_count named) status
+
+      W : Told → Type 0
+      W t = StatusWritesHaveCause t.mesh_faults now.sinks.mesh_faults t.report_faults now.sinks.report_faults status
+
+  -- a command ended with one text, which was its outcome
+  pub text-runs : (status : Status) → TellsLast middle now text meant status → 1 ≤ k → k ≤ file_count named
+      → IsTrue (is_complete meant) → IsTrue (may_end named meant) → leaves_engine named meant ≡ false
+      → OpensForStatus before.shelf.opens middle.shelf.opens (file_count named) meant → (meant ≡ Done → HasEnded middle.shelf)
+      → Runs before now named status None
+  text-runs status tells some within complete allowed left opens ended = elim tells.ends [
+    | inl is ↦ by-status status (λ e. not-complete meant ReadFault refl complete (sym is ∙ e))
+        (λ e. not-complete meant NoMemory refl complete (sym is ∙ e)) tells
+        (subst (λ (s : Status). OpensForStatus before.shelf.opens middle.shelf.opens (file_count named) s) (sym is) opens)
+        (subst (λ (s : Status). IsTrue (may_end named s)) (sym is) allowed)
+        (subst (λ (s : Status). leaves_engine named s ≡ false) (sym is) left)
+        (λ done. ended (sym is ∙ done))
+    | inr is ↦ by-status status (λ e. apart-read (sym is ∙ e)) (λ e. apart-memory (sym is ∙ e)) tells
+        (subst (λ (s : Status). OpensForStatus before.shelf.opens middle.shelf.opens (file_count named) s) (sym is) cut-opens)
+        (subst (λ (s : Status). IsTrue (may_end named s)) (sym is) refl)
+        (subst (λ (s : Status). leaves_engine named s ≡ false) (sym is) (none-unended name job WriteFault refl))
+        (λ done. absurd (apart-done (sym is ∙ done)))
+  ]
+    where
+      apart-read : WriteFault ≢ ReadFault
+      apart-read e = cc
+
+      apart-memory : WriteFault ≢ NoMemory
+      apart-memory e = cc
+
+      apart-done : WriteFault ≢ Done
+      apart-done e = cc
+
+      cut-opens : OpensForStatus before.shelf.opens middle.shelf.opens (file_count named) WriteFault
+      cut-opens = record {
+        done = λ e. cc;
+        script_refused = λ e. cc;
+        grid_refused = λ e. cc;
+        usage = λ e. cc;
+        read_fault = λ e. cc;
+        rejected = λ e. cc;
+        least = omega (arith, read.opens);
+        most = omega (arith, read.opens, within);
+      }
+
+-- the refusal of its grid ended a command
+pub grid-refused : (before middle now : Moment) (name : List ℕ) (job : Job) (fault : PgmFault) (text : List ℕ) (status : Status)
+    → before.under_way ≡ false → HasOpened before middle 1 → text ≡ grid_refusal fault
+    → ((files : List NamedFile) → before.shelf.files ≡ Some files → grid_of (bytes_of files name) ≡ Err fault)
+    → TellsLast middle now text GridRefused status → Runs before now (Some (OnGrid name job)) status None
+grid-refused before middle now name job fault text status idle read is refused tells =
+    text-runs before middle now name job 1 idle read text GridRefused
+    (λ files told. subst (λ (r : Result HeightField PgmFault). IsGridOutcome job r files (text_outcome text GridRefused 1)) (sym (refused files told))
+    (ap (λ (t : List ℕ). text_outcome t GridRefused 1) is))
+    status tells (omega arith) (omega arith) refl (names-some name job) (none-unended name job GridRefused refl)
+    (record {
+      done = λ e. cc;
+      script_refused = λ e. cc;
+      grid_refused = λ e. read.opens;
+      usage = λ e. cc;
+      read_fault = λ e. cc;
+      rejected = λ e. cc;
+      least = omega (arith, read.opens);
+      most = omega (arith, read.opens);
+    })
+    (λ e. cc)
+
+-- a command whose only file is its grid ended with the text that its job makes of it
+pub line-runs : (before middle now : Moment) (name : List ℕ) (job : Job) (grid : HeightField) (text : List ℕ) (status : Status)
+    → before.under_way ≡ false → ReadsGrid before middle name grid → file_count (Some (OnGrid name job)) ≡ 1
+    → leaves_engine (Some (OnGrid name job)) Done ≡ false
+    → ((files : List NamedFile) → IsJobOutcome job grid files (text_outcome text Done 1))
+    → TellsLast middle now text Done status → Runs before now (Some (OnGrid name job)) status None
+line-runs before middle now name job grid text status idle read one left outcome tells =
+    text-runs before middle now name job 1 idle read.opened text Done
+    (λ files told. subst (λ (r : Result HeightField PgmFault). IsGridOutcome job r files (text_outcome text Done 1)) (sym (read.is_grid files told)) (outcome files))
+    status tells (omega arith) (omega arith) refl refl left
+    (record {
+      done = λ e. omega (arith, read.opened.opens, one);
+      script_refused = λ e. cc;
+      grid_refused = λ e. cc;
+      usage = λ e. cc;
+      read_fault = λ e. cc;
+      rejected = λ e. cc;
+      least = omega (arith, read.opened.opens);
+      most = omega (arith, read.opened.opens, one);
+    })
+    (λ e. read.ended)
+
+-- memory ran out behind a grid that was read
+pub spent-runs : (before now : Moment) (name : List ℕ) (job : Job) (grid : HeightField) → before.under_way ≡ false
+    → ReadsGrid before now name grid → Runs before now (Some (OnGrid name job)) NoMemory None
+spent-runs before now name job grid idle read =
+    grid-spent before now name job idle read.opened.only read.opened.opens read.opened.in_time read.opened.faults read.header
