@@ -1,4 +1,4 @@
-//! A certificate, read from a shelf.
+//! A certificate, read from the outside of a run.
 
 ghost use Rattle.std.specs.Prelude.{◌≡◌, ◌≢◌, ◌+◌, ◌*◌, ◌≤◌, ◌++◌, ◌∷◌, [], ℕ, List, All, IfOk, OnOk, Some, None, Ok, Err, length};
 ghost use Rattle.mesh_defs.specs.Triangle.{IsAddress};
@@ -8,12 +8,13 @@ ghost use Rattle.roam_edge.specs.Shelf.{NamedFile, bytes_of};
 ghost use Rattle.cert_text.specs.CertReader.{cert_line_in, nothing_read};
 ghost use Rattle.run_laws.specs.CertFile.{HasCertCome, CertHasRead, cert_of, cert_in};
 ghost use Rattle.run_laws.specs.FileStop.{StopsReading};
+ghost use Rattle.run_laws.specs.Moment.{OnlyReads};
 ghost use Rattle.run_files.specs.CertStage.{place_seen, IsCounted, TakesCert, EndsCert};
 
 use crate::grid_file::PIECE;
+use crate::outside::Outside;
 use arrayvec::ArrayVec;
 use cert_text::{Cert, CertFault, CertReader, text_laws};
-use roam_edge::Shelf;
 use roam_script::MOST_LINE_BYTES;
 use std::alloc::Global;
 
@@ -150,36 +151,38 @@ fn finished(reader: CertReader) -> Result<Cert, CertStop>
 }
 
 /// Reads the certificate of this name to its end or its first line that is refused, of the grid of side 2^n.
-pub fn read_cert<F: Shelf>(
+pub fn read_cert<O: Outside>(
     alloc: Global,
     n: u32,
     name: &str,
-    shelf: &mut F,
+    outside: &mut O,
 ) -> Result<Cert, CertStop>
     requires in_grid { (1 ≤ n) × (n ≤ GREATEST_LEVEL) }
-    ensures ok { IfOk result (λ cert. (files : List NamedFile) → F.files shelf.old ≡ Some files →
+    ensures ok { IfOk result (λ cert. (files : List NamedFile) → (O.moment outside.old).shelf.files ≡ Some files →
         cert_in n (bytes_of files name.now) ≡ Ok cert) }
     ensures leaves { IfOk result (λ cert. All (IsAddress n) cert.leaves) }
     ensures bad_line { (line : ℕ) → result ≡ Err (CertStop.BadLine line) →
-        (files : List NamedFile) → F.files shelf.old ≡ Some files →
+        (files : List NamedFile) → (O.moment outside.old).shelf.files ≡ Some files →
         cert_in n (bytes_of files name.now) ≡ Err line }
     // Where a read failed, no line that was read is refused.
-    ensures undecided { result ≡ Err CertStop.Failed → (files : List NamedFile) → F.files shelf.old ≡ Some files →
+    ensures undecided { result ≡ Err CertStop.Failed → (files : List NamedFile) → (O.moment outside.old).shelf.files ≡ Some files →
         StopsReading (CertHasRead n) (bytes_of files name.now)
-        (F.rest shelf.new) (F.ended shelf.new) }
-    ensures files { F.files shelf.new ≡ F.files shelf.old }
-    ensures opens { F.opens shelf.new ≡ next_count (F.opens shelf.old) }
-    ensures failed { result ≡ Err CertStop.Failed → Rose (F.faults shelf.old) (F.faults shelf.new) }
-    ensures no_fault { result ≢ Err CertStop.Failed → F.faults shelf.new ≡ F.faults shelf.old }
-    ensures in_time { IsInTime (F.late shelf.old) (F.faults shelf.old) (F.late shelf.new) }
+        (O.moment outside.new).shelf.rest (O.moment outside.new).shelf.ended }
+    ensures same { O.is_same outside.old outside.new }
+    ensures only { OnlyReads (O.moment outside.old) (O.moment outside.new) }
+    ensures opens { (O.moment outside.new).shelf.opens ≡ next_count (O.moment outside.old).shelf.opens }
+    ensures failed { result ≡ Err CertStop.Failed → Rose (O.moment outside.old).shelf_faults (O.moment outside.new).shelf_faults }
+    ensures no_fault { result ≢ Err CertStop.Failed → (O.moment outside.new).shelf_faults ≡ (O.moment outside.old).shelf_faults }
+    ensures in_time { IsInTime (O.moment outside.old).shelf_late (O.moment outside.old).shelf_faults
+        (O.moment outside.new).shelf_late }
 {
-    let Ok(()) = shelf.open_named(name) else {
+    let Ok(()) = outside.open_named(name) else {
         return Err(CertStop::Failed);
     };
     let mut stage = CertStage::new(alloc, n);
     let mut buffer = [0; PIECE];
     'pieces: loop {
-        let Ok(count) = shelf.read(&mut buffer) else {
+        let Ok(count) = outside.read(&mut buffer) else {
             return Err(CertStop::Failed);
         };
         if count == 0 {

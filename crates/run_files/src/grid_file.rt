@@ -1,16 +1,22 @@
-//! A grid, read from a shelf.
+//! The grid of a command.
 
-ghost use Rattle.std.specs.Prelude.{◌≡◌, ◌≢◌, List, [], OnOk, IfOk, IfErr, Some, Ok, Err};
+ghost use Rattle.std.specs.Prelude.{◌≡◌, ◌≢◌, ◌^◌, ◌≤◌, List, [], OnOk, IfOk, IfErr, Some, None, Ok, Err, false};
 ghost use Rattle.roam_edge.specs.Fault.{Rose, next_count, IsInTime};
 ghost use Rattle.roam_edge.specs.Shelf.{NamedFile, bytes_of};
 ghost use Rattle.pgm_grid.specs.declared.fault.PgmFault.{PgmFault as Fault};
 ghost use Rattle.pgm_grid.specs.Progress.{grid_of, resume};
-ghost use Rattle.run_laws.specs.Promise.{shelf_tells, HasEnded, HasReadHeader, IsUndecided};
+ghost use Rattle.run_laws.specs.Promise.{HasEnded, HasReadHeader, IsUndecided};
 ghost use Rattle.run_laws.specs.FileStop.{StopsReading};
+ghost use Rattle.word_laws.specs.Words.{Job, OnGrid};
+ghost use Rattle.run_laws.specs.Moment.{OnlyReads};
+ghost use Rattle.run_laws.specs.Leaving.{Runs, ReadsGrid};
 ghost use Rattle.run_files.specs.GridStop.{stop_for};
 
+use crate::end::end_with_text;
+use crate::outside::Outside;
+use crate::report::grid_report;
 use pgm_grid::{Grid, PgmFault, PgmReader, grids_and_texts};
-use roam_edge::Shelf;
+use run_laws::Status;
 use std::alloc::Global;
 
 /// How many bytes are asked for at once.
@@ -28,29 +34,35 @@ pub enum GridStop {
 }
 
 /// Reads the file of this name to its end or its first refusal.
-pub fn read_grid<F: Shelf>(alloc: Global, name: &str, shelf: &mut F) -> Result<Grid, GridStop>
-    ensures ok { IfOk result (λ grid. (files : List NamedFile) → F.files shelf.old ≡ Some files →
+pub fn read_grid<O: Outside>(alloc: Global, name: &str, outside: &mut O) -> Result<Grid, GridStop>
+    ensures ok { IfOk result (λ grid. (files : List NamedFile) → (O.moment outside.old).shelf.files ≡ Some files →
         grid_of (bytes_of files name.now) ≡ Ok grid) }
     // A file that is read was read to its end, and begins with a whole header.
-    ensures ended { OnOk result (HasEnded (shelf_tells F.Shelf shelf.new)) }
-    ensures header { OnOk result ((files : List NamedFile) → F.files shelf.old ≡ Some files →
-        HasReadHeader (bytes_of files name.now) (F.rest shelf.new)) }
+    ensures ended { OnOk result (HasEnded (O.moment outside.new).shelf) }
+    ensures header { OnOk result ((files : List NamedFile) → (O.moment outside.old).shelf.files ≡ Some files →
+        HasReadHeader (bytes_of files name.now) (O.moment outside.new).shelf.rest) }
     ensures refused { (fault : Fault) → result ≡ Err (GridStop.Refused fault) →
-        (files : List NamedFile) → F.files shelf.old ≡ Some files →
+        (files : List NamedFile) → (O.moment outside.old).shelf.files ≡ Some files →
         grid_of (bytes_of files name.now) ≡ Err fault }
     ensures no_memory { result ≡ Err GridStop.NoMemory →
-        (files : List NamedFile) → F.files shelf.old ≡ Some files →
-        HasReadHeader (bytes_of files name.now) (F.rest shelf.new) }
+        (files : List NamedFile) → (O.moment outside.old).shelf.files ≡ Some files →
+        HasReadHeader (bytes_of files name.now) (O.moment outside.new).shelf.rest }
     // Where a read failed, no refusal of the grid is settled yet.
-    ensures undecided { result ≡ Err GridStop.Failed → (files : List NamedFile) → F.files shelf.old ≡ Some files →
-        StopsReading IsUndecided (bytes_of files name.now) (F.rest shelf.new) (F.ended shelf.new) }
-    ensures files { F.files shelf.new ≡ F.files shelf.old }
-    ensures opens { F.opens shelf.new ≡ next_count (F.opens shelf.old) }
-    ensures failed { result ≡ Err GridStop.Failed → Rose (F.faults shelf.old) (F.faults shelf.new) }
-    ensures no_fault { result ≢ Err GridStop.Failed → F.faults shelf.new ≡ F.faults shelf.old }
-    ensures in_time { IsInTime (F.late shelf.old) (F.faults shelf.old) (F.late shelf.new) }
+    ensures undecided { result ≡ Err GridStop.Failed →
+        (files : List NamedFile) → (O.moment outside.old).shelf.files ≡ Some files →
+        StopsReading IsUndecided (bytes_of files name.now)
+        (O.moment outside.new).shelf.rest (O.moment outside.new).shelf.ended }
+    ensures same { O.is_same outside.old outside.new }
+    ensures only { OnlyReads (O.moment outside.old) (O.moment outside.new) }
+    ensures opens { (O.moment outside.new).shelf.opens ≡ next_count (O.moment outside.old).shelf.opens }
+    ensures failed { result ≡ Err GridStop.Failed →
+        Rose (O.moment outside.old).shelf_faults (O.moment outside.new).shelf_faults }
+    ensures no_fault { result ≢ Err GridStop.Failed →
+        (O.moment outside.new).shelf_faults ≡ (O.moment outside.old).shelf_faults }
+    ensures in_time { IsInTime (O.moment outside.old).shelf_late (O.moment outside.old).shelf_faults
+        (O.moment outside.new).shelf_late }
 {
-    let Ok(()) = shelf.open_named(name) else {
+    let Ok(()) = outside.open_named(name) else {
         return Err(GridStop::Failed);
     };
     // No refusal of a file's bytes says that a call was out of memory.
@@ -58,7 +70,7 @@ pub fn read_grid<F: Shelf>(alloc: Global, name: &str, shelf: &mut F) -> Result<G
     let mut reader = PgmReader::new(alloc);
     let mut buffer = [0; PIECE];
     'pieces: loop {
-        let Ok(count) = shelf.read(&mut buffer) else {
+        let Ok(count) = outside.read(&mut buffer) else {
             return Err(GridStop::Failed);
         };
         if count == 0 {
@@ -67,6 +79,27 @@ pub fn read_grid<F: Shelf>(alloc: Global, name: &str, shelf: &mut F) -> Result<G
         if let Err(fault) = reader.feed(&buffer[..count]) {
             return Err(stop_of(fault));
         }
+    }
+}
+
+/// Reads the grid of this name, or ends the command: a refusal is told, and a failed read and want of memory are its end too.
+pub fn grid_or_end<O: Outside>(alloc: Global, name: &str, outside: &mut O) -> Result<Grid, Status>
+    requires idle { (O.moment outside.old).under_way ≡ false }
+    requires opens { (O.moment outside.old).shelf.opens ≤ 2 ^ 63 }
+    ensures same { O.is_same outside.old outside.new }
+    ensures ok { IfOk result (λ grid. ReadsGrid (O.moment outside.old) (O.moment outside.new) name.now grid) }
+    ensures err { IfErr result (λ status. (job : Job) →
+        Runs (O.moment outside.old) (O.moment outside.new) (Some (OnGrid name.now job)) status None) }
+{
+    match read_grid(alloc, name, outside) {
+        Ok(grid) => Ok(grid),
+        Err(GridStop::NoMemory) => Err(Status::NoMemory),
+        Err(GridStop::Failed) => Err(Status::ReadFault),
+        Err(GridStop::Refused(fault)) => Err(end_with_text(
+            grid_report(fault).as_slice(),
+            Status::GridRefused,
+            outside,
+        )),
     }
 }
 

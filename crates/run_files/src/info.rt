@@ -1,26 +1,19 @@
 //! The command `info`, and its line.
 
-ghost use Rattle.std.specs.Prelude.{ℕ, ◌≡◌, ◌≢◌, ◌+◌, ◌^◌, ◌<◌, ◌≤◌, List, Option, None, Some, max, length};
-ghost use Rattle.roam_edge.specs.Fault.{IsInTime};
+ghost use Rattle.std.specs.Prelude.{◌≡◌, ◌^◌, ◌<◌, ◌≤◌, None, Some, false, max, length};
 ghost use Rattle.mesh_defs.specs.BoundingBox.{least, greatest};
 ghost use Rattle.mesh_defs.specs.Thickness.{thickness_of};
-ghost use Rattle.roam_edge.specs.MeshSink.{Mesh};
-ghost use Rattle.roam_edge.specs.Shelf.{NamedFile};
-ghost use Rattle.run_laws.specs.Act.{report_tells};
-ghost use Rattle.run_laws.specs.Cause.{StatusHasCause};
 ghost use Rattle.word_laws.specs.Words.{OnGrid, Facts};
 ghost use Rattle.run_laws.specs.ReportText.{info_line};
-ghost use Rattle.run_laws.specs.Promise.{shelf_tells, HasEnded, CommandReadFault, CommandNoMemory};
-ghost use Rattle.run_laws.specs.Leaving.{CommandEnds};
+ghost use Rattle.run_laws.specs.Leaving.{Runs};
 
 use crate::end::end_with_text;
-use crate::grid_file::{GridStop, read_grid};
-use crate::report::grid_report;
+use crate::grid_file::grid_or_end;
+use crate::outside::Outside;
 use crate::text::Text;
 use arrayvec::ArrayVec;
 use bintree_addr::Tri;
 use pgm_grid::side_for;
-use roam_edge::{Shelf, Sink};
 use roam_lanes::range;
 use roam_num::{push_bytes, push_number};
 use run_laws::Status;
@@ -29,54 +22,18 @@ use wedgie_tree::Wedges;
 
 /// Carries out the command `info`: reads the grid of this name, and writes one line about it. All memory is taken before the line is
 /// written.
-pub fn run_info<F: Shelf, R: Sink>(
-    alloc: Global,
-    name: &str,
-    shelf: &mut F,
-    report: &mut R,
-) -> Status
-    requires { F.opens shelf.old ≤ 2 ^ 63 }
-    ensures outcome { (meshes : Option (List Mesh)) (count : ℕ) (files : List NamedFile) →
-        F.files shelf.old ≡ Some files →
-        CommandEnds (report_tells R.Sink meshes count report.old)
-        (report_tells R.Sink meshes count report.new)
-        (shelf_tells F.Shelf shelf.old)
-        (shelf_tells F.Shelf shelf.new)
-        (OnGrid name.now Facts) files result None }
-    ensures read_fault { result ≡ Status.ReadFault → (meshes : Option (List Mesh)) (count : ℕ) →
-        CommandReadFault (report_tells R.Sink meshes count report.old)
-        (report_tells R.Sink meshes count report.new)
-        (shelf_tells F.Shelf shelf.old)
-        (shelf_tells F.Shelf shelf.new)
-        (OnGrid name.now Facts) }
-    ensures no_memory { result ≡ Status.NoMemory → (meshes : Option (List Mesh)) (count : ℕ) →
-        CommandNoMemory (report_tells R.Sink meshes count report.old)
-        (report_tells R.Sink meshes count report.new)
-        (shelf_tells F.Shelf shelf.old)
-        (shelf_tells F.Shelf shelf.new)
-        (OnGrid name.now Facts) }
-    ensures status { (result ≢ Status.Usage) × (result ≢ Status.ScriptRefused) × (result ≢ Status.Rejected) }
-    ensures faults { StatusHasCause (F.faults shelf.old) (F.faults shelf.new) 0 0
-        (R.faults report.old) (R.faults report.new) result }
-    ensures opens { F.opens shelf.new ≡ F.opens shelf.old + 1 }
-    ensures files { F.files shelf.new ≡ F.files shelf.old }
-    ensures done { result ≡ Status.Done →
-        HasEnded (shelf_tells F.Shelf shelf.new) }
-    ensures shelf_in_time { IsInTime (F.late shelf.old) (F.faults shelf.old) (F.late shelf.new) }
-    ensures report_in_time { IsInTime (R.late report.old) (R.faults report.old) (R.late report.new) }
+pub fn run_info<O: Outside>(alloc: Global, name: &str, outside: &mut O) -> Status
+    requires idle { (O.moment outside.old).under_way ≡ false }
+    requires opens { (O.moment outside.old).shelf.opens ≤ 2 ^ 63 }
+    ensures same { O.is_same outside.old outside.new }
+    ensures runs { Runs (O.moment outside.old) (O.moment outside.new) (Some (OnGrid name.now Facts)) result None }
 {
-    match read_grid(alloc, name, shelf) {
+    match grid_or_end(alloc, name, outside) {
         Ok(grid) => match Wedges::build(alloc, grid) {
-            Ok(wedges) => end_with_text(info_report(&wedges).as_slice(), Status::Done, report),
+            Ok(wedges) => end_with_text(info_report(&wedges).as_slice(), Status::Done, outside),
             Err(_) => Status::NoMemory,
         },
-        Err(GridStop::NoMemory) => Status::NoMemory,
-        Err(GridStop::Failed) => Status::ReadFault,
-        Err(GridStop::Refused(fault)) => end_with_text(
-            grid_report(fault).as_slice(),
-            Status::GridRefused,
-            report,
-        ),
+        Err(status) => status,
     }
 }
 

@@ -20,6 +20,7 @@ pub mod ShownLemmas
 pub mod FileLemmas
 pub mod StageLemmas
 pub mod GridLemmas
+pub mod DoesLemmas
 pub mod StatementLemmas
 pub mod RunLemmas
 mod GeneratedLemmas

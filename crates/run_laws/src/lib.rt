@@ -9,7 +9,6 @@
 mod cut_short;
 mod generated;
 mod laws;
-mod maker;
 mod statement;
 mod status;
 
@@ -19,6 +18,5 @@ pub use laws::{
     certify_examples, certify_laws, fitting_laws, measure_examples, run_laws, script_examples,
     state_laws, turn_count_laws, walk_laws,
 };
-pub use maker::FrameMaker;
 pub use statement::statement_laws;
 pub use status::Status;

@@ -12,7 +12,8 @@ pieces-init g c = record {
   unsettled = start-unsettled _ c.new-reader.ensures.value;
   few = omega (arith, c.new-reader.ensures.count);
   open_file = search rules;
-  files = search rules;
+  same = search rules;
+  only = search rules;
   opens = search rules;
   faults = search rules;
   in_time = search rules;
@@ -33,7 +34,8 @@ pieces-preserved g c = record {
   unsettled = c.in_default-feed.ensures.unsettled;
   few = c.in_default-feed.ensures.limit;
   open_file = search rules;
-  files = search rules;
+  same = g.met.O.Outside.is_same_then _ _ _ c.pieces.invariant.same c.in-Ok-read.ensures.same;
+  only = search rules;
   opens = search rules;
   faults = search rules;
   in_time = search rules;
@@ -56,7 +58,7 @@ returns-then-count-eq0-clause-header g c =
 pub returns-then-count-eq0-clause-ended : goal.returns-then-count-eq0-clause-ended
 returns-then-count-eq0-clause-ended g c =
     grid-ended _ _ _ _ c.pieces.invariant.reading (λ unread is. (c.in-Ok-read.ensures.bytes.empty unread is).0 c.if-count-eq0.true)
-    _ _ _ c.in-Ok-read.count _ c.finished.result (c.in-Ok-read.ensures.others ∙ c.pieces.invariant.files) c.if-count-eq0.true (c.in-Ok-read.ensures.ends.at_end c.if-count-eq0.true)
+    _ _ _ c.in-Ok-read.count _ c.finished.result (c.in-Ok-read.ensures.only.files ∙ c.pieces.invariant.only.files) c.if-count-eq0.true (c.in-Ok-read.ensures.ends.at_end c.if-count-eq0.true)
     c.in-Ok-read.ensures.bytes.told c.in-Ok-read.ensures.bytes.takes
 
 pub returns-in_default-read-clause-undecided : goal.returns-in_default-read-clause-undecided

@@ -1,19 +1,18 @@
 //! What makes the frames of a script, and shows them.
 
-ghost use Rattle.std.specs.Prelude.{◌≡◌, ◌≢◌, ◌+◌, ◌<◌, ◌≤◌, ℕ, List, false, OnOk};
-ghost use Rattle.roam_edge.specs.Fault.{IsInTime};
+ghost use Rattle.std.specs.Prelude.{◌≡◌, ◌≢◌, ◌+◌, ◌<◌, ◌≤◌, ℕ, List, false};
 ghost use Rattle.mesh_defs.specs.declared.level.TheConstants.{GREATEST_LEVEL};
 ghost use Rattle.roam_script.specs.declared.limits.Limits.{Limits as LimitsSeen};
 ghost use Rattle.roam_script.specs.declared.limits.TheConstants.{MOST_LINES};
 ghost use Rattle.roam_script.specs.Laws.{LiesInRange};
-ghost use Rattle.run_laws.specs.Act.{sinks_tell};
-ghost use Rattle.run_laws.specs.Cause.{WritesHaveCause};
 ghost use Rattle.run_laws.specs.Picture.{Picture};
 ghost use Rattle.run_laws.specs.Walk.{Walk, limits_of, after_line};
 ghost use Rattle.word_laws.specs.Words.{Show};
 ghost use Rattle.run_laws.specs.Maker.{TakesFrame};
+ghost use Rattle.run_laws.specs.Moment.{OnlyWrites};
 
-use roam_edge::{Failed, MeshSink, Sink};
+use crate::outside::Outside;
+use roam_edge::Failed;
 use roam_script::{Limits, Line};
 
 /// Carries out the lines of a script, one after the other: those that make a frame, and those that change what is seen.
@@ -46,22 +45,14 @@ pub trait FrameMaker {
         ensures ready { (lines : ℕ) → is_ready self.old lines → is_ready self.new (lines + 1) };
 
     /// Makes the frame of a line, and shows it.
-    fn take_frame<M: MeshSink, R: Sink>(
-        &mut self,
-        meshes: &mut M,
-        report: &mut R,
-    ) -> Result<(), Failed>
-        requires idle { M.under_way meshes.old ≡ false }
+    fn take_frame<O: Outside>(&mut self, outside: &mut O) -> Result<(), Failed>
+        requires idle { (O.moment outside.old).under_way ≡ false }
         requires ready { (lines : ℕ) × is_ready self.old lines × (lines < MOST_LINES) }
         requires ranges { (limits : LimitsSeen) × is_under self.old limits × LiesInRange limits Line.Frame }
         ensures outcome { (show : Show) (walk : Walk) (pictures : List Picture) → follows self.old show walk pictures →
-            TakesFrame (sinks_tell M.MeshSink R.Sink meshes.old report.old)
-            (sinks_tell M.MeshSink R.Sink meshes.new report.new)
+            TakesFrame (O.moment outside.old).sinks (O.moment outside.new).sinks
             show walk pictures (follows self.new) result }
         ensures ready { (lines : ℕ) → is_ready self.old lines → is_ready self.new (lines + 1) }
-        ensures idle { OnOk result (M.under_way meshes.new ≡ false) }
-        ensures faults { WritesHaveCause (M.faults meshes.old) (M.faults meshes.new)
-            (R.faults report.old) (R.faults report.new) result }
-        ensures meshes_in_time { IsInTime (M.late meshes.old) (M.faults meshes.old) (M.late meshes.new) }
-        ensures report_in_time { IsInTime (R.late report.old) (R.faults report.old) (R.late report.new) };
+        ensures same { O.is_same outside.old outside.new }
+        ensures only { OnlyWrites (O.moment outside.old) (O.moment outside.new) result };
 }
