@@ -10,7 +10,7 @@ use Rattle.run_laws.specs.Act.{Act, WholeMesh, ReportText, Told, Stands, IsCutSh
 use Rattle.run_laws.specs.Cause.{NoFault, WriteFaults, WritesHaveCause}
 use Rattle.run_laws.specs.Promise.{is_complete}
 use Rattle.run_laws.specs.Moment.{Moment, OnlyWrites, Does}
-use Rattle.run_laws.specs.Leaving.{TellsLast}
+use Rattle.run_laws.specs.Leaving.{EndsWith}
 use Rattle.run_laws.proofs.ActLemmas.{grows-nothing, stands-append, cut-append, cut-longer, cut-mesh, cut-only-line, stands-text}
 use Rattle.run_laws.proofs.GridLemmas.{not-complete}
 
@@ -176,10 +176,10 @@ does-cut before now first second error did = record {
   cut_short = cut-longer before.sinks now.sinks first second did.cut_short;
 }
 
--- the last text of a run was written
-pub tells-done : {T E : Type 0} (before now : Moment) (text : List ℕ) (meant : Status) (one : T) → IsTrue (is_complete meant)
-    → Does {T = T} {E = E} before now (ReportText text ∷ []) (Ok one) → TellsLast before now text meant meant
-tells-done before now text meant one complete did = record {
+-- the last acts of a run were done
+pub ends-done : {T E : Type 0} (before now : Moment) (acts : List Act) (meant : Status) (one : T) → IsTrue (is_complete meant)
+    → Does {T = T} {E = E} before now acts (Ok one) → EndsWith before now acts meant meant
+ends-done before now acts meant one complete did = record {
   shelf = did.only.shelf;
   shelf_faults = did.only.shelf_faults;
   shelf_late = did.only.shelf_late;
@@ -191,10 +191,10 @@ tells-done before now text meant one complete did = record {
   report_in_time = did.only.report_in_time;
 }
 
--- or it was cut short
-pub tells-cut : {T E : Type 0} (before now : Moment) (text : List ℕ) (meant : Status) (error : E)
-    → Does {T = T} {E = E} before now (ReportText text ∷ []) (Err error) → TellsLast before now text meant WriteFault
-tells-cut before now text meant error did = record {
+-- or they were cut short
+pub ends-cut : {T E : Type 0} (before now : Moment) (acts : List Act) (meant : Status) (error : E)
+    → Does {T = T} {E = E} before now acts (Err error) → EndsWith before now acts meant WriteFault
+ends-cut before now acts meant error did = record {
   shelf = did.only.shelf;
   shelf_faults = did.only.shelf_faults;
   shelf_late = did.only.shelf_late;

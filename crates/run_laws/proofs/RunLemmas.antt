@@ -1,5 +1,5 @@
 -- How a command on a grid is carried out: it stops at its grid, memory runs out, or one text ends it.
-use Rattle.std.proofs.Common.{◌≡◌, ◌≢◌, ◌⊎◌, ◌↔◌, ℕ, ◌+◌, ◌^◌, ◌≤◌, ◌&&◌, Bool, true, false, IsTrue, IsSome, List, [], length, nat_lt, Option, None, Some, Result, Ok, Err, inl, inr, refl, sym, ◌∙◌, ap, subst, arith}
+use Rattle.std.proofs.Common.{◌≡◌, ◌≢◌, ◌⊎◌, ◌↔◌, ℕ, ◌+◌, ◌^◌, ◌≤◌, ◌&&◌, Bool, true, false, IsTrue, IsSome, List, [], ◌∷◌, length, nat_lt, Option, None, Some, Result, Ok, Err, inl, inr, refl, sym, ◌∙◌, ap, subst, arith}
 use Rattle.roam_edge.specs.Fault.{Rose, next_count, IsInTime}
 use Rattle.roam_edge.specs.Shelf.{NamedFile, bytes_of}
 use Rattle.run_laws.specs.declared.status.Status.{Status}
@@ -8,15 +8,15 @@ use Rattle.word_laws.specs.Words.{Job, Command, OnGrid, is_of_engine, Frames, Fa
 use Rattle.mesh_defs.specs.HeightField.{HeightField}
 use Rattle.pgm_grid.specs.declared.fault.PgmFault.{PgmFault}
 use Rattle.pgm_grid.specs.Progress.{grid_of}
-use Rattle.run_laws.specs.Act.{Told}
+use Rattle.run_laws.specs.Act.{Act, ReportText, Told}
 use Rattle.run_laws.specs.Cause.{StatusWritesHaveCause}
 use Rattle.run_laws.specs.ReportText.{grid_refusal}
-use Rattle.run_laws.specs.Outcome.{EngineEnd, text_outcome, IsJobOutcome, IsGridOutcome, IsCommandOutcome}
+use Rattle.run_laws.specs.Outcome.{EngineEnd, plain_outcome, text_outcome, IsJobOutcome, IsGridOutcome, IsCommandOutcome}
 use Rattle.run_laws.specs.Promise.{Seen, HasEnded, HasReadHeader, IsUndecided, OpensForStatus, CommandReadFault, CommandNoMemory, is_complete, ends_script, may_end, leaves_engine}
 use Rattle.run_laws.specs.Maker.{DoesAs}
 use Rattle.run_laws.specs.FileStop.{StopsReading}
 use Rattle.run_laws.specs.Moment.{Moment, OnlyReads}
-use Rattle.run_laws.specs.Leaving.{Runs, HasOpened, ReadsGrid, TellsLast}
+use Rattle.run_laws.specs.Leaving.{Runs, HasOpened, ReadsGrid, EndsWith, TellsLast}
 use Rattle.run_laws.proofs.GridLemmas.{not-complete, grid-fault, grid-memory}
 use Rattle.run_laws.proofs.StatementLemmas.{ends-by-status}
 
@@ -149,13 +149,13 @@ module _ (before now : Moment) (name : List ℕ) (job : Job) (idle : before.unde
   }
 
 module _ (before middle now : Moment) (name : List ℕ) (job : Job) (k : ℕ) (idle : before.under_way ≡ false)
-    (read : HasOpened before middle k) (text : List ℕ) (meant : Status)
+    (read : HasOpened before middle k) (acts : List Act) (meant : Status)
     (outcome : (files : List NamedFile) → before.shelf.files ≡ Some files
-    → IsCommandOutcome (OnGrid name job) files (text_outcome text meant k)) where
+    → IsCommandOutcome (OnGrid name job) files (plain_outcome acts meant k)) where
   abbrev named : Option Command
   named = Some (OnGrid name job)
 
-  opens-now : (status : Status) → TellsLast middle now text meant status → now.shelf.opens ≡ middle.shelf.opens
+  opens-now : (status : Status) → EndsWith middle now acts meant status → now.shelf.opens ≡ middle.shelf.opens
   opens-now status tells = ap (λ (s : Seen). s.opens) tells.shelf
 
   mesh-faults : middle.sinks.mesh_faults ≡ before.sinks.mesh_faults
@@ -164,14 +164,14 @@ module _ (before middle now : Moment) (name : List ℕ) (job : Job) (k : ℕ) (i
   report-faults : middle.sinks.report_faults ≡ before.sinks.report_faults
   report-faults = ap (λ (t : Told). t.report_faults) read.only.sinks
 
-  by-status : (status : Status) → status ≢ ReadFault → status ≢ NoMemory → TellsLast middle now text meant status
+  by-status : (status : Status) → status ≢ ReadFault → status ≢ NoMemory → EndsWith middle now acts meant status
       → OpensForStatus before.shelf.opens middle.shelf.opens (file_count named) status → IsTrue (may_end named status)
       → leaves_engine named status ≡ false → (status ≡ Done → HasEnded middle.shelf) → Runs before now named status None
   by-status status not_read not_memory tells opens allowed left ended = record {
     ends = ends-by-status before now (OnGrid name job) status None
         (λ files are. record {
           ends = λ m r. (
-            text_outcome text meant k,
+            plain_outcome acts meant k,
             outcome files (are (omega arith)),
             record {
               opened = opens-now status tells ∙ read.opens;
@@ -202,7 +202,7 @@ module _ (before middle now : Moment) (name : List ℕ) (job : Job) (k : ℕ) (i
   }
     where
       D : Told → Type 0
-      D t = DoesAs t now.sinks (text_outcome text meant k) status
+      D t = DoesAs t now.sinks (plain_outcome acts meant k) status
 
       O : ℕ → Type 0
       O opened = OpensForStatus before.shelf.opens opened (file_count named) status
@@ -210,12 +210,12 @@ module _ (before middle now : Moment) (name : List ℕ) (job : Job) (k : ℕ) (i
       W : Told → Type 0
       W t = StatusWritesHaveCause t.mesh_faults now.sinks.mesh_faults t.report_faults now.sinks.report_faults status
 
-  -- a command ended with one text, which was its outcome
-  pub text-runs : (status : Status) → TellsLast middle now text meant status → 1 ≤ k → k ≤ file_count named
+  -- a command ended with acts that are those of its outcome
+  pub acts-run : (status : Status) → EndsWith middle now acts meant status → 1 ≤ k → k ≤ file_count named
       → IsTrue (is_complete meant) → IsTrue (may_end named meant) → leaves_engine named meant ≡ false
       → OpensForStatus before.shelf.opens middle.shelf.opens (file_count named) meant → (meant ≡ Done → HasEnded middle.shelf)
       → Runs before now named status None
-  text-runs status tells some within complete allowed left opens ended = elim tells.ends [
+  acts-run status tells some within complete allowed left opens ended = elim tells.ends [
     | inl is ↦ by-status status (λ e. not-complete meant ReadFault refl complete (sym is ∙ e))
         (λ e. not-complete meant NoMemory refl complete (sym is ∙ e)) tells
         (subst (λ (s : Status). OpensForStatus before.shelf.opens middle.shelf.opens (file_count named) s) (sym is) opens)
@@ -250,6 +250,17 @@ module _ (before middle now : Moment) (name : List ℕ) (job : Job) (k : ℕ) (i
         most = omega (arith, read.opens, within);
       }
 
+-- one text ended a command
+pub text-runs : (before middle now : Moment) (name : List ℕ) (job : Job) (k : ℕ) → before.under_way ≡ false → HasOpened before middle k
+    → (text : List ℕ) (meant : Status) → ((files : List NamedFile) → before.shelf.files ≡ Some files
+    → IsCommandOutcome (OnGrid name job) files (text_outcome text meant k))
+    → (status : Status) → TellsLast middle now text meant status → 1 ≤ k → k ≤ file_count (Some (OnGrid name job))
+    → IsTrue (is_complete meant) → IsTrue (may_end (Some (OnGrid name job)) meant) → leaves_engine (Some (OnGrid name job)) meant ≡ false
+    → OpensForStatus before.shelf.opens middle.shelf.opens (file_count (Some (OnGrid name job))) meant
+    → (meant ≡ Done → HasEnded middle.shelf) → Runs before now (Some (OnGrid name job)) status None
+text-runs before middle now name job k idle read text meant outcome =
+    acts-run before middle now name job k idle read (ReportText text ∷ []) meant outcome
+
 -- the refusal of its grid ended a command
 pub grid-refused : (before middle now : Moment) (name : List ℕ) (job : Job) (fault : PgmFault) (text : List ℕ) (status : Status)
     → before.under_way ≡ false → HasOpened before middle 1 → text ≡ grid_refusal fault
@@ -272,16 +283,16 @@ grid-refused before middle now name job fault text status idle read is refused t
     })
     (λ e. cc)
 
--- a command whose only file is its grid ended with the text that its job makes of it
-pub line-runs : (before middle now : Moment) (name : List ℕ) (job : Job) (grid : HeightField) (text : List ℕ) (status : Status)
+-- a command whose only file is its grid ended with the acts of its job
+pub job-runs : (before middle now : Moment) (name : List ℕ) (job : Job) (grid : HeightField) (acts : List Act) (status : Status)
     → before.under_way ≡ false → ReadsGrid before middle name grid → file_count (Some (OnGrid name job)) ≡ 1
     → leaves_engine (Some (OnGrid name job)) Done ≡ false
-    → ((files : List NamedFile) → IsJobOutcome job grid files (text_outcome text Done 1))
-    → TellsLast middle now text Done status → Runs before now (Some (OnGrid name job)) status None
-line-runs before middle now name job grid text status idle read one left outcome tells =
-    text-runs before middle now name job 1 idle read.opened text Done
-    (λ files told. subst (λ (r : Result HeightField PgmFault). IsGridOutcome job r files (text_outcome text Done 1)) (sym (read.is_grid files told)) (outcome files))
-    status tells (omega arith) (omega arith) refl refl left
+    → ((files : List NamedFile) → IsJobOutcome job grid files (plain_outcome acts Done 1))
+    → EndsWith middle now acts Done status → Runs before now (Some (OnGrid name job)) status None
+job-runs before middle now name job grid acts status idle read one left outcome ends =
+    acts-run before middle now name job 1 idle read.opened acts Done
+    (λ files told. subst (λ (r : Result HeightField PgmFault). IsGridOutcome job r files (plain_outcome acts Done 1)) (sym (read.is_grid files told)) (outcome files))
+    status ends (omega arith) (omega arith) refl refl left
     (record {
       done = λ e. omega (arith, read.opened.opens, one);
       script_refused = λ e. cc;
@@ -293,6 +304,14 @@ line-runs before middle now name job grid text status idle read one left outcome
       most = omega (arith, read.opened.opens, one);
     })
     (λ e. read.ended)
+
+-- or with one text
+pub line-runs : (before middle now : Moment) (name : List ℕ) (job : Job) (grid : HeightField) (text : List ℕ) (status : Status)
+    → before.under_way ≡ false → ReadsGrid before middle name grid → file_count (Some (OnGrid name job)) ≡ 1
+    → leaves_engine (Some (OnGrid name job)) Done ≡ false
+    → ((files : List NamedFile) → IsJobOutcome job grid files (text_outcome text Done 1))
+    → TellsLast middle now text Done status → Runs before now (Some (OnGrid name job)) status None
+line-runs before middle now name job grid text = job-runs before middle now name job grid (ReportText text ∷ [])
 
 -- memory ran out behind a grid that was read
 pub spent-runs : (before now : Moment) (name : List ℕ) (job : Job) (grid : HeightField) → before.under_way ≡ false

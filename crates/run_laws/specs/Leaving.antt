@@ -1,6 +1,6 @@
 -- How a command is carried out: how it ends, what its engine tells then, and what reading its files and telling its end come to.
--- Words: CommandEnds, Runs, HasOpened, ReadsGrid, TellsLast.
-use Rattle.std.specs.Prelude.{◌≡◌, ◌≢◌, ◌⊎◌, ℕ, ◌+◌, IsTrue, List, Option, Some, Ok}
+-- Words: CommandEnds, Runs, HasOpened, ReadsGrid, EndsWith, TellsLast.
+use Rattle.std.specs.Prelude.{◌≡◌, ◌≢◌, ◌⊎◌, ℕ, ◌+◌, IsTrue, List, [], ◌∷◌, Option, Some, Ok}
 use Rattle.mesh_defs.specs.HeightField.{HeightField}
 use Rattle.roam_edge.specs.Fault.{IsInTime}
 use Rattle.roam_edge.specs.Shelf.{NamedFile, bytes_of}
@@ -8,9 +8,9 @@ use Rattle.pgm_grid.specs.Progress.{grid_of}
 use Rattle.run_laws.specs.declared.status.Status.{Status}
 use Rattle.run_laws.specs.declared.status.Status.TheVariants.{NoMemory, ReadFault, WriteFault}
 use Rattle.word_laws.specs.Words.{Command}
-use Rattle.run_laws.specs.Act.{Told}
+use Rattle.run_laws.specs.Act.{Act, ReportText, Told}
 use Rattle.run_laws.specs.Cause.{StatusHasCause, StatusWritesHaveCause}
-use Rattle.run_laws.specs.Outcome.{Outcome, EngineEnd, IsCommandOutcome, text_outcome}
+use Rattle.run_laws.specs.Outcome.{Outcome, EngineEnd, IsCommandOutcome, plain_outcome}
 use Rattle.run_laws.specs.Promise.{Seen, EndsAs, HasEnded, HasReadHeader, is_complete, may_end}
 use Rattle.run_laws.specs.Maker.{DoesAs}
 use Rattle.run_laws.specs.Moment.{Moment, OnlyReads}
@@ -47,15 +47,19 @@ pub record ReadsGrid (before now : Moment) (name : List ℕ) (grid : HeightField
       → HasReadHeader (bytes_of files name) now.shelf.rest
   pub is_grid : (files : List NamedFile) → before.shelf.files ≡ Some files → grid_of (bytes_of files name) ≡ Ok grid
 
--- the last text of a run was written, which ends with this status unless the write failed
-pub record TellsLast (before now : Moment) (text : List ℕ) (meant status : Status) : Type 0 where
+-- The last acts of a run were done, which ends with this status unless they were cut short.
+pub record EndsWith (before now : Moment) (acts : List Act) (meant status : Status) : Type 0 where
   pub shelf : now.shelf ≡ before.shelf
   pub shelf_faults : now.shelf_faults ≡ before.shelf_faults
   pub shelf_late : now.shelf_late ≡ before.shelf_late
   pub ends : (status ≡ meant) ⊎ (status ≡ WriteFault)
-  pub does : (files : ℕ) → DoesAs before.sinks now.sinks (text_outcome text meant files) status
+  pub does : (files : ℕ) → DoesAs before.sinks now.sinks (plain_outcome acts meant files) status
   pub idle : status ≢ WriteFault → now.under_way ≡ before.under_way
   pub writes : StatusWritesHaveCause before.sinks.mesh_faults now.sinks.mesh_faults
       before.sinks.report_faults now.sinks.report_faults status
   pub meshes_in_time : IsInTime before.mesh_late before.sinks.mesh_faults now.mesh_late
   pub report_in_time : IsInTime before.report_late before.sinks.report_faults now.report_late
+
+-- the last of them is one text
+abbrev pub TellsLast : Moment → Moment → List ℕ → Status → Status → Type 0
+TellsLast before now text meant status = EndsWith before now (ReportText text ∷ []) meant status
