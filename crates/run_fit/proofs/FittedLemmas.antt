@@ -1,5 +1,5 @@
 -- A frame is the mesh of its target; and that mesh, written or cut short, ends the command.
-use Rattle.std.proofs.Common.{◌≡◌, ℕ, ◌+◌, ◌-◌, ◌^◌, ◌<◌, ◌≤◌, List, [], ◌∷◌, length, None, Ok, inl, inr, refl, sym, ◌∙◌, ap, subst, arith, lit<}
+use Rattle.std.proofs.Common.{◌≡◌, false, ℕ, ◌+◌, ◌-◌, ◌^◌, ◌<◌, ◌≤◌, List, [], ◌∷◌, length, None, Some, inl, inr, refl, sym, ◌∙◌, ap, subst, arith, lit<}
 use Rattle.std.proofs.Math.Nat.{pow-le-pow_right}
 use Rattle.std.proofs.lemmas.Bool.{cases_lt}
 use Rattle.mesh_defs.specs.HeightField.{HeightField}
@@ -14,18 +14,15 @@ use Rattle.fit_laws.specs.Error.{error_of}
 use Rattle.fit_laws.specs.Budget.{IsBudgetMesh}
 use Rattle.fit_laws.proofs.FitLemmas.{fit_found, fit_mesh}
 use Rattle.fit_laws.proofs.ErrorLemmas.{error-finest, worst-deviation}
-use Rattle.roam_edge.specs.Shelf.{NamedFile, bytes_of}
-use Rattle.pgm_grid.specs.Progress.{grid_of}
 use Rattle.run_laws.specs.declared.status.Status.{Status}
-use Rattle.run_laws.specs.declared.status.Status.TheVariants.{Done, WriteFault}
+use Rattle.run_laws.specs.declared.status.Status.TheVariants.{Done}
 use Rattle.word_laws.specs.Words.{Target, AtError, InBudget, Fitting, Fit, OnGrid}
 use Rattle.run_laws.specs.Fit.{tolerance_of, IsFitFor, fit_text}
-use Rattle.run_laws.specs.Act.{Act, WholeMesh, ReportText, Told, Stands, IsCutShort}
+use Rattle.run_laws.specs.Act.{Act, WholeMesh, ReportText}
 use Rattle.run_laws.specs.Outcome.{plain_outcome, fit_acts}
-use Rattle.run_laws.specs.Promise.{Seen}
-use Rattle.run_laws.specs.Maker.{DoesAs}
-use Rattle.run_laws.specs.Leaving.{CommandEnds}
-use Rattle.run_laws.proofs.GridLemmas.{ends-as}
+use Rattle.run_laws.specs.Moment.{Moment}
+use Rattle.run_laws.specs.Leaving.{Runs, ReadsGrid, EndsWith}
+use Rattle.run_laws.proofs.RunLemmas.{job-runs}
 use Rattle.run_fit.specs.declared.fitted.Fitted.{Fitted}
 use Rattle.run_fit.specs.FittedSeen.{tolerance_for, budget_for, IsFittedTo, fit_numbers, fitted_acts}
 
@@ -114,18 +111,10 @@ acts-fitted w f target grid is =
     ∙ (ap (λ (k : ℕ). acts grid (length leaves) k f.note.deviation) is.vertices
     ∙ ap (λ (k : ℕ). acts grid (length leaves) (length (vertices_of grid.n leaves)) k) is.deviation))
 
-module _ (before now : Told) (old new : Seen) (name : List ℕ) (w : Fitting) (files : List NamedFile) (grid : HeightField) (f : Fitted)
-    (found : grid_of (bytes_of files name) ≡ Ok grid) (is : IsFittedTo f w.target grid) (opened : new.opens ≡ old.opens + 1) where
-  fitted-ends : (status : Status) → DoesAs before now (plain_outcome (fitted_acts w f) Done 1) status → CommandEnds before now old new (OnGrid name (Fit w)) files status None
-  fitted-ends status does =
-      let P : List Act → Type 0 = λ acts. DoesAs before now (plain_outcome acts Done 1) status in
-      ends-as before now old new name (Fit w) files (Ok grid) (plain_outcome (fit_acts w grid f.fit.leaves) Done 1) status found
-      (f.fit.leaves, is.fitted, refl) opened (subst P (acts-fitted w f w.target grid is) does) None (λ e. refl)
-
-  -- the mesh and its line stand
-  pub written-ends : Stands before now (fitted_acts w f) → CommandEnds before now old new (OnGrid name (Fit w)) files Done None
-  written-ends stands = fitted-ends Done (record { complete = λ e. (stands, refl); cut_short = λ e. cc })
-
-  -- or were cut short
-  pub cut-ends : IsCutShort before now (fitted_acts w f) → CommandEnds before now old new (OnGrid name (Fit w)) files WriteFault None
-  cut-ends cut = fitted-ends WriteFault (record { complete = λ e. cc; cut_short = λ e. cut })
+-- the mesh and its line end the command, written or cut short
+pub fitted-runs : (before middle now : Moment) (name : List ℕ) (w : Fitting) (grid : HeightField) (f : Fitted) (status : Status)
+    → before.under_way ≡ false → ReadsGrid before middle name grid → IsFittedTo f w.target grid
+    → EndsWith middle now (fitted_acts w f) Done status → Runs before now (Some (OnGrid name (Fit w))) status None
+fitted-runs before middle now name w grid f status idle read is ends =
+    job-runs before middle now name (Fit w) grid (fitted_acts w f) status idle read refl refl
+    (λ files. (f.fit.leaves, is.fitted, ap (λ (acts : List Act). plain_outcome acts Done 1) (acts-fitted w f w.target grid is))) ends

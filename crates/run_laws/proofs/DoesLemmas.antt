@@ -176,6 +176,11 @@ does-cut before now first second error did = record {
   cut_short = cut-longer before.sinks now.sinks first second did.cut_short;
 }
 
+-- what was done, in other words
+pub does-same : {T E : Type 0} (before now : Moment) (acts other : List Act) (answer : Result T E) → acts ≡ other
+    → Does before now acts answer → Does before now other answer
+does-same before now acts other answer same does = subst (λ (l : List Act). Does before now l answer) same does
+
 -- the last acts of a run were done
 pub ends-done : {T E : Type 0} (before now : Moment) (acts : List Act) (meant : Status) (one : T) → IsTrue (is_complete meant)
     → Does {T = T} {E = E} before now acts (Ok one) → EndsWith before now acts meant meant
