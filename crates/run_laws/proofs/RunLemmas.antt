@@ -1,30 +1,33 @@
 -- How a command on a grid is carried out: it stops at its grid, memory runs out, or one text ends it.
+use Rattle.std.proofs.Math.Nat.{min-eq_left}
 use Rattle.std.proofs.Common.{◌≡◌, ◌≢◌, ◌⊎◌, ◌↔◌, ℕ, ◌+◌, ◌^◌, ◌≤◌, ◌&&◌, Bool, true, false, IsTrue, IsSome, List, [], ◌∷◌, length, nat_lt, Option, None, Some, Result, Ok, Err, inl, inr, refl, sym, ◌∙◌, ap, subst, arith}
 use Rattle.roam_edge.specs.Fault.{Rose, next_count, IsInTime}
 use Rattle.roam_edge.specs.Shelf.{NamedFile, bytes_of}
 use Rattle.run_laws.specs.declared.status.Status.{Status}
-use Rattle.run_laws.specs.declared.status.Status.TheVariants.{Done, NoMemory, GridRefused, ReadFault, WriteFault}
-use Rattle.word_laws.specs.Words.{Job, Command, OnGrid, is_of_engine, Frames, Facts, Make, Check, Fit, MakeFit, CheckFit, names_of, file_count}
+use Rattle.run_laws.specs.declared.status.Status.TheVariants.{Done, NoMemory, Usage, GridRefused, ScriptRefused, ReadFault, WriteFault}
+use Rattle.word_laws.specs.Words.{Show, Scripted, Job, Command, OnGrid, is_of_engine, Frames, Facts, Make, Check, Fit, MakeFit, CheckFit, names_of, file_count}
 use Rattle.mesh_defs.specs.HeightField.{HeightField}
 use Rattle.pgm_grid.specs.declared.fault.PgmFault.{PgmFault}
 use Rattle.pgm_grid.specs.Progress.{grid_of}
 use Rattle.run_laws.specs.Act.{Act, ReportText, Told}
-use Rattle.run_laws.specs.Cause.{StatusWritesHaveCause}
+use Rattle.run_laws.specs.Cause.{StatusHasCause, StatusWritesHaveCause}
 use Rattle.run_laws.specs.ReportText.{grid_refusal}
-use Rattle.run_laws.specs.Outcome.{EngineEnd, plain_outcome, text_outcome, IsJobOutcome, IsGridOutcome, IsCommandOutcome}
+use Rattle.run_laws.specs.Picture.{Picture}
+use Rattle.run_laws.specs.Walk.{Walk}
+use Rattle.run_laws.specs.Outcome.{Outcome, EngineEnd, plain_outcome, text_outcome, IsJobOutcome, IsGridOutcome, IsCommandOutcome}
 use Rattle.run_laws.specs.Promise.{Seen, HasEnded, HasReadHeader, IsUndecided, OpensForStatus, CommandReadFault, CommandNoMemory, is_complete, ends_script, may_end, leaves_engine}
-use Rattle.run_laws.specs.Maker.{DoesAs}
+use Rattle.run_laws.specs.Maker.{DoesAs, IsScriptEnd, Leaves, EndsScript, ScriptHasCome}
 use Rattle.run_laws.specs.FileStop.{StopsReading}
 use Rattle.run_laws.specs.Moment.{Moment, OnlyReads}
-use Rattle.run_laws.specs.Leaving.{Runs, HasOpened, ReadsGrid, EndsWith, TellsLast}
-use Rattle.run_laws.proofs.GridLemmas.{not-complete, grid-fault, grid-memory}
+use Rattle.run_laws.specs.Leaving.{CommandEnds, Runs, HasOpened, ReadsGrid, EndsWith, TellsLast, LeavesByScript}
+use Rattle.run_laws.proofs.GridLemmas.{not-complete, grid-fault, grid-memory, first_walk, script-ends, script-fault}
 use Rattle.run_laws.proofs.StatementLemmas.{ends-by-status}
 
 abbrev no-engine : Option EngineEnd
 no-engine = None
 
 -- no engine is left where the definitions leave none
-none-left : (command : Option Command) (status : Status) → leaves_engine command status ≡ false
+pub none-left : (command : Option Command) (status : Status) → leaves_engine command status ≡ false
     → IsSome no-engine ↔ IsTrue (leaves_engine command status)
 none-left command status is =
     let P : Bool → Type 0 = λ b. IsSome no-engine ↔ IsTrue b in
@@ -318,3 +321,92 @@ pub spent-runs : (before now : Moment) (name : List ℕ) (job : Job) (grid : Hei
     → ReadsGrid before now name grid → Runs before now (Some (OnGrid name job)) NoMemory None
 spent-runs before now name job grid idle read =
     grid-spent before now name job idle read.opened.only read.opened.opens read.opened.in_time read.opened.faults read.header
+
+-- a script was carried out over a grid that was read, by what makes its frames
+module _ (before middle now : Moment) (name : List ℕ) (s : Scripted) (grid : HeightField) (idle : before.under_way ≡ false)
+    (few : before.shelf.opens ≤ 2 ^ 63) (read : ReadsGrid before middle name grid)
+    (follows : Show → Walk → List Picture → Type 0) (left : Option EngineEnd) where
+  abbrev scripted : Option Command
+  scripted = Some (OnGrid name (Frames s))
+
+  two-opens : (status : Status) → LeavesByScript middle now status → now.shelf.opens ≡ before.shelf.opens + 2
+  two-opens status leaves =
+      let one = read.opened.opens in
+      let more : now.shelf.opens ≡ middle.shelf.opens + 1 = leaves.opens ∙ min-eq_left (omega (arith, few, one)) in
+      omega (arith, one, more)
+
+  script-allowed : (status : Status) → (status ≡ ReadFault) ⊎ IsScriptEnd status → IsTrue (may_end scripted status)
+  script-allowed status (inl fault) = subst (λ (e : Status). IsTrue (may_end scripted e)) (sym fault) refl
+  script-allowed status (inr (inl done)) = subst (λ (e : Status). IsTrue (may_end scripted e)) (sym done) refl
+  script-allowed status (inr (inr (inl refused))) = subst (λ (e : Status). IsTrue (may_end scripted e)) (sym refused) refl
+  script-allowed status (inr (inr (inr failed))) = subst (λ (e : Status). IsTrue (may_end scripted e)) (sym failed) refl
+
+  script-opens : (status : Status) → (status ≡ ReadFault) ⊎ IsScriptEnd status → now.shelf.opens ≡ before.shelf.opens + 2
+      → OpensForStatus before.shelf.opens now.shelf.opens 2 status
+  script-opens status is opened = record {
+    done = λ e. opened;
+    script_refused = λ e. opened;
+    grid_refused = λ e. absurd (not-refused is e);
+    usage = λ e. absurd (not-usage is e);
+    read_fault = λ e. omega (arith, opened);
+    rejected = λ e. omega (arith, opened);
+    least = omega (arith, opened);
+    most = omega (arith, opened);
+  }
+    where
+      not-refused : (status ≡ ReadFault) ⊎ IsScriptEnd status → status ≡ GridRefused → ⊥
+      not-refused (inl a) e = cc
+      not-refused (inr (inl a)) e = cc
+      not-refused (inr (inr (inl a))) e = cc
+      not-refused (inr (inr (inr a))) e = cc
+
+      not-usage : (status ≡ ReadFault) ⊎ IsScriptEnd status → status ≡ Usage → ⊥
+      not-usage (inl a) e = cc
+      not-usage (inr (inl a)) e = cc
+      not-usage (inr (inr (inl a))) e = cc
+      not-usage (inr (inr (inr a))) e = cc
+
+  script-memory : (status : Status) → (status ≡ ReadFault) ⊎ IsScriptEnd status → status ≡ NoMemory → ⊥
+  script-memory status (inl a) e = cc
+  script-memory status (inr (inl a)) e = cc
+  script-memory status (inr (inr (inl a))) e = cc
+  script-memory status (inr (inr (inr a))) e = cc
+
+  pub script-runs : (status : Status) → (status ≡ ReadFault) ⊎ IsScriptEnd status → LeavesByScript middle now status
+      → (IsSome left ↔ IsTrue (leaves_engine scripted status))
+      → ((end : Outcome) → IsTrue (is_complete status) → Leaves s.show follows end → left ≡ end.engine)
+      → ((files : List NamedFile) → before.shelf.files ≡ Some files → status ≢ ReadFault
+      → EndsScript middle.sinks now.sinks s.show follows (first_walk s grid) (bytes_of files s.script) status)
+      → (status ≡ ReadFault → (files : List NamedFile) → before.shelf.files ≡ Some files
+      → StopsReading (ScriptHasCome middle.sinks now.sinks s.show (first_walk s grid)) (bytes_of files s.script) now.shelf.rest now.shelf.ended)
+      → Runs before now scripted status left
+  script-runs status is leaves engine same does stops =
+      let opened = two-opens status leaves in
+      let sinks = read.opened.only.sinks in
+      record {
+        ends = ends-by-status before now (OnGrid name (Frames s)) status left
+            (λ files are. (let told = are (omega arith) in
+            let P : Told → Type 0 = λ t. CommandEnds t now.sinks before.shelf now.shelf (OnGrid name (Frames s)) files status left in
+            subst P sinks (script-ends s grid middle.sinks now.sinks before.shelf now.shelf name opened files status follows left (read.is_grid files told)
+            same (does files told))))
+            (λ fault. (let P : Told → Type 0 = λ t. CommandReadFault t now.sinks before.shelf now.shelf (OnGrid name (Frames s)) in
+            subst P sinks (script-fault s grid middle.sinks now.sinks before.shelf now.shelf name opened read.is_grid (stops fault))))
+            (λ memory. absurd (script-memory status is memory));
+        leaves = record {
+          files = leaves.files ∙ read.opened.only.files;
+          idle = λ not. leaves.idle not ∙ (read.opened.only.under_way ∙ idle);
+          opens = script-opens status is opened;
+          read_out = λ done some. leaves.read_out done;
+          engine = engine;
+          shelf_in_time = λ not_late none. leaves.shelf_in_time (read.opened.in_time not_late none) (read.opened.faults ∙ none);
+          meshes_in_time = λ not_late none. leaves.meshes_in_time (read.opened.only.mesh_late ∙ not_late)
+              (ap (λ (t : Told). t.mesh_faults) sinks ∙ none);
+          report_in_time = λ not_late none. leaves.report_in_time (read.opened.only.report_late ∙ not_late)
+              (ap (λ (t : Told). t.report_faults) sinks ∙ none);
+        };
+        allowed = script-allowed status is;
+        causes = subst (λ (t : Told). StatusHasCause before.shelf_faults now.shelf_faults t.mesh_faults now.sinks.mesh_faults
+            t.report_faults now.sinks.report_faults status) sinks
+            (subst (λ (k : ℕ). StatusHasCause k now.shelf_faults middle.sinks.mesh_faults now.sinks.mesh_faults
+            middle.sinks.report_faults now.sinks.report_faults status) read.opened.faults leaves.causes);
+      }

@@ -1,12 +1,12 @@
 -- How a command is carried out: how it ends, what its engine tells then, and what reading its files and telling its end come to.
--- Words: CommandEnds, Runs, HasOpened, ReadsGrid, EndsWith, TellsLast.
+-- Words: CommandEnds, Runs, HasOpened, ReadsGrid, EndsWith, TellsLast, LeavesByScript.
 use Rattle.std.specs.Prelude.{◌≡◌, ◌≢◌, ◌⊎◌, ℕ, ◌+◌, IsTrue, List, [], ◌∷◌, Option, Some, Ok}
 use Rattle.mesh_defs.specs.HeightField.{HeightField}
-use Rattle.roam_edge.specs.Fault.{IsInTime}
+use Rattle.roam_edge.specs.Fault.{IsInTime, next_count}
 use Rattle.roam_edge.specs.Shelf.{NamedFile, bytes_of}
 use Rattle.pgm_grid.specs.Progress.{grid_of}
 use Rattle.run_laws.specs.declared.status.Status.{Status}
-use Rattle.run_laws.specs.declared.status.Status.TheVariants.{NoMemory, ReadFault, WriteFault}
+use Rattle.run_laws.specs.declared.status.Status.TheVariants.{Done, NoMemory, ReadFault, WriteFault}
 use Rattle.word_laws.specs.Words.{Command}
 use Rattle.run_laws.specs.Act.{Act, ReportText, Told}
 use Rattle.run_laws.specs.Cause.{StatusHasCause, StatusWritesHaveCause}
@@ -63,3 +63,15 @@ pub record EndsWith (before now : Moment) (acts : List Act) (meant status : Stat
 -- the last of them is one text
 abbrev pub TellsLast : Moment → Moment → List ℕ → Status → Status → Type 0
 TellsLast before now text meant status = EndsWith before now (ReportText text ∷ []) meant status
+
+-- A script was opened once, and read to its end where the run is done. How it leaves the outside, and that the status has its cause.
+pub record LeavesByScript (before now : Moment) (status : Status) : Type 0 where
+  pub files : now.shelf.files ≡ before.shelf.files
+  pub opens : now.shelf.opens ≡ next_count before.shelf.opens
+  pub read_out : status ≡ Done → HasEnded now.shelf
+  pub idle : status ≢ WriteFault → now.under_way ≡ before.under_way
+  pub causes : StatusHasCause before.shelf_faults now.shelf_faults before.sinks.mesh_faults now.sinks.mesh_faults
+      before.sinks.report_faults now.sinks.report_faults status
+  pub shelf_in_time : IsInTime before.shelf_late before.shelf_faults now.shelf_late
+  pub meshes_in_time : IsInTime before.mesh_late before.sinks.mesh_faults now.mesh_late
+  pub report_in_time : IsInTime before.report_late before.sinks.report_faults now.report_late

@@ -78,5 +78,5 @@ module _ (old new : LeastFrames) (prefix : new.prefix.now ≡ old.prefix.now) (t
         }
 
 -- the meshes of a tolerance leave none
-pub none-left : (prefix : List ℕ) (tolerance : ℕ) (follows : Show → Walk → List Picture → Type 0) (end : Outcome) → Leaves (AsLeast prefix tolerance) follows end → None ≡ end.engine
-none-left prefix tolerance follows end leaves = leaves.left
+pub least-leaves : (prefix : List ℕ) (tolerance : ℕ) (follows : Show → Walk → List Picture → Type 0) (end : Outcome) → Leaves (AsLeast prefix tolerance) follows end → None ≡ end.engine
+least-leaves prefix tolerance follows end leaves = leaves.left

@@ -1,3 +1,4 @@
 pub mod StageLemmas
 pub mod LeastLemmas
 pub mod EndLemmas
+pub mod OnlyLemmas

@@ -1,12 +1,14 @@
 -- What the calls do that carry a script out, by their answers.
--- Words: status_for, NotFailed, StopsHaveCause, IsRefused, TakesBytes.
+-- Words: status_for, NotFailed, StopsHaveCause, OnlyTakes, OnlyEnds, GoesOn, IsRefused, TakesBytes.
 use Rattle.std.specs.Prelude.{◌≡◌, ◌≢◌, ℕ, List, Result, Err, OnOk}
+use Rattle.roam_edge.specs.Fault.{IsInTime, next_count}
 use Rattle.run_laws.specs.declared.status.Status.{Status}
 use Rattle.run_laws.specs.declared.status.Status.TheVariants as ends
 use Rattle.run_laws.specs.Walk.{Walk}
 use Rattle.word_laws.specs.Words.{Show}
 use Rattle.run_laws.specs.Act.{Told}
-use Rattle.run_laws.specs.Cause.{NoFault, WriteFaults}
+use Rattle.run_laws.specs.Cause.{NoFault, WriteFaults, StatusWritesHaveCause}
+use Rattle.run_laws.specs.Moment.{Moment}
 use Rattle.run_laws.specs.Picture.{Picture}
 use Rattle.run_laws.specs.Outcome.{engine_for}
 use Rattle.run_laws.specs.Step.{Refuses, Cuts}
@@ -28,6 +30,39 @@ NotFailed answer = answer ≢ Err Failed
 pub record StopsHaveCause {T : Type 0} (meshes meshes' report report' : ℕ) (answer : Result T Stop) : Type 0 where
   pub failed : answer ≡ Err Failed → WriteFaults meshes meshes' report report'
   pub others : NotFailed answer → NoFault meshes meshes' report report'
+
+-- Taking bytes calls no shelf, and fails exactly where a sink does; else no other mesh is under way than before.
+pub record OnlyTakes {T : Type 0} (before now : Moment) (answer : Result T Stop) : Type 0 where
+  pub shelf : now.shelf ≡ before.shelf
+  pub shelf_faults : now.shelf_faults ≡ before.shelf_faults
+  pub shelf_late : now.shelf_late ≡ before.shelf_late
+  pub idle : NotFailed answer → now.under_way ≡ before.under_way
+  pub faults : StopsHaveCause before.sinks.mesh_faults now.sinks.mesh_faults
+      before.sinks.report_faults now.sinks.report_faults answer
+  pub meshes_in_time : IsInTime before.mesh_late before.sinks.mesh_faults now.mesh_late
+  pub report_in_time : IsInTime before.report_late before.sinks.report_faults now.report_late
+
+-- the same of the end of a script, by the status
+pub record OnlyEnds (before now : Moment) (status : Status) : Type 0 where
+  pub shelf : now.shelf ≡ before.shelf
+  pub shelf_faults : now.shelf_faults ≡ before.shelf_faults
+  pub shelf_late : now.shelf_late ≡ before.shelf_late
+  pub idle : status ≢ ends.WriteFault → now.under_way ≡ before.under_way
+  pub faults : StatusWritesHaveCause before.sinks.mesh_faults now.sinks.mesh_faults
+      before.sinks.report_faults now.sinks.report_faults status
+  pub meshes_in_time : IsInTime before.mesh_late before.sinks.mesh_faults now.mesh_late
+  pub report_in_time : IsInTime before.report_late before.sinks.report_faults now.report_late
+
+-- a script was opened, and nothing has failed since
+pub record GoesOn (before now : Moment) : Type 0 where
+  pub files : now.shelf.files ≡ before.shelf.files
+  pub opens : now.shelf.opens ≡ next_count before.shelf.opens
+  pub shelf_faults : now.shelf_faults ≡ before.shelf_faults
+  pub idle : now.under_way ≡ before.under_way
+  pub faults : NoFault before.sinks.mesh_faults now.sinks.mesh_faults before.sinks.report_faults now.sinks.report_faults
+  pub shelf_in_time : IsInTime before.shelf_late before.shelf_faults now.shelf_late
+  pub meshes_in_time : IsInTime before.mesh_late before.sinks.mesh_faults now.mesh_late
+  pub report_in_time : IsInTime before.report_late before.sinks.report_faults now.report_late
 
 -- A line that was read is refused, whatever follows. What makes the frames has followed the walk of the lines before it, behind
 -- which the same engine is left.

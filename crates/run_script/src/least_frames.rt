@@ -1,7 +1,6 @@
 //! The least meshes of a tolerance.
 
-ghost use Rattle.std.specs.Prelude.{◌≡◌, ◌≢◌, ◌+◌, ◌<◌, ◌≤◌, IfOk, false, [], length, OnOk, OnErr};
-ghost use Rattle.roam_edge.specs.Fault.{IsInTime};
+ghost use Rattle.std.specs.Prelude.{◌≡◌, ◌≢◌, ◌+◌, ◌<◌, ◌≤◌, IfOk, false, [], length};
 ghost use Rattle.mesh_defs.specs.Priority.{worst_of};
 ghost use Rattle.mesh_defs.specs.State.{start_state, priority_in};
 ghost use Rattle.roam_edge.specs.declared.mesh_sink.TheConstants.{LONGEST_PREFIX, GREATEST_NUMBER};
@@ -10,8 +9,7 @@ ghost use Rattle.roam_script.specs.declared.limits.Limits.{Limits as LimitsSeen}
 ghost use Rattle.roam_script.specs.declared.limits.TheConstants.{MOST_FRAMES};
 ghost use Rattle.wedgie_tree.specs.declared.wedges.TheConstants.{GREATEST_SPACING};
 ghost use Rattle.least_laws.specs.Least.{IsLeastList};
-ghost use Rattle.run_laws.specs.Act.{sinks_tell, Stands, IsCutShort};
-ghost use Rattle.run_laws.specs.Cause.{WritesHaveCause};
+ghost use Rattle.run_laws.specs.Moment.{Does};
 ghost use Rattle.run_laws.specs.Walk.{start_walk, state_after};
 ghost use Rattle.word_laws.specs.Words.{AsLeast};
 ghost use Rattle.run_words.specs.ShowView.{IsPrefixLength};
@@ -21,13 +19,12 @@ use arrayvec::ArrayVec;
 use cull_marks::{Plane, Planes};
 use height_edit::raise_area;
 use least_mesh::{Least, LeastNote};
-use obj_write::{MeshView, write_mesh};
+use obj_write::MeshView;
 use pgm_grid::Grid;
-use roam_edge::{Failed, MeshSink, NoMemory, Sink};
+use roam_edge::{Failed, NoMemory};
 use roam_num::push_bytes;
 use roam_script::{Limits, Line};
-use run_files::{Text, push_placed};
-use run_laws::FrameMaker;
+use run_files::{FrameMaker, Outside, Text, push_placed, show_mesh};
 use std::alloc::Global;
 use view_priority::{Camera, Meter};
 use wedgie_tree::Wedges;
@@ -139,13 +136,8 @@ impl<'a> LeastFrames<'a> {
     }
 
     /// Writes the mesh, and then the line of its frame, of which this is the note. The line comes only after the mesh was finished.
-    fn show<M: MeshSink, R: Sink>(
-        &self,
-        note: &LeastNote,
-        meshes: &mut M,
-        report: &mut R,
-    ) -> Result<(), Failed>
-        requires idle { M.under_way meshes.old ≡ false }
+    fn show<O: Outside>(&self, note: &LeastNote, outside: &mut O) -> Result<(), Failed>
+        requires idle { (O.moment outside.old).under_way ≡ false }
         requires prefix_some { 0 < length self.now.prefix.now }
         requires prefix_short { length self.now.prefix.now ≤ LONGEST_PREFIX }
         requires number_low { 1 ≤ self.now.frames }
@@ -153,15 +145,8 @@ impl<'a> LeastFrames<'a> {
         requires level { self.now.least.n ≡ self.now.wedges.n }
         requires spacing_low { 1 ≤ self.now.spacing }
         requires spacing_high { self.now.spacing ≤ GREATEST_SPACING }
-        ensures ok { OnOk result (Stands (sinks_tell M.MeshSink R.Sink meshes.old report.old)
-            (sinks_tell M.MeshSink R.Sink meshes.new report.new) (least_acts self.now note.now)) }
-        ensures idle { OnOk result (M.under_way meshes.new ≡ false) }
-        ensures err { OnErr result (IsCutShort (sinks_tell M.MeshSink R.Sink meshes.old report.old)
-            (sinks_tell M.MeshSink R.Sink meshes.new report.new) (least_acts self.now note.now)) }
-        ensures faults { WritesHaveCause (M.faults meshes.old) (M.faults meshes.new)
-            (R.faults report.old) (R.faults report.new) result }
-        ensures meshes_in_time { IsInTime (M.late meshes.old) (M.faults meshes.old) (M.late meshes.new) }
-        ensures report_in_time { IsInTime (R.late report.old) (R.faults report.old) (R.late report.new) }
+        ensures same { O.is_same outside.old outside.new }
+        ensures does { Does (O.moment outside.old) (O.moment outside.new) (least_acts self.now note.now) result }
     {
         let view = MeshView {
             wedges: &self.wedges,
@@ -170,8 +155,8 @@ impl<'a> LeastFrames<'a> {
             spacing: self.spacing,
             planes: &self.planes,
         };
-        write_mesh(&view, self.prefix, self.frames, meshes)?;
-        report.write(least_report(self.frames, note).as_slice())
+        let line = least_report(self.frames, note);
+        show_mesh(&view, self.prefix, self.frames, line.as_slice(), outside)
     }
 }
 
@@ -198,13 +183,9 @@ impl<'a> FrameMaker for LeastFrames<'a> {
         self.change(line);
     }
 
-    fn take_frame<M: MeshSink, R: Sink>(
-        &mut self,
-        meshes: &mut M,
-        report: &mut R,
-    ) -> Result<(), Failed> {
+    fn take_frame<O: Outside>(&mut self, outside: &mut O) -> Result<(), Failed> {
         let note = self.make_mesh();
-        self.show(&note, meshes, report)
+        self.show(&note, outside)
     }
 }
 

@@ -12,5 +12,5 @@ mod script;
 mod stage;
 
 pub use least_run::run_least;
-pub use run_laws::FrameMaker;
+pub use run_files::FrameMaker;
 pub use script::run_script;

@@ -1,25 +1,23 @@
 //! A script, carried out as its bytes come.
 
 ghost use Rattle.std.specs.Prelude.{◌≡◌, ◌≢◌, ◌+◌, ◌*◌, ◌≤◌, ◌⊎◌, ℕ, List, ◌∷◌, [], ◌++◌, Some, Err, false, length, OnOk};
-ghost use Rattle.roam_edge.specs.Fault.{HasCause, next_count, IsInTime};
 ghost use Rattle.roam_edge.specs.Shelf.{NamedFile, bytes_of};
-ghost use Rattle.roam_edge.specs.Sink.{Appends};
-ghost use Rattle.run_laws.specs.Cause.{StatusHasCause, StatusWritesHaveCause};
-ghost use Rattle.run_laws.specs.Promise.{shelf_tells, HasEnded};
 ghost use Rattle.run_laws.specs.Walk.{Walk};
 ghost use Rattle.word_laws.specs.Words.{Show};
-ghost use Rattle.run_laws.specs.Act.{Told, sinks_tell};
+ghost use Rattle.run_laws.specs.Act.{ReportText, Told};
+ghost use Rattle.run_laws.specs.Moment.{Does};
+ghost use Rattle.run_laws.specs.Leaving.{LeavesByScript};
 ghost use Rattle.run_laws.specs.ReportText.{line_refusal};
 ghost use Rattle.run_script.specs.StageView.{IsStage, IsAt};
 ghost use Rattle.run_laws.specs.Maker.{Starts, Begins, refusal, IsScriptEnd, EndsScript, ScriptHasCome};
 ghost use Rattle.run_laws.specs.FileStop.{StopsReading};
-ghost use Rattle.run_script.specs.Taking.{NotFailed, StopsHaveCause, TakesBytes, status_for};
+ghost use Rattle.run_script.specs.Taking.{OnlyTakes, OnlyEnds, TakesBytes, status_for};
 
 use crate::stage::Stage;
-use roam_edge::{Failed, MeshSink, Shelf, Sink};
+use roam_edge::Failed;
 use roam_script::{Line, ScriptFault, line_laws, read_line};
-use run_files::{PIECE, line_report};
-use run_laws::{FrameMaker, Status, state_laws};
+use run_files::{FrameMaker, Outside, PIECE, line_report};
+use run_laws::{Status, state_laws};
 
 /// Why a run goes no further.
 #[derive(Clone, Copy, Debug, PartialEq, Eq)]
@@ -31,45 +29,40 @@ pub(crate) enum Stop {
 }
 
 /// Writes that a line is refused.
-fn refuse<R: Sink>(number: u32, fault: ScriptFault, report: &mut R) -> Result<(), Failed>
-    ensures bytes { Appends (R.contents report.old) (R.contents report.new)
-        (line_refusal (refusal number fault)) result }
-    ensures faults { HasCause (R.faults report.old) (R.faults report.new) result }
-    ensures in_time { IsInTime (R.late report.old) (R.faults report.old) (R.late report.new) }
+fn refuse<O: Outside>(number: u32, fault: ScriptFault, outside: &mut O) -> Result<(), Failed>
+    ensures same { O.is_same outside.old outside.new }
+    ensures does { Does (O.moment outside.old) (O.moment outside.new)
+        (ReportText (line_refusal (refusal number fault)) ∷ []) result }
 {
-    report.write(line_report(number, fault).as_slice())
+    outside.tell(line_report(number, fault).as_slice())
 }
 
 /// Carries out the line that has begun, which ends here, or refuses it.
-fn take_line<K: FrameMaker, M: MeshSink, R: Sink>(
+fn take_line<K: FrameMaker, O: Outside>(
     frames: &mut K,
     stage: &mut Stage,
-    meshes: &mut M,
-    report: &mut R,
+    outside: &mut O,
 ) -> Result<(), Stop>
-    requires idle { M.under_way meshes.old ≡ false }
+    requires idle { (O.moment outside.old).under_way ≡ false }
     requires ready { K.is_ready frames.old stage.old.lines }
     requires stage { IsStage stage.old }
     ensures outcome { (before : Told) (show : Show) (start : Walk) (read : List ℕ) → Starts start →
-        IsAt before (sinks_tell M.MeshSink R.Sink meshes.old report.old)
+        IsAt before (O.moment outside.old).sinks
         show (K.follows frames.old) start read stage.old →
-        TakesBytes before (sinks_tell M.MeshSink R.Sink meshes.new report.new)
+        TakesBytes before (O.moment outside.new).sinks
         show (K.follows frames.new) start
         (read ++ 10 ∷ []) stage.new result }
     ensures ready { OnOk result (K.is_ready frames.new stage.new.lines) }
     ensures stage { OnOk result (IsStage stage.new) }
     ensures lines { OnOk result (stage.new.lines ≡ stage.old.lines + 1) }
     ensures part { OnOk result (stage.new.part.items ≡ []) }
-    ensures idle { NotFailed result → M.under_way meshes.new ≡ false }
-    ensures faults { StopsHaveCause (M.faults meshes.old) (M.faults meshes.new)
-        (R.faults report.old) (R.faults report.new) result }
-    ensures meshes_in_time { IsInTime (M.late meshes.old) (M.faults meshes.old) (M.late meshes.new) }
-    ensures report_in_time { IsInTime (R.late report.old) (R.faults report.old) (R.late report.new) }
+    ensures same { O.is_same outside.old outside.new }
+    ensures only { OnlyTakes (O.moment outside.old) (O.moment outside.new) result }
 {
     state_laws();
     line_laws();
     match read_line(stage.part.as_slice(), &frames.limits(stage.lines)) {
-        Ok(Line::Frame) => match frames.take_frame(meshes, report) {
+        Ok(Line::Frame) => match frames.take_frame(outside) {
             Ok(()) => {
                 stage.end_line();
                 Ok(())
@@ -81,7 +74,7 @@ fn take_line<K: FrameMaker, M: MeshSink, R: Sink>(
             stage.end_line();
             Ok(())
         }
-        Err(fault) => match refuse(stage.lines + 1, fault, report) {
+        Err(fault) => match refuse(stage.lines + 1, fault, outside) {
             Ok(()) => Err(Stop::Refused),
             Err(_) => Err(Stop::Failed),
         },
@@ -90,37 +83,33 @@ fn take_line<K: FrameMaker, M: MeshSink, R: Sink>(
 
 /// Takes one byte of a script: the line that has begun goes on, or it ends and is carried out. A line
 /// that no further byte can mend is refused at once.
-fn take_byte<K: FrameMaker, M: MeshSink, R: Sink>(
+fn take_byte<K: FrameMaker, O: Outside>(
     frames: &mut K,
     stage: &mut Stage,
     byte: u8,
-    meshes: &mut M,
-    report: &mut R,
+    outside: &mut O,
 ) -> Result<(), Stop>
-    requires idle { M.under_way meshes.old ≡ false }
+    requires idle { (O.moment outside.old).under_way ≡ false }
     requires ready { K.is_ready frames.old stage.old.lines }
     requires stage { IsStage stage.old }
     ensures outcome { (before : Told) (show : Show) (start : Walk) (read : List ℕ) → Starts start →
-        IsAt before (sinks_tell M.MeshSink R.Sink meshes.old report.old)
+        IsAt before (O.moment outside.old).sinks
         show (K.follows frames.old) start read stage.old →
-        TakesBytes before (sinks_tell M.MeshSink R.Sink meshes.new report.new)
+        TakesBytes before (O.moment outside.new).sinks
         show (K.follows frames.new) start
         (read ++ byte ∷ []) stage.new result }
     ensures ready { OnOk result (K.is_ready frames.new stage.new.lines) }
     ensures stage { OnOk result (IsStage stage.new) }
     ensures longer { OnOk result (201 * stage.old.lines + length stage.old.part.items + 1
         ≤ 201 * stage.new.lines + length stage.new.part.items) }
-    ensures idle { NotFailed result → M.under_way meshes.new ≡ false }
-    ensures faults { StopsHaveCause (M.faults meshes.old) (M.faults meshes.new)
-        (R.faults report.old) (R.faults report.new) result }
-    ensures meshes_in_time { IsInTime (M.late meshes.old) (M.faults meshes.old) (M.late meshes.new) }
-    ensures report_in_time { IsInTime (R.late report.old) (R.faults report.old) (R.late report.new) }
+    ensures same { O.is_same outside.old outside.new }
+    ensures only { OnlyTakes (O.moment outside.old) (O.moment outside.new) result }
 {
     if byte == b'\n' {
-        return take_line(frames, stage, meshes, report);
+        return take_line(frames, stage, outside);
     }
     match stage.settled_fault() {
-        Some(fault) => match refuse(stage.lines + 1, fault, report) {
+        Some(fault) => match refuse(stage.lines + 1, fault, outside) {
             Ok(()) => Err(Stop::Refused),
             Err(_) => Err(Stop::Failed),
         },
@@ -132,34 +121,30 @@ fn take_byte<K: FrameMaker, M: MeshSink, R: Sink>(
 }
 
 /// Takes a piece of a script.
-fn take_piece<K: FrameMaker, M: MeshSink, R: Sink>(
+fn take_piece<K: FrameMaker, O: Outside>(
     frames: &mut K,
     stage: &mut Stage,
     piece: &[u8],
-    meshes: &mut M,
-    report: &mut R,
+    outside: &mut O,
 ) -> Result<(), Stop>
-    requires idle { M.under_way meshes.old ≡ false }
+    requires idle { (O.moment outside.old).under_way ≡ false }
     requires ready { K.is_ready frames.old stage.old.lines }
     requires stage { IsStage stage.old }
     ensures outcome { (before : Told) (show : Show) (start : Walk) (read : List ℕ) → Starts start →
-        IsAt before (sinks_tell M.MeshSink R.Sink meshes.old report.old)
+        IsAt before (O.moment outside.old).sinks
         show (K.follows frames.old) start read stage.old →
-        TakesBytes before (sinks_tell M.MeshSink R.Sink meshes.new report.new)
+        TakesBytes before (O.moment outside.new).sinks
         show (K.follows frames.new) start
         (read ++ piece.now) stage.new result }
     ensures ready { OnOk result (K.is_ready frames.new stage.new.lines) }
     ensures stage { OnOk result (IsStage stage.new) }
     ensures longer { OnOk result (201 * stage.old.lines + length stage.old.part.items + length piece.now
         ≤ 201 * stage.new.lines + length stage.new.part.items) }
-    ensures idle { NotFailed result → M.under_way meshes.new ≡ false }
-    ensures faults { StopsHaveCause (M.faults meshes.old) (M.faults meshes.new)
-        (R.faults report.old) (R.faults report.new) result }
-    ensures meshes_in_time { IsInTime (M.late meshes.old) (M.faults meshes.old) (M.late meshes.new) }
-    ensures report_in_time { IsInTime (R.late report.old) (R.faults report.old) (R.late report.new) }
+    ensures same { O.is_same outside.old outside.new }
+    ensures only { OnlyTakes (O.moment outside.old) (O.moment outside.new) result }
 {
     for byte in piece {
-        take_byte(frames, stage, *byte, meshes, report)?;
+        take_byte(frames, stage, *byte, outside)?;
     }
     Ok(())
 }
@@ -175,80 +160,67 @@ fn status_of(stop: Stop) -> Status
 }
 
 /// Ends a script: bytes after the last LF are a line too.
-fn end_script<K: FrameMaker, M: MeshSink, R: Sink>(
+fn end_script<K: FrameMaker, O: Outside>(
     frames: &mut K,
     stage: &mut Stage,
-    meshes: &mut M,
-    report: &mut R,
+    outside: &mut O,
 ) -> Status
-    requires idle { M.under_way meshes.old ≡ false }
+    requires idle { (O.moment outside.old).under_way ≡ false }
     requires ready { K.is_ready frames.old stage.old.lines }
     requires stage { IsStage stage.old }
     ensures ends { (before : Told) (show : Show) (start : Walk) (read : List ℕ) → Starts start →
-        IsAt before (sinks_tell M.MeshSink R.Sink meshes.old report.old)
+        IsAt before (O.moment outside.old).sinks
         show (K.follows frames.old) start read stage.old →
-        EndsScript before (sinks_tell M.MeshSink R.Sink meshes.new report.new)
+        EndsScript before (O.moment outside.new).sinks
         show (K.follows frames.new) start read result }
     ensures status { IsScriptEnd result }
-    ensures idle { result ≢ Status.WriteFault → M.under_way meshes.new ≡ false }
-    ensures faults { StatusWritesHaveCause (M.faults meshes.old) (M.faults meshes.new)
-        (R.faults report.old) (R.faults report.new) result }
-    ensures meshes_in_time { IsInTime (M.late meshes.old) (M.faults meshes.old) (M.late meshes.new) }
-    ensures report_in_time { IsInTime (R.late report.old) (R.faults report.old) (R.late report.new) }
+    ensures same { O.is_same outside.old outside.new }
+    ensures only { OnlyEnds (O.moment outside.old) (O.moment outside.new) result }
 {
     if stage.part.is_empty() {
         return Status::Done;
     }
-    match take_line(frames, stage, meshes, report) {
+    match take_line(frames, stage, outside) {
         Ok(()) => Status::Done,
         Err(stop) => status_of(stop),
     }
 }
 
 /// Reads the script of this name and carries out its lines, each whole line before the next read.
-pub fn run_script<K: FrameMaker, F: Shelf, M: MeshSink, R: Sink>(
+pub fn run_script<K: FrameMaker, O: Outside>(
     frames: &mut K,
     name: &str,
-    shelf: &mut F,
-    meshes: &mut M,
-    report: &mut R,
+    outside: &mut O,
 ) -> Status
-    requires idle { M.under_way meshes.old ≡ false }
+    requires idle { (O.moment outside.old).under_way ≡ false }
     requires ready { K.is_ready frames.old 0 }
     ensures ends { (show : Show) (start : Walk) → Begins show (K.follows frames.old) start →
-        (files : List NamedFile) → F.files shelf.old ≡ Some files → result ≢ Status.ReadFault →
-        EndsScript (sinks_tell M.MeshSink R.Sink meshes.old report.old)
-        (sinks_tell M.MeshSink R.Sink meshes.new report.new) show (K.follows frames.new) start
+        (files : List NamedFile) → (O.moment outside.old).shelf.files ≡ Some files → result ≢ Status.ReadFault →
+        EndsScript (O.moment outside.old).sinks
+        (O.moment outside.new).sinks show (K.follows frames.new) start
         (bytes_of files name.now) result }
     ensures read_fault { result ≡ Status.ReadFault → (show : Show) (start : Walk) →
-        Begins show (K.follows frames.old) start → (files : List NamedFile) → F.files shelf.old ≡ Some files →
-        StopsReading (ScriptHasCome (sinks_tell M.MeshSink R.Sink meshes.old report.old)
-        (sinks_tell M.MeshSink R.Sink meshes.new report.new) show start)
-        (bytes_of files name.now) (F.rest shelf.new) (F.ended shelf.new) }
+        Begins show (K.follows frames.old) start → (files : List NamedFile) → (O.moment outside.old).shelf.files ≡ Some files →
+        StopsReading (ScriptHasCome (O.moment outside.old).sinks
+        (O.moment outside.new).sinks show start)
+        (bytes_of files name.now) (O.moment outside.new).shelf.rest (O.moment outside.new).shelf.ended }
     ensures status { (result ≡ Status.ReadFault) ⊎ IsScriptEnd result }
-    ensures done { result ≡ Status.Done → HasEnded (shelf_tells F.Shelf shelf.new) }
-    ensures files { F.files shelf.new ≡ F.files shelf.old }
-    ensures opens { F.opens shelf.new ≡ next_count (F.opens shelf.old) }
-    ensures idle { result ≢ Status.WriteFault → M.under_way meshes.new ≡ false }
-    ensures faults { StatusHasCause (F.faults shelf.old) (F.faults shelf.new) (M.faults meshes.old)
-        (M.faults meshes.new) (R.faults report.old) (R.faults report.new) result }
-    ensures shelf_in_time { IsInTime (F.late shelf.old) (F.faults shelf.old) (F.late shelf.new) }
-    ensures meshes_in_time { IsInTime (M.late meshes.old) (M.faults meshes.old) (M.late meshes.new) }
-    ensures report_in_time { IsInTime (R.late report.old) (R.faults report.old) (R.late report.new) }
+    ensures same { O.is_same outside.old outside.new }
+    ensures leaves { LeavesByScript (O.moment outside.old) (O.moment outside.new) result }
 {
-    let Ok(()) = shelf.open_named(name) else {
+    let Ok(()) = outside.open_named(name) else {
         return Status::ReadFault;
     };
     let mut stage = Stage::new();
     let mut buffer = [0; PIECE];
     'pieces: loop {
-        let Ok(count) = shelf.read(&mut buffer) else {
+        let Ok(count) = outside.read(&mut buffer) else {
             return Status::ReadFault;
         };
         if count == 0 {
-            return end_script(frames, &mut stage, meshes, report);
+            return end_script(frames, &mut stage, outside);
         }
-        if let Err(stop) = take_piece(frames, &mut stage, &buffer[..count], meshes, report) {
+        if let Err(stop) = take_piece(frames, &mut stage, &buffer[..count], outside) {
             return status_of(stop);
         }
     }

@@ -1,6 +1,6 @@
-use Rattle.std.proofs.Common.{[], refl}
-use Rattle.run_laws.proofs.ActLemmas.{stands-text, cut-only-line}
+use Rattle.std.proofs.Common.{refl}
 use Rattle.run_script.proofs.StageLemmas.{takes-byte, byte-settles, takes-refusal, takes-cut, longer-line}
+use Rattle.run_script.proofs.OnlyLemmas.{only-nothing, only-refused, only-cut}
 use Rattle.run_script.proofs.script.take_byte.Goals as goal
 
 pub returns-then-byte-eq10-clause-longer : goal.returns-then-byte-eq10-clause-longer
@@ -11,13 +11,13 @@ pub returns-in-Ok-clause-outcome : goal.returns-in-Ok-clause-outcome
 returns-in-Ok-clause-outcome g c before show start read keeps at =
     takes-refusal before _ show (g.K.FrameMaker.follows c.args.frames.now) start read c.args.stage.now at _ c.in-Some.fault
     (byte-settles before _ show (g.K.FrameMaker.follows c.args.frames.now) start read c.args.stage.now at c.args.byte c.in-Some.fault c.if-byte-eq10.false c.in-Some.ensures.some)
-    c.args.stage.now _ (stands-text _ _ _ _ c.in-Ok.ensures.bytes.ok c.in-Ok.ensures.faults.ok)
+    c.args.stage.now _ c.in-Ok.ensures.does.done
 
 pub returns-in-Err-clause-outcome : goal.returns-in-Err-clause-outcome
 returns-in-Err-clause-outcome g c before show start read keeps at =
     takes-cut before _ show (g.K.FrameMaker.follows c.args.frames.now) start read c.args.stage.now at _ c.in-Some.fault
     (byte-settles before _ show (g.K.FrameMaker.follows c.args.frames.now) start read c.args.stage.now at c.args.byte c.in-Some.fault c.if-byte-eq10.false c.in-Some.ensures.some)
-    c.args.stage.now _ (cut-only-line _ _ _ _ [] c.in-Err.ensures.bytes.failed c.in-Err.ensures.faults.failed)
+    c.args.stage.now _ c.in-Err.ensures.does.cut_short
 
 pub returns-in-None-clause-outcome : goal.returns-in-None-clause-outcome
 returns-in-None-clause-outcome g c before show start read keeps at = record {
@@ -26,3 +26,12 @@ returns-in-None-clause-outcome g c before show start read keeps at = record {
   refused = λ e. cc;
   failed = λ e. cc;
 }
+
+pub returns-in-Ok-clause-only : goal.returns-in-Ok-clause-only
+returns-in-Ok-clause-only g c = only-refused _ _ _ c.in-Ok.ensures.does.only
+
+pub returns-in-Err-clause-only : goal.returns-in-Err-clause-only
+returns-in-Err-clause-only g c = only-cut _ _ _ c.in-Err.ensures.does.only
+
+pub returns-in-None-clause-only : goal.returns-in-None-clause-only
+returns-in-None-clause-only g c = only-nothing _

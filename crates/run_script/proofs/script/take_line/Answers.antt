@@ -1,11 +1,11 @@
-use Rattle.std.proofs.Common.{◌≡◌, ◌≢◌, ◌<◌, Ok, Err, [], sym, ap, ◌∙◌, arith}
+use Rattle.std.proofs.Common.{◌≡◌, ◌≢◌, ◌<◌, Ok, Err, sym, ap, ◌∙◌, arith}
 use Rattle.std.proofs.lemmas.Grind.{common_steps}
 use Rattle.roam_script.specs.declared.limits.TheConstants.{MOST_LINES}
 use Rattle.roam_script.specs.declared.line.Line.{Line}
 use Rattle.roam_script.specs.declared.line.Line.TheVariants.{Frame}
 use Rattle.roam_script.specs.LineText.{line_in}
-use Rattle.run_laws.proofs.ActLemmas.{stands-text, cut-only-line}
 use Rattle.run_script.proofs.StageLemmas.{line-shown, takes-shown, takes-frame-cut, takes-change, takes-refusal, takes-cut, line-settles}
+use Rattle.run_script.proofs.OnlyLemmas.{only-nothing, only-shown, only-refused, only-cut}
 use Rattle.run_script.proofs.script.take_line.Goals as goal
 
 pub take_frame-requires-clause-ready : goal.take_frame-requires-clause-ready
@@ -79,7 +79,7 @@ returns-in-Ok-refuse-clause-outcome g c before show start read starts at =
     (line-settles before _ show (g.K.FrameMaker.follows c.args.frames.now) start read c.args.stage.now at c.in-Err.fault
     (line-shown before _ show (g.K.FrameMaker.follows c.args.frames.now) start read c.args.stage.now at c.limits.result c.as_slice.result.now (Err c.in-Err.fault)
     (c.limits.ensures.value show at.here.walk at.here.pictures at.shows.followed at.shows.lines) c.as_slice.ensures.value is))
-    c.args.stage.now _ (stands-text _ _ _ _ c.in-Ok-refuse.ensures.bytes.ok c.in-Ok-refuse.ensures.faults.ok)
+    c.args.stage.now _ c.in-Ok-refuse.ensures.does.done
 
 pub returns-in-Err-refuse-clause-outcome : goal.returns-in-Err-refuse-clause-outcome
 returns-in-Err-refuse-clause-outcome g c before show start read starts at =
@@ -88,4 +88,19 @@ returns-in-Err-refuse-clause-outcome g c before show start read starts at =
     (line-settles before _ show (g.K.FrameMaker.follows c.args.frames.now) start read c.args.stage.now at c.in-Err.fault
     (line-shown before _ show (g.K.FrameMaker.follows c.args.frames.now) start read c.args.stage.now at c.limits.result c.as_slice.result.now (Err c.in-Err.fault)
     (c.limits.ensures.value show at.here.walk at.here.pictures at.shows.followed at.shows.lines) c.as_slice.ensures.value is))
-    c.args.stage.now _ (cut-only-line _ _ _ _ [] c.in-Err-refuse.ensures.bytes.failed c.in-Err-refuse.ensures.faults.failed)
+    c.args.stage.now _ c.in-Err-refuse.ensures.does.cut_short
+
+pub returns-in-Ok-take_frame-clause-only : goal.returns-in-Ok-take_frame-clause-only
+returns-in-Ok-take_frame-clause-only g c = only-shown _ _ _ c.in-Ok-take_frame.ensures.only
+
+pub returns-in-Err-take_frame-clause-only : goal.returns-in-Err-take_frame-clause-only
+returns-in-Err-take_frame-clause-only g c = only-cut _ _ _ c.in-Err-take_frame.ensures.only
+
+pub returns-in-Ok-clause-only : goal.returns-in-Ok-clause-only
+returns-in-Ok-clause-only g c = only-nothing _
+
+pub returns-in-Ok-refuse-clause-only : goal.returns-in-Ok-refuse-clause-only
+returns-in-Ok-refuse-clause-only g c = only-refused _ _ _ c.in-Ok-refuse.ensures.does.only
+
+pub returns-in-Err-refuse-clause-only : goal.returns-in-Err-refuse-clause-only
+returns-in-Err-refuse-clause-only g c = only-cut _ _ _ c.in-Err-refuse.ensures.does.only

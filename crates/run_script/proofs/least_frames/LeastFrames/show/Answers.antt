@@ -1,44 +1,29 @@
-use Rattle.std.proofs.Common.{ℕ, ◌*◌, ◌≤◌, List, All, refl, sym, ◌∙◌, ap, subst}
-use Rattle.std.proofs.lemmas.Result.{err_from_is_err_and}
-use Rattle.run_laws.proofs.ActLemmas.{both-ok, both-err}
+use Rattle.std.proofs.Common.{ℕ, ◌*◌, ◌≤◌, List, All, [], ◌∷◌, rules, sym, ◌∙◌, ap, subst}
 use Rattle.mesh_defs.specs.Triangle.{level_of}
 use Rattle.mesh_defs.specs.State.{text_in}
-use Rattle.run_script.specs.LeastSeen.{state_seen, least_numbers}
+use Rattle.run_laws.specs.Act.{Act, WholeMesh, ReportText}
 use Rattle.run_laws.proofs.OrderLemmas.{conforming-levels}
-use Rattle.run_laws.proofs.ShownLemmas.{cut-acts-mesh, cut-acts-line, stands-acts}
+use Rattle.run_laws.proofs.DoesLemmas.{does-same}
+use Rattle.run_script.specs.LeastSeen.{state_seen}
 use Rattle.run_script.proofs.least_frames.LeastFrames.show.Goals as goal
 
-pub write_mesh-requires-clause-levels : goal.write_mesh-requires-clause-levels
-write_mesh-requires-clause-levels g c =
+pub show_mesh-requires-clause-view : goal.show_mesh-requires-clause-view
+show_mesh-requires-clause-view g c =
     let f = c.args.self.now in
     let P : List ℕ → Type 0 = λ l. All (λ a. level_of a ≤ 2 * f.wedges.n) l in
-    subst P (sym c.leaves.ensures.value) (conforming-levels f.least.n f.wedges.n f.least.leaves c.requires.level c.leaves.ensures.conforming)
+    record {
+      levels = subst P (sym c.leaves.ensures.value)
+          (conforming-levels f.least.n f.wedges.n f.least.leaves c.requires.level c.leaves.ensures.conforming);
+      vertex_numbers = search rules;
+      spacing_low = c.requires.spacing_low;
+      spacing_high = c.requires.spacing_high;
+    }
 
-pub returns-in_err-write_mesh-clause-err : goal.returns-in_err-write_mesh-clause-err
-returns-in_err-write_mesh-clause-err g c =
+pub returns-clause-does : goal.returns-clause-does
+returns-clause-does g c =
     let f = c.args.self.now in
-    let p = err_from_is_err_and c.from_residual.result c.from_residual.ensures.1 in
-    let line : List ℕ = least_numbers f.frames c.args.note.now.triangles c.args.note.now.vertices c.args.note.now.worst in
-    rw p.1 (cut-acts-mesh _ _ _ (g.R.Sink.contents c.args.report.now) f.prefix.now f.frames f.frames (text_in (state_seen f) f.least.leaves) line
-    (text_in (state_seen f) c.leaves.result.now) line refl (ap (text_in (state_seen f)) c.leaves.ensures.value) refl
-    c.in_err-write_mesh.ensures.err c.in_err-write_mesh.ensures.faults.failed)
-
-pub returns-clause-err : goal.returns-clause-err
-returns-clause-err g c =
-    let f = c.args.self.now in
-    let line : List ℕ = least_numbers f.frames c.args.note.now.triangles c.args.note.now.vertices c.args.note.now.worst in
-    both-err c.write.result
-    (cut-acts-line _ _ _ _ f.prefix.now f.frames f.frames (text_in (state_seen f) f.least.leaves) line
-    (text_in (state_seen f) c.leaves.result.now) c.as_slice.result.now refl (ap (text_in (state_seen f)) c.leaves.ensures.value)
-    (c.as_slice.ensures.value ∙ c.least_report.ensures) c.in_ok-write_mesh.ensures.ok c.in_ok-write_mesh.ensures.faults.ok)
-    c.write.ensures.bytes.failed c.write.ensures.faults.failed
-
-pub returns-clause-ok : goal.returns-clause-ok
-returns-clause-ok g c =
-    let f = c.args.self.now in
-    let line : List ℕ = least_numbers f.frames c.args.note.now.triangles c.args.note.now.vertices c.args.note.now.worst in
-    both-ok c.write.result
-    (stands-acts _ _ _ _ f.prefix.now f.frames f.frames (text_in (state_seen f) f.least.leaves) line
-    (text_in (state_seen f) c.leaves.result.now) c.as_slice.result.now refl (ap (text_in (state_seen f)) c.leaves.ensures.value)
-    (c.as_slice.ensures.value ∙ c.least_report.ensures) c.in_ok-write_mesh.ensures.ok c.in_ok-write_mesh.ensures.faults.ok)
-    c.write.ensures.bytes.ok c.write.ensures.faults.ok
+    let acts : List ℕ → List ℕ → List Act = λ text line. WholeMesh f.prefix.now f.frames text ∷ (ReportText line ∷ []) in
+    does-same _ _ _ _ c.show_mesh.result
+    (ap (λ (l : List ℕ). acts (text_in (state_seen f) l) c.as_slice.result.now) c.leaves.ensures.value
+    ∙ ap (acts (text_in (state_seen f) f.least.leaves)) (c.as_slice.ensures.value ∙ c.least_report-line.ensures))
+    c.show_mesh.ensures.does
