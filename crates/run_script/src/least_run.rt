@@ -5,7 +5,7 @@ ghost use Rattle.roam_edge.specs.Fault.{IsInTime};
 ghost use Rattle.roam_edge.specs.Shelf.{NamedFile};
 ghost use Rattle.run_laws.specs.Act.{sinks_tell};
 ghost use Rattle.run_laws.specs.Cause.{StatusHasCause};
-ghost use Rattle.word_laws.specs.Words.{OnGrid, Frames, AsLeast};
+ghost use Rattle.word_laws.specs.Words.{OnGrid, Frames, as_least};
 ghost use Rattle.run_laws.specs.Promise.{shelf_tells, HasEnded, OpensForStatus, CommandReadFault, CommandNoMemory};
 ghost use Rattle.run_laws.specs.Leaving.{CommandEnds};
 ghost use Rattle.run_words.specs.ShowView.{IsPrefixLength};
@@ -35,7 +35,7 @@ pub fn run_least<F: Shelf, M: MeshSink, R: Sink>(
     requires idle { M.under_way meshes.old ≡ false }
     requires accepted { IsFrameCommand command.now }
     requires prefix { IsPrefixLength prefix.now }
-    requires shown { show_for command.now.making ≡ AsLeast prefix.now tolerance }
+    requires shown { show_for command.now.meshing ≡ as_least prefix.now tolerance }
     requires opens { F.opens shelf.old ≤ 2 ^ 63 }
     ensures outcome { (files : List NamedFile) → F.files shelf.old ≡ Some files →
         CommandEnds (sinks_tell M.MeshSink R.Sink meshes.old report.old)
