@@ -7,7 +7,7 @@ use Rattle.frame_loop.specs.Engine.{EngineState}
 use Rattle.run_laws.specs.declared.status.Status.{Status}
 use Rattle.run_laws.specs.declared.status.Status.TheVariants as ends
 use Rattle.run_laws.specs.Walk.{Refusal}
-use Rattle.word_laws.specs.Words.{AsSums, Generated}
+use Rattle.word_laws.specs.Words.{as_sums, Generated}
 use Rattle.run_laws.specs.Picture.{Picture}
 use Rattle.run_laws.specs.ReportText.{all_triangles, worst_in, sums_line, try_line}
 use Rattle.run_laws.specs.Act.{Act, ReportText, Told, Stands, IsCutShort}
@@ -21,7 +21,7 @@ use Rattle.run_laws.specs.Leaving.{CommandEnds}
 use Rattle.run_engine.specs.SumView.{made_start, IsSumOf, SumsUp}
 use Rattle.roam_run.proofs.LeftLemmas.{followed-end}
 
-no-acts : (n seed k : ℕ) (ps : List Picture) → shown_acts (AsSums n seed) k ps ≡ []
+no-acts : (n seed k : ℕ) (ps : List Picture) → shown_acts (as_sums n seed) k ps ≡ []
 no-acts n seed k [] = refl
 no-acts n seed k (p ∷ ps) = no-acts n seed (k + 1) ps
 
@@ -29,10 +29,12 @@ goes-on : (n seed : ℕ) → (made_walk n seed).stop ≡ None
 goes-on n seed = along-stop (made_start n seed) (made_lines n seed)
 
 -- all that it does is its line
-made-acts : (n seed : ℕ) (ps : List Picture) → (frames_outcome (AsSums n seed) 0 (made_walk n seed) ps).acts ≡ ReportText (try_line n seed ps) ∷ []
+made-acts : (n seed : ℕ) (ps : List Picture)
+    → (frames_outcome (as_sums n seed) 0 (made_walk n seed) ps).acts ≡ ReportText (try_line n seed ps) ∷ []
 made-acts n seed ps =
-    let tail : List Act = sum_acts (AsSums n seed) ps ++ stop_acts (made_walk n seed).stop in
-    ap (λ (l : List Act). l ++ tail) (no-acts n seed 1 ps) ∙ ap (λ (s : Option Refusal). sum_acts (AsSums n seed) ps ++ stop_acts s) (goes-on n seed)
+    let tail : List Act = sum_acts (as_sums n seed) ps ++ stop_acts (made_walk n seed).stop in
+    ap (λ (l : List Act). l ++ tail) (no-acts n seed 1 ps)
+    ∙ ap (λ (s : Option Refusal). sum_acts (as_sums n seed) ps ++ stop_acts s) (goes-on n seed)
 
 -- the line of these sums is that of the pictures
 pub sums-text : (n seed : ℕ) (ps : List Picture) (sums : Sums) (text : List ℕ) → IsSumOf ps sums
@@ -60,7 +62,7 @@ pub made-ends : (before now : Told) (shelf : Seen) (n seed : ℕ) (sums : Sums) 
     → (status ≡ ends.Done) ⊎ (status ≡ ends.WriteFault) → left ≡ (if ends_script status then Some engine else None)
     → DoesAs before now (text_outcome text ends.Done 0) status → CommandEnds before now shelf shelf (Generated n seed) files status (option_map engine_seen left)
 made-ends before now shelf n seed sums engine left files text status all is either by does =
-    let end : Outcome = frames_outcome (AsSums n seed) 0 (made_walk n seed) all.pictures in
+    let end : Outcome = frames_outcome (as_sums n seed) 0 (made_walk n seed) all.pictures in
     let same : ReportText text ∷ [] ≡ end.acts =
     ap (λ (t : List ℕ). ReportText t ∷ []) (sums-text n seed all.pictures sums text all.summed is) ∙ sym (made-acts n seed all.pictures) in
     let P : List Act → Type 0 = λ l. Stands before now l in

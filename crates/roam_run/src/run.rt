@@ -28,7 +28,7 @@ use run_fit::run_fit;
 use run_fit_check::{run_fit_check, run_fit_make};
 use run_laws::{Status, fitting_laws, run_laws, state_laws};
 use run_script::{run_least, run_script};
-use run_words::{Command, FrameWords, Making, Showing, command_in};
+use run_words::{Command, FrameWords, Meshing, Showing, command_in};
 use std::alloc::Global;
 
 /// What a run answers.
@@ -335,7 +335,7 @@ fn run_frames<F: Shelf, M: MeshSink, R: Sink>(
         (shelf_tells F.Shelf shelf.new)
         (OnGrid command.now.grid.now (Frames (scripted_seen command.now))) }
     ensures engine { IsSome result.engine ↔
-        IsTrue (is_of_engine (show_for command.now.making) && ends_script result.status) }
+        IsTrue (is_of_engine (show_for command.now.meshing) && ends_script result.status) }
     ensures not_usage { result.status ≢ Status.Usage }
     ensures not_rejected { result.status ≢ Status.Rejected }
     ensures faults { StatusHasCause (F.faults shelf.old) (F.faults shelf.new) (M.faults meshes.old)
@@ -349,9 +349,9 @@ fn run_frames<F: Shelf, M: MeshSink, R: Sink>(
     ensures meshes_in_time { IsInTime (M.late meshes.old) (M.faults meshes.old) (M.late meshes.new) }
     ensures report_in_time { IsInTime (R.late report.old) (R.faults report.old) (R.late report.new) }
 {
-    match command.making {
-        Making::ByEngine(showing) => run_engine(alloc, command, showing, shelf, meshes, report),
-        Making::ByTolerance { prefix, tolerance } => {
+    match command.meshing {
+        Meshing::ByEngine(showing) => run_engine(alloc, command, showing, shelf, meshes, report),
+        Meshing::ByTolerance { prefix, tolerance } => {
             let status = run_least(alloc, command, prefix, tolerance, shelf, meshes, report);
             Run::without_engine(status)
         }
@@ -370,7 +370,7 @@ fn run_engine<F: Shelf, M: MeshSink, R: Sink>(
     requires idle { M.under_way meshes.old ≡ false }
     requires accepted { IsFrameCommand command.now }
     requires showing { IsShowing showing }
-    requires shown { show_for command.now.making ≡ show_seen showing }
+    requires shown { show_for command.now.meshing ≡ show_seen showing }
     requires opens { F.opens shelf.old ≤ 2 ^ 63 }
     ensures outcome { (files : List NamedFile) → F.files shelf.old ≡ Some files →
         CommandEnds (sinks_tell M.MeshSink R.Sink meshes.old report.old)

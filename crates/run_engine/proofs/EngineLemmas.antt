@@ -1,7 +1,7 @@
 -- An engine that follows a walk: where it begins, and what a line does to it.
-use Rattle.std.proofs.Common.{◌≡◌, ◌≢◌, ℕ, ◌+◌, ◌*◌, ◌^◌, Bool, false, IsTrue, List, [], ◌∷◌, ◌++◌, length, sum_by, refl, sym, ◌∙◌, ap, subst, arith, append-nil, length-append}
+use Rattle.std.proofs.Common.{◌≡◌, ◌≢◌, ℕ, ◌+◌, ◌*◌, ◌^◌, IsTrue, List, [], ◌∷◌, ◌++◌, length, sym, ◌∙◌, ap, subst, arith, append-nil, length-append}
 use Rattle.std.proofs.lemmas.List.Sums.{sum_by_push}
-use Rattle.std.specs.List.{filter, range_with_len}
+use Rattle.std.specs.List.{range_with_len}
 use Rattle.mesh_defs.specs.GridSet.{IsAscending}
 use Rattle.mesh_defs.specs.HeightField.{HeightField}
 use Rattle.mesh_defs.specs.ClosedSet.{among}
@@ -17,9 +17,9 @@ use Rattle.frame_loop.specs.declared.note.FrameNote.{FrameNote}
 use Rattle.roam_script.specs.declared.line.Line.{Line}
 use Rattle.roam_script.specs.declared.line.Line.TheVariants.{Frame}
 use Rattle.run_laws.specs.Walk.{Walk, start_walk, state_after, way_of, after_line}
-use Rattle.word_laws.specs.Words.{Show, AsMeshes, AsStrips, AsLeast, AsMeasures, AsSums, is_of_engine}
+use Rattle.word_laws.specs.Words.{Criterion, Show, is_of_engine}
 use Rattle.run_laws.specs.Picture.{Picture, IsPicture, IsFrameFor, IsChangeFor, last_members}
-use Rattle.run_laws.proofs.PictureLemmas.{no-engine}
+use Rattle.run_laws.proofs.PictureLemmas.{of-budget}
 use Rattle.run_laws.proofs.ShownLemmas.{shown_by-none}
 use Rattle.run_laws.proofs.StepLemmas.{last_members-append}
 use Rattle.run_engine.specs.EngineSeen.{IsCarriedOut, HasFollowed}
@@ -74,33 +74,19 @@ module _ (walk : Walk) (pictures : List Picture) (old new : EngineState) (follow
         plus-zero : (k : ℕ) → k ≡ k + 0
         plus-zero k = omega arith
 
-    -- the frame of each way to show the frames of an engine is that of the engine
-    frame-for : (show : Show) (state : State) (members : List ℕ) (worst : ℕ) (blocked : _) → IsTrue (is_of_engine show)
-        → IsFrame state.grid.n state.budget (priority_in state) (among members) worst blocked → IsFrameFor show state members worst blocked
-    frame-for (AsMeshes prefix) state members worst blocked engine is = is
-    frame-for (AsStrips prefix) state members worst blocked engine is = is
-    frame-for (AsLeast prefix tolerance) state members worst blocked engine is = absurd (no-engine engine)
-    frame-for AsMeasures state members worst blocked engine is = is
-    frame-for (AsSums n seed) state members worst blocked engine is = is
-
-    change-for : (show : Show) (state : State) (before after : List ℕ) (splits merges : ℕ) → IsTrue (is_of_engine show)
-        → IsFrameRun state.grid.n state.budget (priority_in state) before after splits merges → IsChangeFor show state before after splits merges
-    change-for (AsMeshes prefix) state before after splits merges engine is = is
-    change-for (AsStrips prefix) state before after splits merges engine is = is
-    change-for (AsLeast prefix tolerance) state before after splits merges engine is = absurd (no-engine engine)
-    change-for AsMeasures state before after splits merges engine is = is
-    change-for (AsSums n seed) state before after splits merges engine is = is
-
     -- what it shows is the picture of the state
     pub picture-shown : (show : Show) → IsTrue (is_of_engine show) → IsPicture show (last_members [] pictures) walk.state (picture_seen new note)
     picture-shown show engine =
         let P : State → List ℕ → Type 0 = λ s before. IsFrameRun s.grid.n s.budget (priority_in s) before (pool_members new.mesh.pool) note.splits note.merges in
         let Q : State → Type 0 = λ s. IsFrame s.grid.n s.budget (priority_in s) (among (pool_members new.mesh.pool)) note.worst note.blocked in
         let R : State → Type 0 = λ s. P s (last_members [] pictures) in
+        let F : Criterion → Type 0 = λ c. IsFrameFor c walk.state (pool_members new.mesh.pool) note.worst note.blocked in
+        let C : Criterion → Type 0 =
+        λ c. IsChangeFor c walk.state (last_members [] pictures) (pool_members new.mesh.pool) note.splits note.merges in
+        let by_budget = of-budget show engine in
         record {
           of_state = done.state ∙ followed.at_state;
           ascending = members-ascend new.mesh.pool;
-          frame = frame-for show walk.state (pool_members new.mesh.pool) note.worst note.blocked engine (subst Q followed.at_state done.frame);
-          change = change-for show walk.state (last_members [] pictures) (pool_members new.mesh.pool) note.splits note.merges engine
-              (subst R followed.at_state (subst (P old.state) followed.set done.run));
+          frame = subst F (sym by_budget) (subst Q followed.at_state done.frame);
+          change = subst C (sym by_budget) (subst R followed.at_state (subst (P old.state) followed.set done.run));
         }

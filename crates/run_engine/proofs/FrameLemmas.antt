@@ -5,7 +5,7 @@ use Rattle.roam_edge.specs.MeshSink.{Mesh}
 use Rattle.roam_edge.specs.Told.{IsPrefix}
 use Rattle.roam_edge.specs.Fault.{Rose}
 use Rattle.obj_write.specs.Written.{mesh_with, Grows, IsPartOfMesh}
-use Rattle.word_laws.specs.Words.{AsMeshes}
+use Rattle.word_laws.specs.Words.{as_meshes}
 use Rattle.run_laws.specs.Picture.{Picture, triangles_of, mark_count}
 use Rattle.run_laws.specs.Act.{ReportText, told, Stands, IsCutShort}
 use Rattle.run_laws.specs.ReportText.{frame_line, blocked_text, marks_text}
@@ -36,7 +36,7 @@ module _ (meshes meshes' : Option (List Mesh)) (report : Option (List ℕ)) (pre
   -- the mesh of a frame was cut short
   pub cut-frame-mesh : {f f' i : ℕ} → ((all : List Mesh) → meshes ≡ Some all → (part : List Mesh) × IsPartOfMesh prefix k text part
       × (meshes' ≡ Some (all ++ part)))
-      → Rose f f' → IsCutShort (told meshes report f i) (told meshes' report f' i) (picture_acts (AsMeshes prefix) number picture)
+      → Rose f f' → IsCutShort (told meshes report f i) (told meshes' report f' i) (picture_acts (as_meshes prefix) number picture)
   cut-frame-mesh part rose =
       let P : List ℕ → Type 0 = λ t. (all : List Mesh) → meshes ≡ Some all → (cut : List Mesh) × IsPartOfMesh prefix k t cut × (meshes' ≡ Some (all ++ cut)) in
       let Q : ℕ → Type 0 = λ i. (all : List Mesh) → meshes ≡ Some all → (cut : List Mesh)
@@ -57,7 +57,7 @@ module _ (meshes meshes' : Option (List Mesh)) (report report' : Option (List �
   -- the line of a frame was cut short
   pub cut-frame-line : {i i' : ℕ} (line : List ℕ) → line ≡ frame_line number picture
       → ((all : List ℕ) → report ≡ Some all → (front : List ℕ) × IsPrefix front line × (report' ≡ Some (all ++ front)))
-      → Rose i i' → IsCutShort (told meshes report f i) (told meshes' report' f' i') (picture_acts (AsMeshes prefix) number picture)
+      → Rose i i' → IsCutShort (told meshes report f i) (told meshes' report' f' i') (picture_acts (as_meshes prefix) number picture)
   cut-frame-line line written part rose =
       let P : List ℕ → Type 0 = λ t. (all : List ℕ) → report ≡ Some all → (front : List ℕ) × IsPrefix front t × (report' ≡ Some (all ++ front)) in
       cut-line meshes meshes' report report' prefix number (text_in picture.state (triangles_of picture))
@@ -66,7 +66,7 @@ module _ (meshes meshes' : Option (List Mesh)) (report report' : Option (List �
   -- a frame was written
   pub frame-stands : {i i' : ℕ} (line : List ℕ) → line ≡ frame_line number picture → ((all : List ℕ) → report ≡ Some all
       → report' ≡ Some (all ++ line))
-      → i' ≡ i → Stands (told meshes report f i) (told meshes' report' f' i') (picture_acts (AsMeshes prefix) number picture)
+      → i' ≡ i → Stands (told meshes report f i) (told meshes' report' f' i') (picture_acts (as_meshes prefix) number picture)
   frame-stands line written came same_report =
       let P : List ℕ → Type 0 = λ t. (all : List ℕ) → report ≡ Some all → report' ≡ Some (all ++ t) in
       record {

@@ -1,5 +1,5 @@
 -- The ways in which the frames of an engine are shown: an engine makes them, and nothing but the frames is told.
-use Rattle.std.proofs.Common.{◌≡◌, ◌⊎◌, inl, inr, ℕ, ◌+◌, ◌*◌, ◌^◌, ◌≤◌, true, IsTrue, if◌then◌else◌, List, [], length, Some, None, Result, OnOk, OnErr, refl, sym, ◌∙◌, ap, subst, arith}
+use Rattle.std.proofs.Common.{◌≡◌, ℕ, ◌+◌, ◌*◌, ◌^◌, ◌≤◌, true, IsTrue, List, [], length, Result, OnOk, OnErr, refl, sym, subst, arith}
 use Rattle.mesh_defs.specs.State.{State}
 use Rattle.mesh_defs.specs.ClosedSet.{leaves_of, among}
 use Rattle.closure_laws.proofs.LeafLemmas.{leaves-most}

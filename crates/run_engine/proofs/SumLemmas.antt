@@ -17,7 +17,7 @@ use Rattle.roam_script.specs.Laws.{LiesInRange}
 use Rattle.roam_gen.specs.Generated.{made_grid, made_lines}
 use Rattle.roam_gen.specs.Laws.{IsMadeLine}
 use Rattle.run_laws.specs.Walk.{Walk, start_walk, state_after, after_line, walk_along}
-use Rattle.word_laws.specs.Words.{AsSums}
+use Rattle.word_laws.specs.Words.{as_sums}
 use Rattle.run_laws.specs.Picture.{Picture, triangles_of, ArePictures}
 use Rattle.run_laws.specs.ReportText.{all_triangles, worst_in, count_blocked}
 use Rattle.run_laws.specs.Outcome.{made_budget, made_spacing, made_walk}
@@ -124,7 +124,7 @@ gone-ends n seed engine sums here =
     let few : length (made_lines n seed) ≤ LINES = omega (arith, count) in
     let none : drop LINES (made_lines n seed) ≡ [] = drop_of_length-le (made_lines n seed) few in
     let there : here.walk ≡ made_walk n seed = sym (ap (walk_along here.walk) none) ∙ here.leads in
-    let P : Walk → Type 0 = λ w. ArePictures (AsSums n seed) [] w.frames here.pictures in
+    let P : Walk → Type 0 = λ w. ArePictures (as_sums n seed) [] w.frames here.pictures in
     record {
       pictures = here.pictures;
       shown = subst P there here.shown;
@@ -146,7 +146,7 @@ module _ (n seed k : ℕ) (engine : EngineState) (sums : Sums) (here : HasGone n
   module _ (new : EngineState) where
     -- so does a line that makes no frame
     gone-carried : (line : Line) → slice_get (made_lines n seed) k ≡ Some line → line ≢ Frame → IsCarriedOut engine new line
-        → ArePictures (AsSums n seed) [] (after_line line here.walk).frames here.pictures
+        → ArePictures (as_sums n seed) [] (after_line line here.walk).frames here.pictures
         → (state_after line engine.state).grid.n ≡ n → (state_after line engine.state).grid.maxval ≡ 65535 → HasGone n seed (k + 1) new sums
     gone-carried line is other done shown level heights =
         record {
@@ -164,9 +164,9 @@ module _ (n seed k : ℕ) (engine : EngineState) (sums : Sums) (here : HasGone n
           camera = done.near;
         }
 
-    still : ArePictures (AsSums n seed) [] (here.walk.frames ++ []) here.pictures
+    still : ArePictures (as_sums n seed) [] (here.walk.frames ++ []) here.pictures
     still =
-        let P : List State → Type 0 = λ l. ArePictures (AsSums n seed) [] l here.pictures in
+        let P : List State → Type 0 = λ l. ArePictures (as_sums n seed) [] l here.pictures in
         subst P (sym (append-nil here.walk.frames)) here.shown
 
     gone-made : (line : Line) → slice_get (made_lines n seed) k ≡ Some line → line ≢ Frame → IsMadeLine n line → IsCarriedOut engine new line → HasGone n seed (k + 1) new sums
@@ -193,7 +193,7 @@ module _ (n seed k : ℕ) (engine : EngineState) (sums : Sums) (here : HasGone n
     gone-frame note more is done frames triangles few worst blocked =
         let p : Picture = picture_seen new note in
         let ps : List Picture = here.pictures in
-        let shown = picture-shown here.walk ps engine new here.followed note done (AsSums n seed) refl in
+        let shown = picture-shown here.walk ps engine new here.followed note done (as_sums n seed) refl in
         let count : length (triangles_of p) ≡ note.triangles =
         ap (λ (s : State). length (leaves_of s.grid.n (among (pool_members new.mesh.pool)))) done.state ∙ sym done.triangles in
         record {
@@ -201,7 +201,7 @@ module _ (n seed k : ℕ) (engine : EngineState) (sums : Sums) (here : HasGone n
           pictures = ps ++ p ∷ [];
           followed = followed-frame here.walk ps engine new here.followed note done;
           leads = leads-on Frame is;
-          shown = ArePictures-append (AsSums n seed) [] here.walk.frames (here.walk.state ∷ []) ps (p ∷ []) here.shown (shown, tt);
+          shown = ArePictures-append (as_sums n seed) [] here.walk.frames (here.walk.state ∷ []) ps (p ∷ []) here.shown (shown, tt);
           summed = (record {
             frames = (let a = here.summed.frames in let l = length-append ps (p ∷ []) in omega (arith, frames, a, l));
             triangles = (let a = here.summed.triangles in let l = triangles-more ps p in omega (arith, triangles, a, l, count));

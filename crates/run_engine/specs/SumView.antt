@@ -6,7 +6,7 @@ use Rattle.view_priority.specs.Camera.{IsCamera}
 use Rattle.roam_gen.specs.Generated.{made_grid, made_lines}
 use Rattle.frame_loop.specs.Engine.{EngineState}
 use Rattle.run_laws.specs.Walk.{Walk, start_walk, walk_along}
-use Rattle.word_laws.specs.Words.{AsSums}
+use Rattle.word_laws.specs.Words.{as_sums}
 use Rattle.run_laws.specs.Picture.{Picture, ArePictures}
 use Rattle.run_laws.specs.ReportText.{all_triangles, worst_in, count_blocked}
 use Rattle.run_laws.specs.Outcome.{made_budget, made_spacing, made_walk}
@@ -40,7 +40,7 @@ pub record HasGone (n seed k : ℕ) (engine : EngineState) (sums : Sums) : Type 
   pub pictures : List Picture
   pub followed : HasFollowed walk pictures engine
   pub leads : walk_along walk (drop k (made_lines n seed)) ≡ made_walk n seed
-  pub shown : ArePictures (AsSums n seed) [] walk.frames pictures
+  pub shown : ArePictures (as_sums n seed) [] walk.frames pictures
   pub summed : IsSumOf pictures sums
   pub few : AreFew k engine sums
   pub level : engine.state.grid.n ≡ n
@@ -50,6 +50,6 @@ pub record HasGone (n seed k : ℕ) (engine : EngineState) (sums : Sums) : Type 
 -- the sums are those of the pictures of the generated run, and the engine has followed it
 pub record SumsUp (n seed : ℕ) (sums : Sums) (engine : EngineState) : Type 0 where
   pub pictures : List Picture
-  pub shown : ArePictures (AsSums n seed) [] (made_walk n seed).frames pictures
+  pub shown : ArePictures (as_sums n seed) [] (made_walk n seed).frames pictures
   pub summed : IsSumOf pictures sums
   pub followed : HasFollowed (made_walk n seed) pictures engine

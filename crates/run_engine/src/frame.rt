@@ -5,7 +5,7 @@ ghost use Rattle.roam_edge.specs.Fault.{IsInTime};
 ghost use Rattle.roam_edge.specs.declared.mesh_sink.TheConstants.{LONGEST_PREFIX, GREATEST_NUMBER};
 ghost use Rattle.run_laws.specs.Act.{sinks_tell, Stands, IsCutShort};
 ghost use Rattle.run_laws.specs.Cause.{WritesHaveCause};
-ghost use Rattle.word_laws.specs.Words.{AsMeshes};
+ghost use Rattle.word_laws.specs.Words.{as_meshes};
 ghost use Rattle.run_laws.specs.Outcome.{picture_acts};
 ghost use Rattle.mesh_defs.specs.ClosedSet.{IsClosed, among};
 ghost use Rattle.roam_mesh.specs.Mesh.{pool_members};
@@ -72,11 +72,11 @@ fn write_frame<M: MeshSink, R: Sink>(
     requires noted { IsNoted engine.now note.now }
     ensures ok { OnOk result (Stands (sinks_tell M.MeshSink R.Sink meshes.old report.old)
         (sinks_tell M.MeshSink R.Sink meshes.new report.new)
-        (picture_acts (AsMeshes prefix.now) engine.now.frames (picture_seen engine.now note.now))) }
+        (picture_acts (as_meshes prefix.now) engine.now.frames (picture_seen engine.now note.now))) }
     ensures idle { OnOk result (M.under_way meshes.new ≡ false) }
     ensures err { OnErr result (IsCutShort (sinks_tell M.MeshSink R.Sink meshes.old report.old)
         (sinks_tell M.MeshSink R.Sink meshes.new report.new)
-        (picture_acts (AsMeshes prefix.now) engine.now.frames (picture_seen engine.now note.now))) }
+        (picture_acts (as_meshes prefix.now) engine.now.frames (picture_seen engine.now note.now))) }
     ensures faults { WritesHaveCause (M.faults meshes.old) (M.faults meshes.new)
         (R.faults report.old) (R.faults report.new) result }
     ensures meshes_in_time { IsInTime (M.late meshes.old) (M.faults meshes.old) (M.late meshes.new) }

@@ -15,7 +15,7 @@ ghost use Rattle.frame_loop.specs.declared.note.FrameNote.{FrameNote as NoteSeen
 ghost use Rattle.run_laws.specs.Act.{sinks_tell, report_tells, Stands, IsCutShort};
 ghost use Rattle.run_laws.specs.Cause.{WritesHaveCause};
 ghost use Rattle.run_laws.specs.Turns.{left_turns, right_turns};
-ghost use Rattle.word_laws.specs.Words.{AsStrips, AsMeasures};
+ghost use Rattle.word_laws.specs.Words.{as_strips, as_measures};
 ghost use Rattle.run_laws.specs.Outcome.{picture_acts};
 ghost use Rattle.run_engine.specs.NoteSeen.{picture_seen, leaves_seen};
 ghost use Rattle.run_engine.specs.ShowView.{strip_numbers, measure_numbers};
@@ -52,12 +52,12 @@ pub(crate) fn write_strip<M: MeshSink, R: Sink>(
     ensures ok { (note : NoteSeen) →
         OnOk result (Stands (sinks_tell M.MeshSink R.Sink meshes.old report.old)
         (sinks_tell M.MeshSink R.Sink meshes.new report.new)
-        (picture_acts (AsStrips prefix.now) engine.now.frames (picture_seen engine.now note))) }
+        (picture_acts (as_strips prefix.now) engine.now.frames (picture_seen engine.now note))) }
     ensures idle { OnOk result (M.under_way meshes.new ≡ false) }
     ensures err { (note : NoteSeen) →
         OnErr result (IsCutShort (sinks_tell M.MeshSink R.Sink meshes.old report.old)
         (sinks_tell M.MeshSink R.Sink meshes.new report.new)
-        (picture_acts (AsStrips prefix.now) engine.now.frames (picture_seen engine.now note))) }
+        (picture_acts (as_strips prefix.now) engine.now.frames (picture_seen engine.now note))) }
     ensures faults { WritesHaveCause (M.faults meshes.old) (M.faults meshes.new)
         (R.faults report.old) (R.faults report.new) result }
     ensures meshes_in_time { IsInTime (M.late meshes.old) (M.faults meshes.old) (M.late meshes.new) }
@@ -97,12 +97,12 @@ fn write_order<M: MeshSink, R: Sink>(
     ensures ok { (note : NoteSeen) →
         OnOk result (Stands (sinks_tell M.MeshSink R.Sink meshes.old report.old)
         (sinks_tell M.MeshSink R.Sink meshes.new report.new)
-        (picture_acts (AsStrips prefix.now) engine.now.frames (picture_seen engine.now note))) }
+        (picture_acts (as_strips prefix.now) engine.now.frames (picture_seen engine.now note))) }
     ensures idle { OnOk result (M.under_way meshes.new ≡ false) }
     ensures err { (note : NoteSeen) →
         OnErr result (IsCutShort (sinks_tell M.MeshSink R.Sink meshes.old report.old)
         (sinks_tell M.MeshSink R.Sink meshes.new report.new)
-        (picture_acts (AsStrips prefix.now) engine.now.frames (picture_seen engine.now note))) }
+        (picture_acts (as_strips prefix.now) engine.now.frames (picture_seen engine.now note))) }
     ensures faults { WritesHaveCause (M.faults meshes.old) (M.faults meshes.new)
         (R.faults report.old) (R.faults report.new) result }
     ensures meshes_in_time { IsInTime (M.late meshes.old) (M.faults meshes.old) (M.late meshes.new) }
@@ -173,11 +173,11 @@ pub(crate) fn write_measure<R: Sink>(engine: &Engine, report: &mut R) -> Result<
     ensures ok { (meshes : Option (List Mesh)) (count : ℕ) (note : NoteSeen) →
         OnOk result (Stands (report_tells R.Sink meshes count report.old)
         (report_tells R.Sink meshes count report.new)
-        (picture_acts AsMeasures engine.now.frames (picture_seen engine.now note))) }
+        (picture_acts as_measures engine.now.frames (picture_seen engine.now note))) }
     ensures err { (meshes : Option (List Mesh)) (count : ℕ) (note : NoteSeen) →
         OnErr result (IsCutShort (report_tells R.Sink meshes count report.old)
         (report_tells R.Sink meshes count report.new)
-        (picture_acts AsMeasures engine.now.frames (picture_seen engine.now note))) }
+        (picture_acts as_measures engine.now.frames (picture_seen engine.now note))) }
     ensures faults { HasCause (R.faults report.old) (R.faults report.new) result }
     ensures in_time { IsInTime (R.late report.old) (R.faults report.old) (R.late report.new) }
 {

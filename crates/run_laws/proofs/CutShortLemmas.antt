@@ -13,12 +13,13 @@ use Rattle.pgm_grid.specs.Laws.{TextsAreRead}
 use Rattle.run_laws.specs.declared.status.Status.{Status}
 use Rattle.run_laws.specs.declared.status.Status.TheVariants.{NoMemory, ReadFault, WriteFault}
 use Rattle.run_laws.specs.Walk.{Refusal}
-use Rattle.word_laws.specs.Words.{Show, AsMeshes, AsStrips, AsLeast, AsMeasures, AsSums, Frames, Command}
+use Rattle.word_laws.specs.Words.{Criterion, TriangleOrder, Output, Meshes, Measures, Sums, Show, Frames, Command}
 use Rattle.run_laws.specs.Act.{Act, WholeMesh, ReportText, Told, StandsInPart, IsCutShort, meshes_of, report_of}
-use Rattle.run_laws.specs.Picture.{Picture, triangles_of, strip_triangles}
+use Rattle.run_laws.specs.Picture.{Picture, shown_triangles}
 use Rattle.run_laws.specs.Outcome.{Outcome, picture_acts, shown_acts, sum_acts, stop_acts, script_walk, IsFramesOutcome, IsGridOutcome, IsWordsOutcome, IsOutcome}
-use Rattle.run_laws.specs.ReportText.{frame_line, strip_line, least_line, measure_line, line_refusal}
+use Rattle.run_laws.specs.ReportText.{mesh_line, measure_line, line_refusal}
 use Rattle.run_laws.specs.CutShort.{is_by_frame, first_frames, StandsUnbegun, StandsInMesh, StandsInText, IsCutInMesh, IsCutInLine, StandsInRun, SinksDecide, CutRunsStand, CutTextsStand, WriteFaultsStand}
+use Rattle.run_laws.proofs.PictureLemmas.{show_of}
 
 heads : (a b : Act) (xs ys : List Act) → a ∷ xs ≡ b ∷ ys → a ≡ b
 heads a b xs ys same = cc
@@ -189,20 +190,22 @@ with_prefix before now acts prefix shown number bytes line is (inr (inr text)) =
 frame_cut : (before now : Told) (acts : List Act) (show : Show) (number : ℕ) (picture : Picture) (mine : List Act) (next : Act) (owed : List Act)
     → picture_acts show number picture ≡ mine ++ next ∷ owed → StandsInPart before now (acts ++ mine) next
     → IsCutInMesh before now acts show number picture ⊎ IsCutInLine before now acts show number picture
-frame_cut before now acts (AsMeshes prefix) number picture mine next owed same part =
-    with_prefix before now acts prefix (Some prefix) number (text_in picture.state (triangles_of picture)) (frame_line number picture) refl
-    (mesh_cut before now acts prefix number (text_in picture.state (triangles_of picture)) (frame_line number picture) mine next owed same part)
-frame_cut before now acts (AsStrips prefix) number picture mine next owed same part =
-    with_prefix before now acts prefix (Some prefix) number (text_in picture.state (strip_triangles picture)) (strip_line number picture) refl
-    (mesh_cut before now acts prefix number (text_in picture.state (strip_triangles picture)) (strip_line number picture) mine next owed same part)
-frame_cut before now acts (AsLeast prefix tolerance) number picture mine next owed same part =
-    with_prefix before now acts prefix (Some prefix) number (text_in picture.state (triangles_of picture)) (least_line number picture) refl
-    (mesh_cut before now acts prefix number (text_in picture.state (triangles_of picture)) (least_line number picture) mine next owed same part)
-frame_cut before now acts AsMeasures number picture mine next owed same part =
-    let line = text_cut before now acts (measure_line number picture) mine next owed same part in
-    let P : List Act → Type 0 = λ l. StandsInText before now l (measure_line number picture) in
-    inr (subst P (sym (append-nil acts)) line)
-frame_cut before now acts (AsSums n seed) number picture mine next owed same part = absurd (not-empty mine next owed same)
+frame_cut before now acts show number picture mine next owed same part = by_parts show.criterion show.order show.output same
+  where
+    by_parts : (criterion : Criterion) (order : TriangleOrder) (output : Output)
+        → picture_acts (show_of criterion order output) number picture ≡ mine ++ next ∷ owed
+        → IsCutInMesh before now acts (show_of criterion order output) number picture
+        ⊎ IsCutInLine before now acts (show_of criterion order output) number picture
+    by_parts criterion order (Meshes prefix) same =
+        let bytes : List ℕ = text_in picture.state (shown_triangles (show_of criterion order (Meshes prefix)) picture) in
+        let line : List ℕ = mesh_line order criterion number picture in
+        with_prefix before now acts prefix (Some prefix) number bytes line refl
+        (mesh_cut before now acts prefix number bytes line mine next owed same part)
+    by_parts criterion order Measures same =
+        let line = text_cut before now acts (measure_line number picture) mine next owed same part in
+        let P : List Act → Type 0 = λ l. StandsInText before now l (measure_line number picture) in
+        inr (subst P (sym (append-nil acts)) line)
+    by_parts criterion order (Sums n seed) same = absurd (not-empty mine next owed same)
 
 pub cut_runs : CutRunsStand
 cut_runs before now show pictures stop cut =
@@ -246,14 +249,16 @@ write-fault-is status other failed not same = not (sym same ∙ failed)
 
 -- frames that are shown one by one have no sums behind them
 no-sums : (show : Show) (pictures : List Picture) → IsTrue (is_by_frame show) → sum_acts show pictures ≡ []
-no-sums (AsMeshes prefix) pictures is = refl
-no-sums (AsStrips prefix) pictures is = refl
-no-sums (AsLeast prefix tolerance) pictures is = refl
-no-sums AsMeasures pictures is = refl
-no-sums (AsSums n seed) pictures is = absurd (not_true is)
+no-sums show pictures is = by_parts show.criterion show.order show.output is
   where
-    not_true : false ≡ true → ⊥
-    not_true e = cc
+    by_parts : (criterion : Criterion) (order : TriangleOrder) (output : Output) → IsTrue (is_by_frame (show_of criterion order output))
+        → sum_acts (show_of criterion order output) pictures ≡ []
+    by_parts criterion order (Meshes prefix) is = refl
+    by_parts criterion order Measures is = refl
+    by_parts criterion order (Sums n seed) is = absurd (not_true is)
+      where
+        not_true : false ≡ true → ⊥
+        not_true e = cc
 
 pub write_faults : TextsAreRead → WriteFaultsStand
 unfolding IsOutcome

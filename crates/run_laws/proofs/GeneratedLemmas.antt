@@ -15,7 +15,7 @@ use Rattle.roam_script.specs.declared.line.Line.{Line}
 use Rattle.roam_script.specs.declared.line.Line.TheVariants.{Blank, Camera, Set, Plane, NoPlanes, Budget, Raise, Frame}
 use Rattle.roam_gen.specs.Generated.{made_grid, made_lines, frame_lines, camera_line, edit_line}
 use Rattle.run_laws.specs.Walk.{Walk, start_walk, after_line, walk_along}
-use Rattle.word_laws.specs.Words.{AsSums, Command}
+use Rattle.word_laws.specs.Words.{as_sums, Command}
 use Rattle.run_laws.specs.Act.{Act, ReportText}
 use Rattle.run_laws.specs.Picture.{Picture, ArePictures, IsCertified}
 use Rattle.run_laws.specs.ReportText.{all_triangles, worst_in, count_blocked, sums_line, try_line}
@@ -91,7 +91,7 @@ abbrev IsUnblocked : Picture → Type 0
 IsUnblocked picture = picture.blocked ≡ None
 
 pictures-unblocked : (n seed : ℕ) (before : List ℕ) (states : List State) (ps : List Picture) → AllByRecursion HasRoom states
-    → ArePictures (AsSums n seed) before states ps → AllByRecursion IsUnblocked ps
+    → ArePictures (as_sums n seed) before states ps → AllByRecursion IsUnblocked ps
 pictures-unblocked n seed before [] [] room are = tt
 pictures-unblocked n seed before [] (p ∷ ps) room are = absurd are
 pictures-unblocked n seed before (s ∷ states) [] room are = absurd are
@@ -145,7 +145,7 @@ try_line-end n seed ps worst none =
     ∙ line-end n seed (length ps) (all_triangles ps)
 
 -- sums show no frame
-sums-nothing : (n seed k : ℕ) (ps : List Picture) → shown_acts (AsSums n seed) k ps ≡ []
+sums-nothing : (n seed k : ℕ) (ps : List Picture) → shown_acts (as_sums n seed) k ps ≡ []
 sums-nothing n seed k [] = refl
 sums-nothing n seed k (p ∷ ps) = sums-nothing n seed (k + 1) ps
 
@@ -160,7 +160,7 @@ pub low-unblocked : PicturesAreCertified → LowLevelsAreUnblocked
 unfolding IsOutcome
 low-unblocked certified words files n seed end is low outcome =
     let P : Option Command → Type 0 = λ c. IsWordsOutcome c files end in
-    let shown : IsFramesOutcome (AsSums n seed) 0 (made_walk n seed) end = subst P is outcome in
+    let shown : IsFramesOutcome (as_sums n seed) 0 (made_walk n seed) end = subst P is outcome in
     let ps : List Picture = shown.0 in
     let walk : Walk = made_walk n seed in
     let engine : end.engine ≡ Some (engine_end walk ps) = ap (λ (o : Outcome). o.engine) shown.2 in

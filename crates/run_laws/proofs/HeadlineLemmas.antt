@@ -2,7 +2,7 @@
 use Rattle.std.proofs.Common.{◌≡◌, ℕ, suc, ◌+◌, ◌≤◌, Bool, true, IsTrue, List, [], ◌∷◌, ◌++◌, length, Option, Some, None, IsSome, refl, sym, ◌∙◌, ap, subst, inl, inr, append-nil}
 use Rattle.std.specs.List.{AllByRecursion}
 use Rattle.std.proofs.lemmas.List.Elements.{All-from_recursion}
-use Rattle.mesh_defs.specs.ClosedSet.{among, leaves_of}
+use Rattle.mesh_defs.specs.ClosedSet.{IsClosed, among, leaves_of}
 use Rattle.mesh_defs.specs.HeightField.{HeightField}
 use Rattle.mesh_defs.specs.State.{State, priority_in, text_in}
 use Rattle.strip_laws.specs.Strip.{strip_of}
@@ -14,15 +14,15 @@ use Rattle.roam_edge.specs.MeshSink.{Mesh}
 use Rattle.obj_write.specs.Written.{mesh_with, IsPartOfMesh}
 use Rattle.run_laws.specs.declared.status.Status.{Status}
 use Rattle.run_laws.specs.Walk.{Refusal}
-use Rattle.word_laws.specs.Words.{Show, AsMeshes, AsStrips, AsLeast, AsMeasures, AsSums, Scripted, prefix_of}
+use Rattle.word_laws.specs.Words.{Criterion, OfBudget, OfTolerance, TriangleOrder, DepthFirst, AlongStrip, Output, Meshes, Measures, Sums, Show, Scripted, prefix_of}
 use Rattle.run_laws.specs.Act.{Act, WholeMesh, ReportText, meshes_of, Told, Stands, StandsInPart, IsCutShort}
-use Rattle.run_laws.specs.Picture.{Picture, triangles_of, strip_triangles, IsLeastFrame, IsPicture, ArePictures}
+use Rattle.run_laws.specs.Picture.{Picture, shown_triangles, IsLeastFrame, IsFrameFor, IsPicture, ArePictures}
 use Rattle.run_laws.specs.Outcome.{Outcome, picture_acts, shown_acts, sum_acts, stop_acts, script_walk, IsFramesOutcome}
 use Rattle.run_laws.specs.Promise.{ends_script}
-use Rattle.run_laws.specs.Headline.{IsGoodFrame, AreGoodFrames, KeepsGoodMeshes}
+use Rattle.run_laws.specs.Headline.{IsGoodMesh, IsGoodText, AreGoodFrames, KeepsGoodMeshes}
 use Rattle.run_laws.specs.Laws.{AreStates, BudgetsAreTwo}
 use Rattle.run_laws.proofs.ActLemmas.{meshes_of-append}
-use Rattle.run_laws.proofs.PictureLemmas.{BudgetFramesAreBest}
+use Rattle.run_laws.proofs.PictureLemmas.{BudgetFramesAreBest, show_of}
 use Rattle.run_laws.proofs.OutcomeLemmas.{script-states}
 
 -- The frame of a budget is a best mesh of its state, and the frame of a tolerance the least mesh of it.
@@ -35,73 +35,66 @@ pub record FramesAreBest : Type 0 where
   pub of_budget : BudgetFramesAreBest
   pub of_tolerance : LeastFramesAreLeast
 
--- the mesh of a picture is good
-mesh-good : FramesAreBest → (prefix before : List ℕ) (k : ℕ) (state : State) (p : Picture) → 2 ≤ state.budget → IsPicture (AsMeshes prefix) before state p
-    → IsGoodFrame (AsMeshes prefix) k state (mesh_with prefix k (text_in p.state (triangles_of p)) true)
-mesh-good best prefix before k state p low f =
-    record {
-      named = refl;
-      numbered = refl;
-      text = (
-        leaves_of state.grid.n (among p.members),
-        best.of_budget state p.members p.worst p.blocked low f.frame,
-        ap (λ (s : State). text_in s (leaves_of s.grid.n (among p.members))) f.of_state,
-      );
-    }
+-- the mesh of a frame is good
+good-mesh : FramesAreBest → (criterion : Criterion) (state : State) (members : List ℕ) (worst : ℕ) (blocked : Option Blocked)
+    → 2 ≤ state.budget → IsFrameFor criterion state members worst blocked
+    → IsGoodMesh criterion state (leaves_of state.grid.n (among members))
+good-mesh best OfBudget state members worst blocked low frame = best.of_budget state members worst blocked low frame
+good-mesh best (OfTolerance tolerance) state members worst blocked low frame = best.of_tolerance tolerance state members worst blocked frame
 
--- so is the strip of it
-strip-good : FramesAreBest → (prefix before : List ℕ) (k : ℕ) (state : State) (p : Picture) → 2 ≤ state.budget → IsPicture (AsStrips prefix) before state p
-    → IsGoodFrame (AsStrips prefix) k state (mesh_with prefix k (text_in p.state (strip_triangles p)) true)
-strip-good best prefix before k state p low f =
+-- its set is closed
+frame-closed : (criterion : Criterion) (state : State) (members : List ℕ) (worst : ℕ) (blocked : Option Blocked)
+    → IsFrameFor criterion state members worst blocked → IsClosed state.grid.n (among members)
+frame-closed OfBudget state members worst blocked frame = frame.closure.closure.closed
+frame-closed (OfTolerance tolerance) state members worst blocked frame = frame.closure.closed
+
+-- so the text of a picture is good, in each order of its triangles
+good-text : FramesAreBest → (criterion : Criterion) (order : TriangleOrder) (output : Output) (before : List ℕ) (state : State)
+    (p : Picture) → 2 ≤ state.budget → IsPicture (show_of criterion order output) before state p
+    → IsGoodText (show_of criterion order output) state (text_in p.state (shown_triangles (show_of criterion order output) p))
+good-text best criterion DepthFirst output before state p low f = (
+  leaves_of state.grid.n (among p.members),
+  good-mesh best criterion state p.members p.worst p.blocked low f.frame,
+  ap (λ (s : State). text_in s (leaves_of s.grid.n (among p.members))) f.of_state,
+)
+good-text best criterion AlongStrip output before state p low f =
     let n : ℕ = state.grid.n in
-    let has : ℕ → Bool = among p.members in
-    record {
-      named = refl;
-      numbered = refl;
-      text = (
-        strip_of n has,
-        record {
-          has = has;
-          best = best.of_budget state p.members p.worst p.blocked low f.frame;
-          strip = refl;
-          leaves = AreLeaves-strip_of n has;
-          once = λ a. once-strip_of n a has;
-          ring = IsRing-strip_of n has f.frame.closure.closure.closed;
-        },
-        ap (λ (s : State). text_in s (strip_of s.grid.n has)) f.of_state,
-      );
-    }
+    let has : ℕ → Bool = among p.members in (
+      strip_of n has,
+      record {
+        has = has;
+        mesh = good-mesh best criterion state p.members p.worst p.blocked low f.frame;
+        strip = refl;
+        leaves = AreLeaves-strip_of n has;
+        once = λ a. once-strip_of n a has;
+        ring = IsRing-strip_of n has (frame-closed criterion state p.members p.worst p.blocked f.frame);
+      },
+      ap (λ (s : State). text_in s (strip_of s.grid.n has)) f.of_state,
+    )
 
--- and the mesh of a tolerance
-least-good : FramesAreBest → (prefix before : List ℕ) (tolerance k : ℕ) (state : State) (p : Picture) → IsPicture (AsLeast prefix tolerance) before state p
-    → IsGoodFrame (AsLeast prefix tolerance) k state (mesh_with prefix k (text_in p.state (triangles_of p)) true)
-least-good best prefix before tolerance k state p f =
-    record {
-      named = refl;
-      numbered = refl;
-      text = (
-        leaves_of state.grid.n (among p.members),
-        best.of_tolerance tolerance state p.members p.worst p.blocked f.frame,
-        ap (λ (s : State). text_in s (leaves_of s.grid.n (among p.members))) f.of_state,
-      );
-    }
+no-measures : (criterion : Criterion) (order : TriangleOrder) → IsSome (prefix_of (show_of criterion order Measures)) → ⊥
+no-measures criterion order is = cc
 
-no-measures : IsSome (prefix_of AsMeasures) → ⊥
-no-measures is = cc
-
-no-sums : (n seed : ℕ) → IsSome (prefix_of (AsSums n seed)) → ⊥
-no-sums n seed is = cc
+no-sums : (criterion : Criterion) (order : TriangleOrder) (n seed : ℕ) → IsSome (prefix_of (show_of criterion order (Sums n seed))) → ⊥
+no-sums criterion order n seed is = cc
 
 -- a picture adds a good mesh
 one-good : FramesAreBest → (show : Show) (k : ℕ) (before : List ℕ) (state : State) (states : List State) (p : Picture) (acts : List Act) → IsSome (prefix_of show)
     → 2 ≤ state.budget → IsPicture show before state p → AreGoodFrames show (k + 1) states (meshes_of acts)
     → AreGoodFrames show k (state ∷ states) (meshes_of (picture_acts show k p ++ acts))
-one-good best (AsMeshes prefix) k before state states p acts some low f rest = ((λ finished. mesh-good best prefix before k state p low f), rest)
-one-good best (AsStrips prefix) k before state states p acts some low f rest = ((λ finished. strip-good best prefix before k state p low f), rest)
-one-good best (AsLeast prefix tolerance) k before state states p acts some low f rest =
-    ((λ finished. least-good best prefix before tolerance k state p f), rest)
-one-good best AsMeasures k before state states p acts some low f rest = absurd (no-measures some)
-one-good best (AsSums n seed) k before state states p acts some low f rest = absurd (no-sums n seed some)
+one-good best show k before state states p acts some low f rest = by_parts show.criterion show.order show.output some f rest
+  where
+    by_parts : (criterion : Criterion) (order : TriangleOrder) (output : Output) → IsSome (prefix_of (show_of criterion order output))
+        → IsPicture (show_of criterion order output) before state p
+        → AreGoodFrames (show_of criterion order output) (k + 1) states (meshes_of acts)
+        → AreGoodFrames (show_of criterion order output) k (state ∷ states)
+        (meshes_of (picture_acts (show_of criterion order output) k p ++ acts))
+    by_parts criterion order (Meshes prefix) some f rest = (
+      (λ finished. record { named = refl; numbered = refl; text = good-text best criterion order (Meshes prefix) before state p low f }),
+      rest,
+    )
+    by_parts criterion order Measures some f rest = absurd (no-measures criterion order some)
+    by_parts criterion order (Sums n seed) some f rest = absurd (no-sums criterion order n seed some)
 
 -- the meshes of frames are good
 good-meshes : FramesAreBest → (show : Show) (k n : ℕ) (before : List ℕ) (states : List State) (ps : List Picture) → IsSome (prefix_of show) → AreStates n states
@@ -115,11 +108,13 @@ good-meshes best show k n before (s ∷ states) (p ∷ ps) some low f =
 -- a picture adds one mesh
 one-count : (show : Show) (k : ℕ) (p : Picture) (acts : List Act) → IsSome (prefix_of show)
     → length (meshes_of (picture_acts show k p ++ acts)) ≡ suc (length (meshes_of acts))
-one-count (AsMeshes prefix) k p acts some = refl
-one-count (AsStrips prefix) k p acts some = refl
-one-count (AsLeast prefix tolerance) k p acts some = refl
-one-count AsMeasures k p acts some = absurd (no-measures some)
-one-count (AsSums n seed) k p acts some = absurd (no-sums n seed some)
+one-count show k p acts some = by_parts show.criterion show.order show.output some
+  where
+    by_parts : (criterion : Criterion) (order : TriangleOrder) (output : Output) → IsSome (prefix_of (show_of criterion order output))
+        → length (meshes_of (picture_acts (show_of criterion order output) k p ++ acts)) ≡ suc (length (meshes_of acts))
+    by_parts criterion order (Meshes prefix) some = refl
+    by_parts criterion order Measures some = absurd (no-measures criterion order some)
+    by_parts criterion order (Sums n seed) some = absurd (no-sums criterion order n seed some)
 
 -- one mesh a frame
 count-meshes : (show : Show) (k : ℕ) (before : List ℕ) (states : List State) (ps : List Picture) → IsSome (prefix_of show)
@@ -142,11 +137,13 @@ no-mesh-stop (Some refusal) = refl
 
 -- what follows the frames adds no mesh
 no-mesh-sum : (show : Show) (ps : List Picture) (stop : Option Refusal) → meshes_of (sum_acts show ps ++ stop_acts stop) ≡ []
-no-mesh-sum (AsMeshes prefix) ps stop = no-mesh-stop stop
-no-mesh-sum (AsStrips prefix) ps stop = no-mesh-stop stop
-no-mesh-sum (AsLeast prefix tolerance) ps stop = no-mesh-stop stop
-no-mesh-sum AsMeasures ps stop = no-mesh-stop stop
-no-mesh-sum (AsSums level seed) ps stop = no-mesh-stop stop
+no-mesh-sum show ps stop = by_parts show.criterion show.order show.output
+  where
+    by_parts : (criterion : Criterion) (order : TriangleOrder) (output : Output)
+        → meshes_of (sum_acts (show_of criterion order output) ps ++ stop_acts stop) ≡ []
+    by_parts criterion order (Meshes prefix) = no-mesh-stop stop
+    by_parts criterion order Measures = no-mesh-stop stop
+    by_parts criterion order (Sums level seed) = no-mesh-stop stop
 
 outcome-meshes : (show : Show) (ps : List Picture) (stop : Option Refusal)
     → meshes_of (shown_acts show 1 ps ++ (sum_acts show ps ++ stop_acts stop)) ≡ meshes_of (shown_acts show 1 ps)

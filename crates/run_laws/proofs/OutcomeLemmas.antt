@@ -19,12 +19,12 @@ use Rattle.cert_text.specs.Certificate.{Certificate}
 use Rattle.roam_gen.specs.Generated.{made_grid, made_lines}
 use Rattle.run_laws.specs.declared.status.Status.TheVariants.{Done, Usage, GridRefused}
 use Rattle.run_laws.specs.Walk.{Walk, start_walk}
-use Rattle.word_laws.specs.Words.{Show, AsMeshes, AsStrips, AsLeast, AsMeasures, AsSums, is_of_engine, Scripted, Making, Target, AtError, InBudget, Job, Frames, Facts, Make, Check, Fit, MakeFit, CheckFit, fit_make_command, fit_check_command, Command, OnGrid, Generated, greatest_level, greatest_seed, number_word, try_command, within, least_budget, greatest_budget, is_coordinate, budget_word, spacing_word, tolerance_word, is_prefix, in_reach, coordinate_word, camera_word, frames_command, least_command, meshes_command, make_command, check_command, error_word, target_word, fit_command, fit_words, command_of}
+use Rattle.word_laws.specs.Words.{Show, as_meshes, as_strips, as_least, as_measures, as_sums, is_of_engine, Scripted, Making, Target, AtError, InBudget, Job, Frames, Facts, Make, Check, Fit, MakeFit, CheckFit, fit_make_command, fit_check_command, Command, OnGrid, Generated, greatest_level, greatest_seed, number_word, try_command, within, least_budget, greatest_budget, is_coordinate, budget_word, spacing_word, tolerance_word, is_prefix, in_reach, coordinate_word, camera_word, frames_command, least_command, meshes_command, make_command, check_command, error_word, target_word, fit_command, fit_words, command_of}
 use Rattle.fit_certificate_laws.specs.Certificate.{FitCertificate}
 use Rattle.run_laws.specs.CertFile.{cert_in, fit_cert_in}
 use Rattle.run_laws.specs.Picture.{Picture, ArePictures, IsCertified}
 use Rattle.run_laws.specs.ReportText.{info_line, grid_refusal}
-use Rattle.run_laws.specs.Outcome.{Outcome, plain_outcome, text_outcome, stop_status, engine_for, frames_outcome, script_walk, made_budget, made_spacing, made_walk, MakesNoCertificate, IsFramesOutcome, IsCheckOutcome, IsFitCheckOutcome, IsJobOutcome, IsGridOutcome, IsCommandOutcome, IsWordsOutcome, IsOutcome}
+use Rattle.run_laws.specs.Outcome.{Outcome, plain_outcome, text_outcome, stop_status, engine_end, engine_for, frames_outcome, script_walk, made_budget, made_spacing, made_walk, MakesNoCertificate, IsFramesOutcome, IsCheckOutcome, IsFitCheckOutcome, IsJobOutcome, IsGridOutcome, IsCommandOutcome, IsWordsOutcome, IsOutcome}
 use Rattle.run_laws.specs.Promise.{IsAcceptedJob, IsAcceptedInput, IsAccepted}
 use Rattle.run_laws.specs.Laws.{FramesExist, RunsAreUnique, LevelsAreInRange, AreStates, BudgetsAreTwo}
 use Rattle.run_laws.proofs.PictureLemmas.{FramesAreUnique, SetsAreLists, ArePictures-unique, pictures_of, no-members}
@@ -97,7 +97,8 @@ words-unique : FramesAreUnique → SetsAreLists → RunsAreUnique → (command :
     → MakesNoCertificate command → IsWordsOutcome command files end → IsWordsOutcome command files other → end ≡ other
 words-unique one lists runs None files end other free f g = f ∙ sym g
 words-unique one lists runs (Some (OnGrid name job)) files end other free f g = job-unique one lists runs job (grid_of (bytes_of files name)) files end other free f g
-words-unique one lists runs (Some (Generated n seed)) files end other free f g = frames_outcome-unique one lists runs (AsSums n seed) 0 (made_walk n seed) end other f g
+words-unique one lists runs (Some (Generated n seed)) files end other free f g =
+    frames_outcome-unique one lists runs (as_sums n seed) 0 (made_walk n seed) end other f g
 
 pub outcome-unique : FramesAreUnique → SetsAreLists → RunsAreUnique → (words : List (List ℕ)) (files : List NamedFile) (end other : Outcome) → MakesNoCertificate (command_of words)
     → IsOutcome words files end → IsOutcome words files other → end ≡ other
@@ -213,7 +214,7 @@ budget_word-low word number found = within-low least_budget greatest_budget numb
 least_command-budget : (i j k : List ℕ) (tolerance spacing : Option ℕ) (command : Command) → least_command i j k tolerance spacing ≡ Some command → CommandHasBudget command
 least_command-budget i j k None spacing command is = absurd (none-some command is)
 least_command-budget i j k (Some tolerance) spacing command is =
-    frames_command-budget i j (AsLeast k tolerance) (Some greatest_budget) spacing command (λ number same. budget-two number same) is
+    frames_command-budget i j (as_least k tolerance) (Some greatest_budget) spacing command (λ number same. budget-two number same) is
   where
     budget-two : (number : ℕ) → Some greatest_budget ≡ Some number → 2 ≤ number
     budget-two number same =
@@ -224,12 +225,12 @@ meshes_command-budget : (word i j k l m : List ℕ) (command : Command) → mesh
 meshes_command-budget word i j k l m command is =
     let least : Option Command = least_command i j k (tolerance_word l) (spacing_word m) in
     let behind : Option Command = if bytes_eq word (codes "least") then least else None in
-    let strip : Option Command = frames_command i j (AsStrips k) (budget_word l) (spacing_word m) in
-    elim (either (bytes_eq word (codes "mesh")) (frames_command i j (AsMeshes k) (budget_word l) (spacing_word m))
+    let strip : Option Command = frames_command i j (as_strips k) (budget_word l) (spacing_word m) in
+    elim (either (bytes_eq word (codes "mesh")) (frames_command i j (as_meshes k) (budget_word l) (spacing_word m))
     (if bytes_eq word (codes "strip") then strip else behind) command is) [
-      | inl p ↦ frames_command-budget i j (AsMeshes k) (budget_word l) (spacing_word m) command (budget_word-low l) p
+      | inl p ↦ frames_command-budget i j (as_meshes k) (budget_word l) (spacing_word m) command (budget_word-low l) p
       | inr p ↦ elim (either (bytes_eq word (codes "strip")) strip behind command p) [
-        | inl q ↦ frames_command-budget i j (AsStrips k) (budget_word l) (spacing_word m) command (budget_word-low l) q
+        | inl q ↦ frames_command-budget i j (as_strips k) (budget_word l) (spacing_word m) command (budget_word-low l) q
         | inr q ↦ least_command-budget i j k (tolerance_word l) (spacing_word m) command (met (bytes_eq word (codes "least")) least command q)
       ]
     ]
@@ -353,8 +354,8 @@ words-budget (word ∷ (i ∷ (j ∷ []))) command is =
     try_command-budget n seed command (λ number found. within-range 1 greatest_level number (number_in 19 i) found) (met (bytes_eq word (codes "try")) (try_command n seed) command is)
 words-budget (word ∷ (i ∷ (j ∷ (k ∷ [])))) command is = absurd (none-some command is)
 words-budget (word ∷ (i ∷ (j ∷ (k ∷ (l ∷ []))))) command is =
-    frames_command-budget i j AsMeasures (budget_word k) (spacing_word l) command (budget_word-low k)
-    (met (bytes_eq word (codes "measure")) (frames_command i j AsMeasures (budget_word k) (spacing_word l)) command is)
+    frames_command-budget i j as_measures (budget_word k) (spacing_word l) command (budget_word-low k)
+    (met (bytes_eq word (codes "measure")) (frames_command i j as_measures (budget_word k) (spacing_word l)) command is)
 words-budget (word ∷ (i ∷ (j ∷ (k ∷ (l ∷ (m ∷ [])))))) command is =
     let meshes : Option Command = meshes_command word i j k l m in
     let behind : Option Command = if is_prefix k then meshes else None in
@@ -425,12 +426,14 @@ script_outcome-exists two frames s grid script low range =
     let ps = pictures_of frames s.show grid.n [] (script_walk s grid script).frames (no-members grid.n range) (script-states two s grid script low) in
     (frames_outcome s.show 2 (script_walk s grid script) ps.0, (ps.0, ps.1, refl))
 
-pub made_outcome-exists : FramesExist → (n seed : ℕ) → (1 ≤ n) × (n ≤ 11) → (end : Outcome) × IsFramesOutcome (AsSums n seed) 0 (made_walk n seed) end
+pub made_outcome-exists : FramesExist → (n seed : ℕ) → (1 ≤ n) × (n ≤ 11)
+    → (end : Outcome) × IsFramesOutcome (as_sums n seed) 0 (made_walk n seed) end
 made_outcome-exists frames n seed range =
     let P : ℕ → Type 0 = λ k. (1 ≤ k) × (k ≤ 11) in
     let grid : HeightField = made_grid n seed in
-    let ps = pictures_of frames (AsSums n seed) grid.n [] (made_walk n seed).frames (no-members grid.n (subst P (sym (made_grid-level n seed)) range)) (made_walk-states n seed) in
-    (frames_outcome (AsSums n seed) 0 (made_walk n seed) ps.0, (ps.0, ps.1, refl))
+    let ps = pictures_of frames (as_sums n seed) grid.n [] (made_walk n seed).frames
+    (no-members grid.n (subst P (sym (made_grid-level n seed)) range)) (made_walk-states n seed) in
+    (frames_outcome (as_sums n seed) 0 (made_walk n seed) ps.0, (ps.0, ps.1, refl))
 
 job-exists : BudgetsAreTwo → FramesExist → CertificatesExist → (job : Job) (r : Result HeightField PgmFault) (files : List NamedFile) → HasBudget job
     → ((grid : HeightField) → r ≡ Ok grid → (1 ≤ grid.n) × (grid.n ≤ 11)) → (end : Outcome) × IsGridOutcome job r files end
@@ -470,11 +473,11 @@ MeshesAreCertified = (show : Show) (before : List ℕ) (n : ℕ) (states : List 
 
 -- an engine is left only where one makes the frames
 engine-made : (show : Show) (walk : Walk) (ps : List Picture) → IsTrue (is_some (engine_for show walk ps)) → IsTrue (is_of_engine show)
-engine-made (AsMeshes prefix) walk ps some = refl
-engine-made (AsStrips prefix) walk ps some = refl
-engine-made (AsLeast prefix tolerance) walk ps some = some
-engine-made AsMeasures walk ps some = refl
-engine-made (AsSums n seed) walk ps some = refl
+engine-made show walk ps some = tested (is_of_engine show) some
+  where
+    tested : (makes : Bool) → IsTrue (is_some (if makes then Some (engine_end walk ps) else None)) → IsTrue makes
+    tested true some = refl
+    tested false some = some
 
 shown-certified : MeshesAreCertified → (show : Show) (n files : ℕ) (walk : Walk) (end : Outcome) → AreStates n walk.frames
     → IsTrue (is_some end.engine) → IsFramesOutcome show files walk end → AllByRecursion IsCertified end.pictures
@@ -519,7 +522,7 @@ words-certified two one None files end low some is =
 words-certified two one (Some (OnGrid name job)) files end low some is =
     job-certified two one job (grid_of (bytes_of files name)) files end (low (OnGrid name job) refl) some is
 words-certified two one (Some (Generated n seed)) files end low some is =
-    shown-certified one (AsSums n seed) (made_grid n seed).n 0 (made_walk n seed) end (made_walk-states n seed) some is
+    shown-certified one (as_sums n seed) (made_grid n seed).n 0 (made_walk n seed) end (made_walk-states n seed) some is
 
 pub outcome-certified : BudgetsAreTwo → MeshesAreCertified → (words : List (List ℕ)) (files : List NamedFile) (end : Outcome)
     → IsTrue (is_some end.engine) → IsOutcome words files end → All IsCertified end.pictures

@@ -17,42 +17,45 @@ use Rattle.closure_laws.proofs.ClosureLemmas.{nothing_closed, IsLeastClosed-uniq
 use Rattle.closure_laws.proofs.SetListLemmas.{list_of, ascending-list_of, among-list_of}
 use Rattle.least_laws.specs.Least.{is_worse, IsLeastMesh}
 use Rattle.least_laws.proofs.LeastLemmas.{least_found, least_list-mesh}
-use Rattle.word_laws.specs.Words.{Show, AsMeshes, AsStrips, AsLeast, AsMeasures, AsSums, is_of_engine}
+use Rattle.word_laws.specs.Words.{Criterion, OfBudget, OfTolerance, TriangleOrder, Output, Show, is_of_engine}
 use Rattle.run_laws.specs.Picture.{Picture, IsLeastFrame, IsFrameFor, IsChangeFor, IsPicture, ArePictures, last_members, IsCertified}
 use Rattle.run_laws.specs.Laws.{FramesExist, RunsAreUnique, SetsStayClosed, AreStates}
-
--- the meshes of a tolerance are made without an engine
-pub no-engine : false ≡ true → ⊥
-no-engine e = cc
 
 abbrev made : State → List ℕ → ℕ → Option Blocked → ℕ → ℕ → Picture
 made s l w b i j = record { state = s; members = l; worst = w; blocked = b; splits = i; merges = j }
 
+-- a way to show frames
+abbrev pub show_of : Criterion → TriangleOrder → Output → Show
+show_of criterion order output = record { criterion = criterion; order = order; output = output }
+
+-- an engine makes the frames of a budget alone
+pub of-budget : (show : Show) → IsTrue (is_of_engine show) → show.criterion ≡ OfBudget
+of-budget show engine = by_parts show.criterion show.order show.output engine
+  where
+    by_parts : (criterion : Criterion) (order : TriangleOrder) (output : Output) → IsTrue (is_of_engine (show_of criterion order output))
+        → criterion ≡ OfBudget
+    by_parts OfBudget order output engine = refl
+    by_parts (OfTolerance tolerance) order output engine = absurd (no-engine engine)
+      where
+        no-engine : false ≡ true → ⊥
+        no-engine e = cc
+
 -- the change that is counted where an engine makes the frames is that of the steps of a frame
-is-run : (show : Show) (state : State) (before after : List ℕ) (splits merges : ℕ) → IsTrue (is_of_engine show) → IsChangeFor show state before after splits merges
+is-run : (show : Show) (state : State) (before after : List ℕ) (splits merges : ℕ) → IsTrue (is_of_engine show)
+    → IsChangeFor show.criterion state before after splits merges
     → IsFrameRun state.grid.n state.budget (priority_in state) before after splits merges
-is-run (AsMeshes prefix) state before after splits merges engine run = run
-is-run (AsStrips prefix) state before after splits merges engine run = run
-is-run (AsLeast prefix tolerance) state before after splits merges engine run = absurd (no-engine engine)
-is-run AsMeasures state before after splits merges engine run = run
-is-run (AsSums n seed) state before after splits merges engine run = run
+is-run show state before after splits merges engine change =
+    let P : Criterion → Type 0 = λ c. IsChangeFor c state before after splits merges in
+    subst P (of-budget show engine) change
 
--- the counts of steps are determined
-counts-unique : RunsAreUnique → (show : Show) (state : State) (before after : List ℕ) (i j k l : ℕ) → IsTrue (is_of_engine show)
-    → IsChangeFor show state before after i k → IsChangeFor show state before after j l → (i ≡ j) × (k ≡ l)
-counts-unique runs show state before after i j k l engine f g =
-    let same = runs state.grid.n state.budget (priority_in state) before after after i k j l
-    (is-run show state before after i k engine f) (is-run show state before after j l engine g) in
+-- the counts are determined
+IsChangeFor-unique : RunsAreUnique → (criterion : Criterion) (state : State) (before after : List ℕ) (i j k l : ℕ)
+    → IsChangeFor criterion state before after i k → IsChangeFor criterion state before after j l → (i ≡ j) × (k ≡ l)
+IsChangeFor-unique runs OfBudget state before after i j k l f g =
+    let same = runs state.grid.n state.budget (priority_in state) before after after i k j l f g in
     (same.1, same.2)
-
--- so are all that are counted
-IsChangeFor-unique : RunsAreUnique → (show : Show) (state : State) (before after : List ℕ) (i j k l : ℕ)
-    → IsChangeFor show state before after i k → IsChangeFor show state before after j l → (i ≡ j) × (k ≡ l)
-IsChangeFor-unique runs (AsMeshes prefix) state before after i j k l f g = counts-unique runs (AsMeshes prefix) state before after i j k l refl f g
-IsChangeFor-unique runs (AsStrips prefix) state before after i j k l f g = counts-unique runs (AsStrips prefix) state before after i j k l refl f g
-IsChangeFor-unique runs (AsLeast prefix tolerance) state before after i j k l f g = (f.no_splits ∙ sym g.no_splits, f.no_merges ∙ sym g.no_merges)
-IsChangeFor-unique runs AsMeasures state before after i j k l f g = counts-unique runs AsMeasures state before after i j k l refl f g
-IsChangeFor-unique runs (AsSums n seed) state before after i j k l f g = counts-unique runs (AsSums n seed) state before after i j k l refl f g
+IsChangeFor-unique runs (OfTolerance tolerance) state before after i j k l f g =
+    (f.no_splits ∙ sym g.no_splits, f.no_merges ∙ sym g.no_merges)
 
 -- The frame of a budget is one set, with one worst and one blocking triangle.
 abbrev pub FramesAreUnique : Type 0
@@ -66,20 +69,19 @@ SetsAreLists = (xs ys : List ℕ) → IsAscending xs → IsAscending ys → ((a 
 
 -- the frame that an engine shows is that of the budget in force
 is-frame : (show : Show) (state : State) (members : List ℕ) (worst : ℕ) (blocked : Option Blocked) → IsTrue (is_of_engine show)
-    → IsFrameFor show state members worst blocked → IsFrame state.grid.n state.budget (priority_in state) (among members) worst blocked
-is-frame (AsMeshes prefix) state members worst blocked engine f = f
-is-frame (AsStrips prefix) state members worst blocked engine f = f
-is-frame (AsLeast prefix tolerance) state members worst blocked engine f = absurd (no-engine engine)
-is-frame AsMeasures state members worst blocked engine f = f
-is-frame (AsSums n seed) state members worst blocked engine f = f
+    → IsFrameFor show.criterion state members worst blocked
+    → IsFrame state.grid.n state.budget (priority_in state) (among members) worst blocked
+is-frame show state members worst blocked engine frame =
+    let P : Criterion → Type 0 = λ c. IsFrameFor c state members worst blocked in
+    subst P (of-budget show engine) frame
 
--- it is determined
-budget_frame-unique : FramesAreUnique → SetsAreLists → (show : Show) (state : State) (xs ys : List ℕ) (worst other : ℕ) (blocked instead : Option Blocked)
-    → IsTrue (is_of_engine show) → IsAscending xs → IsAscending ys → IsFrameFor show state xs worst blocked → IsFrameFor show state ys other instead
+-- the frame of a budget is determined
+budget_frame-unique : FramesAreUnique → SetsAreLists → (n budget : ℕ) (priority : ℕ → ℕ) (xs ys : List ℕ) (worst other : ℕ)
+    (blocked instead : Option Blocked) → IsAscending xs → IsAscending ys
+    → IsFrame n budget priority (among xs) worst blocked → IsFrame n budget priority (among ys) other instead
     → (xs ≡ ys) × (worst ≡ other) × (blocked ≡ instead)
-budget_frame-unique one lists show state xs ys worst other blocked instead engine up goes f g =
-    let same = one state.grid.n state.budget (priority_in state) (among xs) (among ys) worst other blocked instead
-    (is-frame show state xs worst blocked engine f) (is-frame show state ys other instead engine g) in
+budget_frame-unique one lists n budget priority xs ys worst other blocked instead up goes f g =
+    let same = one n budget priority (among xs) (among ys) worst other blocked instead f g in
     (lists xs ys up goes same.0, same.1, same.2)
 
 -- so is that of a tolerance
@@ -94,28 +96,24 @@ least_frame-unique lists n tolerance priority xs ys worst other blocked instead 
     )
 
 -- the frame that is shown is determined
-IsFrameFor-unique : FramesAreUnique → SetsAreLists → (show : Show) (state : State) (xs ys : List ℕ) (worst other : ℕ) (blocked instead : Option Blocked)
-    → IsAscending xs → IsAscending ys → IsFrameFor show state xs worst blocked → IsFrameFor show state ys other instead
+IsFrameFor-unique : FramesAreUnique → SetsAreLists → (criterion : Criterion) (state : State) (xs ys : List ℕ) (worst other : ℕ)
+    (blocked instead : Option Blocked) → IsAscending xs → IsAscending ys
+    → IsFrameFor criterion state xs worst blocked → IsFrameFor criterion state ys other instead
     → (xs ≡ ys) × (worst ≡ other) × (blocked ≡ instead)
-IsFrameFor-unique one lists (AsMeshes prefix) state xs ys worst other blocked instead up goes f g =
-    budget_frame-unique one lists (AsMeshes prefix) state xs ys worst other blocked instead refl up goes f g
-IsFrameFor-unique one lists (AsStrips prefix) state xs ys worst other blocked instead up goes f g =
-    budget_frame-unique one lists (AsStrips prefix) state xs ys worst other blocked instead refl up goes f g
-IsFrameFor-unique one lists (AsLeast prefix tolerance) state xs ys worst other blocked instead up goes f g =
+IsFrameFor-unique one lists OfBudget state xs ys worst other blocked instead up goes f g =
+    budget_frame-unique one lists state.grid.n state.budget (priority_in state) xs ys worst other blocked instead up goes f g
+IsFrameFor-unique one lists (OfTolerance tolerance) state xs ys worst other blocked instead up goes f g =
     least_frame-unique lists state.grid.n tolerance (priority_in state) xs ys worst other blocked instead up goes f g
-IsFrameFor-unique one lists AsMeasures state xs ys worst other blocked instead up goes f g =
-    budget_frame-unique one lists AsMeasures state xs ys worst other blocked instead refl up goes f g
-IsFrameFor-unique one lists (AsSums n seed) state xs ys worst other blocked instead up goes f g =
-    budget_frame-unique one lists (AsSums n seed) state xs ys worst other blocked instead refl up goes f g
 
 -- a picture is determined by its state and the set before
 IsPicture-unique : FramesAreUnique → SetsAreLists → RunsAreUnique → (show : Show) (before : List ℕ) (state : State) (p q : Picture)
     → IsPicture show before state p → IsPicture show before state q → p ≡ q
 IsPicture-unique one lists runs show before state p q f g =
-    let same = IsFrameFor-unique one lists show state p.members q.members p.worst q.worst p.blocked q.blocked f.ascending g.ascending f.frame g.frame in
+    let same = IsFrameFor-unique one lists show.criterion state p.members q.members p.worst q.worst p.blocked q.blocked
+    f.ascending g.ascending f.frame g.frame in
     let members : p.members ≡ q.members = same.0 in
-    let counts = IsChangeFor-unique runs show state before q.members p.splits q.splits p.merges q.merges
-    (subst (λ (l : List ℕ). IsChangeFor show state before l p.splits p.merges) members f.change) g.change in
+    let counts = IsChangeFor-unique runs show.criterion state before q.members p.splits q.splits p.merges q.merges
+    (subst (λ (l : List ℕ). IsChangeFor show.criterion state before l p.splits p.merges) members f.change) g.change in
     ap (λ (s : State). made s p.members p.worst p.blocked p.splits p.merges) (f.of_state ∙ sym g.of_state)
     ∙ (ap (λ (l : List ℕ). made q.state l p.worst p.blocked p.splits p.merges) members
     ∙ (ap (λ (w : ℕ). made q.state q.members w p.blocked p.splits p.merges) same.1
@@ -152,9 +150,9 @@ made-picture frames show before state set low is =
     (made state f.0 f.1 f.2 f.3 f.4, is f.0 f.1 f.2 f.3 f.4 f.5.ascending f.6 f.7, f.5)
 
 -- the least closed set of all that is worse than a tolerance is that of a picture
-least-picture : (prefix : List ℕ) (tolerance : ℕ) (before : List ℕ) (state : State) → IsGridSet state.grid.n before
-    → HasPicture (AsLeast prefix tolerance) before state
-least-picture prefix tolerance before state set =
+least-picture : (tolerance : ℕ) (order : TriangleOrder) (output : Output) (before : List ℕ) (state : State) → IsGridSet state.grid.n before
+    → HasPicture (show_of (OfTolerance tolerance) order output) before state
+least-picture tolerance order output before state set =
     let n : ℕ = state.grid.n in
     let priority : ℕ → ℕ = priority_in state in
     let found = least_found n tolerance priority in
@@ -173,16 +171,15 @@ least-picture prefix tolerance before state set =
     )
 
 -- a state with a budget of at least 2 has a picture, from any closed set on
-has-picture : FramesExist → (show : Show) (before : List ℕ) (state : State) → IsGridSet state.grid.n before → 2 ≤ state.budget → HasPicture show before state
-has-picture frames (AsMeshes prefix) before state set low =
-    made-picture frames (AsMeshes prefix) before state set low (λ l w b i j up f run. record { of_state = refl; ascending = up; frame = f; change = run })
-has-picture frames (AsStrips prefix) before state set low =
-    made-picture frames (AsStrips prefix) before state set low (λ l w b i j up f run. record { of_state = refl; ascending = up; frame = f; change = run })
-has-picture frames (AsLeast prefix tolerance) before state set low = least-picture prefix tolerance before state set
-has-picture frames AsMeasures before state set low =
-    made-picture frames AsMeasures before state set low (λ l w b i j up f run. record { of_state = refl; ascending = up; frame = f; change = run })
-has-picture frames (AsSums n seed) before state set low =
-    made-picture frames (AsSums n seed) before state set low (λ l w b i j up f run. record { of_state = refl; ascending = up; frame = f; change = run })
+has-picture : FramesExist → (show : Show) (before : List ℕ) (state : State) → IsGridSet state.grid.n before → 2 ≤ state.budget
+    → HasPicture show before state
+has-picture frames show before state set low = by_parts show.criterion show.order show.output
+  where
+    by_parts : (criterion : Criterion) (order : TriangleOrder) (output : Output) → HasPicture (show_of criterion order output) before state
+    by_parts OfBudget order output =
+        made-picture frames (show_of OfBudget order output) before state set low
+        (λ l w b i j up f run. record { of_state = refl; ascending = up; frame = f; change = run })
+    by_parts (OfTolerance tolerance) order output = least-picture tolerance order output before state set
 
 -- so have states, from any closed set on
 pub pictures_of : FramesExist → (show : Show) (n : ℕ) (before : List ℕ) (states : List State)
@@ -195,29 +192,22 @@ pictures_of frames show n before (state ∷ states) set low =
     let rest = pictures_of frames show n f.0.members states (subst Q low.0 f.2) low.2 in
     (f.0 ∷ rest.0, (f.1, rest.1))
 
--- a set to which the steps of a frame lead is closed
-run-set : SetsStayClosed → (show : Show) (before : List ℕ) (state : State) (p : Picture) → IsTrue (is_of_engine show)
-    → IsGridSet state.grid.n before → IsPicture show before state p → IsGridSet state.grid.n p.members
-run-set stays show before state p engine set f =
-    stays state.grid.n state.budget (priority_in state) before p.members p.splits p.merges set
-    (is-run show state before p.members p.splits p.merges engine f.change)
-
 -- a picture's set is closed where the set before it is
-closed-picture : SetsStayClosed → (show : Show) (before : List ℕ) (state : State) (p : Picture)
-    → IsGridSet state.grid.n before → IsPicture show before state p → IsGridSet state.grid.n p.members
-closed-picture stays (AsMeshes prefix) before state p set f = run-set stays (AsMeshes prefix) before state p refl set f
-closed-picture stays (AsStrips prefix) before state p set f = run-set stays (AsStrips prefix) before state p refl set f
-closed-picture stays (AsLeast prefix tolerance) before state p set f =
-    record { n_low = set.n_low; n_high = set.n_high; ascending = f.ascending; closed = f.frame.closure.closed }
-closed-picture stays AsMeasures before state p set f = run-set stays AsMeasures before state p refl set f
-closed-picture stays (AsSums n seed) before state p set f = run-set stays (AsSums n seed) before state p refl set f
+closed-picture : SetsStayClosed → (criterion : Criterion) (before : List ℕ) (state : State) (p : Picture) → IsGridSet state.grid.n before
+    → IsAscending p.members → IsFrameFor criterion state p.members p.worst p.blocked
+    → IsChangeFor criterion state before p.members p.splits p.merges
+    → IsGridSet state.grid.n p.members
+closed-picture stays OfBudget before state p set up frame run =
+    stays state.grid.n state.budget (priority_in state) before p.members p.splits p.merges set run
+closed-picture stays (OfTolerance tolerance) before state p set up frame none =
+    record { n_low = set.n_low; n_high = set.n_high; ascending = up; closed = frame.closure.closed }
 
 pub picture-set : SetsStayClosed → (show : Show) (n : ℕ) (before : List ℕ) (state : State) (p : Picture) → state.grid.n ≡ n
     → IsGridSet n before → IsPicture show before state p → IsGridSet n p.members
 picture-set stays show n before state p level set f =
     let P : ℕ → Type 0 = λ k. IsGridSet k before in
     let Q : ℕ → Type 0 = λ k. IsGridSet k p.members in
-    subst Q level (closed-picture stays show before state p (subst P (sym level) set) f)
+    subst Q level (closed-picture stays show.criterion before state p (subst P (sym level) set) f.ascending f.frame f.change)
 
 -- so is the set of the last one
 pub last_members-set : SetsStayClosed → (show : Show) (n : ℕ) (before : List ℕ) (states : List State) (ps : List Picture)

@@ -1,5 +1,5 @@
 -- What stands where a write failed, frame by frame: one of four cases. This project's own words.
--- Words: is_by_frame, shown_triangles, shown_line, mesh_acts, first_frames, StandsUnbegun, StandsInMesh, StandsInText, IsCutInMesh,
+-- Words: is_by_frame, shown_line, mesh_acts, first_frames, StandsUnbegun, StandsInMesh, StandsInText, IsCutInMesh,
 -- IsCutInLine, MeshIsCut, LineIsCut, StandsInRun, LeavesAtWriteFault, CutRunsStand, CutTextsStand, WriteFaultsStand, SinksDecide.
 use Rattle.std.specs.Prelude.{◌≡◌, ◌⊎◌, ℕ, ◌+◌, ◌-◌, ◌^◌, ◌<◌, Bool, true, false, IsTrue, List, [], ◌∷◌, ◌++◌, take, Option, None, Some, slice_get}
 use Rattle.mesh_defs.specs.State.{text_in}
@@ -12,37 +12,25 @@ use Rattle.obj_write.specs.Written.{mesh_with, Grows}
 use Rattle.run_laws.specs.Walk.{Refusal}
 use Rattle.run_laws.specs.declared.status.Status.{Status}
 use Rattle.run_laws.specs.declared.status.Status.TheVariants.{WriteFault}
-use Rattle.word_laws.specs.Words.{Show, AsMeshes, AsStrips, AsLeast, AsMeasures, AsSums, Scripted, Frames, prefix_of}
+use Rattle.word_laws.specs.Words.{Meshes, Measures, Sums, Show, Scripted, Frames, prefix_of}
 use Rattle.run_laws.specs.Act.{Act, WholeMesh, ReportText, Told, IsCutShort, meshes_of, report_of}
-use Rattle.run_laws.specs.Picture.{Picture, triangles_of, strip_triangles, ArePictures}
+use Rattle.run_laws.specs.Picture.{Picture, shown_triangles, ArePictures}
 use Rattle.run_laws.specs.Outcome.{shown_acts, stop_acts, script_walk}
 use Rattle.run_laws.specs.Promise.{Seen, EndsRight}
 use Rattle.run_laws.specs.Headline.{IsRunOf}
-use Rattle.run_laws.specs.ReportText.{frame_line, strip_line, least_line, measure_line, line_refusal}
+use Rattle.run_laws.specs.ReportText.{mesh_line, measure_line, line_refusal}
 
 -- frames are shown one by one, and behind them nothing is told but a refusal
 abbrev pub is_by_frame : Show → Bool
-is_by_frame (AsMeshes prefix) = true
-is_by_frame (AsStrips prefix) = true
-is_by_frame (AsLeast prefix tolerance) = true
-is_by_frame AsMeasures = true
-is_by_frame (AsSums n seed) = false
-
--- the triangles of a frame in the order in which its mesh has them
-abbrev pub shown_triangles : Show → Picture → List ℕ
-shown_triangles (AsMeshes prefix) picture = triangles_of picture
-shown_triangles (AsStrips prefix) picture = strip_triangles picture
-shown_triangles (AsLeast prefix tolerance) picture = triangles_of picture
-shown_triangles AsMeasures picture = triangles_of picture
-shown_triangles (AsSums n seed) picture = triangles_of picture
+is_by_frame show = elim show.output as (λ _. Bool) [ Meshes prefix ↦ true | Measures ↦ true | Sums n seed ↦ false ]
 
 -- the line of the frame of this number; sums have none
 abbrev pub shown_line : Show → ℕ → Picture → List ℕ
-shown_line (AsMeshes prefix) number picture = frame_line number picture
-shown_line (AsStrips prefix) number picture = strip_line number picture
-shown_line (AsLeast prefix tolerance) number picture = least_line number picture
-shown_line AsMeasures number picture = measure_line number picture
-shown_line (AsSums n seed) number picture = []
+shown_line show number picture = elim show.output as (λ _. List ℕ) [
+  | Meshes prefix ↦ mesh_line show.order show.criterion number picture
+  | Measures ↦ measure_line number picture
+  | Sums n seed ↦ []
+]
 
 -- the mesh of a frame of this number with these bytes, where meshes are shown
 abbrev pub mesh_acts : Option (List ℕ) → ℕ → List ℕ → List Act

@@ -1,7 +1,7 @@
 -- The headline: each frame's mesh is a best mesh within the budget in force, whatever the mesh before; or the least mesh of a
 -- tolerance. A mesh that is fitted is a best one for its error or its budget.
--- Words: IsBestStripIn, IsGoodText, IsGoodFrame, AreGoodFrames, IsRunOf, KeepsGoodMeshes, IsCertifiedMesh, IsCertifiedFit,
--- IsFitMeshOf, KeepsFitMesh.
+-- Words: IsGoodMesh, IsGoodStrip, IsGoodOrder, IsGoodText, IsGoodFrame, AreGoodFrames, IsRunOf, KeepsGoodMeshes, IsCertifiedMesh,
+-- IsCertifiedFit, IsFitMeshOf, KeepsFitMesh.
 use Rattle.std.specs.Prelude.{◌≡◌, ⊤, ℕ, ◌+◌, ◌≤◌, Bool, true, IsTrue, List, [], ◌∷◌, ◌++◌, length, count_by, nat_eq, All, Contains, Option, Some}
 use Rattle.mesh_defs.specs.HeightField.{HeightField, IsHeightField}
 use Rattle.mesh_defs.specs.BestMesh.{IsBestMesh}
@@ -19,7 +19,7 @@ use Rattle.tiling_laws.specs.Ancestors.{AreLeaves}
 use Rattle.strip_laws.specs.Strip.{strip_of, IsRing}
 use Rattle.least_laws.specs.Least.{IsLeastMesh}
 use Rattle.deviation_laws.specs.PlaneHeight.{deviation_of}
-use Rattle.word_laws.specs.Words.{Show, AsMeshes, AsStrips, AsLeast, AsMeasures, AsSums, Scripted, Checking, Fitting, FitChecking, Job, OnGrid, prefix_of, command_of}
+use Rattle.word_laws.specs.Words.{Criterion, OfBudget, OfTolerance, TriangleOrder, DepthFirst, AlongStrip, Show, Scripted, Checking, Fitting, FitChecking, Job, OnGrid, prefix_of, command_of}
 use Rattle.run_laws.specs.ReportText.{certified_line, fit_line, certified_fit_line}
 use Rattle.run_laws.specs.Certify.{checks_at}
 use Rattle.run_laws.specs.Fit.{IsFitFor, IsBestFit, fit_text}
@@ -28,26 +28,30 @@ use Rattle.obj_write.specs.Written.{mesh_with, Grows}
 use Rattle.run_laws.specs.Outcome.{script_walk}
 use Rattle.run_laws.specs.Promise.{ends_script}
 
--- The list is the strip of a best mesh: its triangles, each once, in an order in which each two neighbours share a whole edge, and
+-- The list is the mesh of this criterion: a best mesh within the budget in force, or the least mesh for a tolerance: none of its
+-- triangles is worse, and every such mesh refines it.
+abbrev pub IsGoodMesh : Criterion → State → List ℕ → Type 0
+IsGoodMesh OfBudget state triangles = IsBestMesh state.grid.n state.budget (priority_in state) triangles
+IsGoodMesh (OfTolerance tolerance) state triangles = IsLeastMesh state.grid.n tolerance (priority_in state) triangles
+
+-- The list is the strip of such a mesh: its triangles, each once, in an order in which each two neighbours share a whole edge, and
 -- so do the last and the first.
-pub record IsBestStripIn (state : State) (order : List ℕ) : Type 0 where
+pub record IsGoodStrip (criterion : Criterion) (state : State) (order : List ℕ) : Type 0 where
   pub has : ℕ → Bool
-  pub best : IsBestMesh state.grid.n state.budget (priority_in state) (leaves_of state.grid.n has)
+  pub mesh : IsGoodMesh criterion state (leaves_of state.grid.n has)
   pub strip : order ≡ strip_of state.grid.n has
   pub leaves : AreLeaves state.grid.n has order
   pub once : (a : ℕ) → Contains order a → count_by (λ t. nat_eq t a) order ≡ 1
   pub ring : IsRing state.grid.n order
 
--- The bytes are the text of what is shown of a state: its best mesh within the budget in force, the strip of that mesh, or its least
--- mesh for a tolerance: none of its triangles is worse, and every such mesh refines it.
+-- the list is such a mesh, or its strip
+abbrev pub IsGoodOrder : TriangleOrder → Criterion → State → List ℕ → Type 0
+IsGoodOrder DepthFirst criterion state order = IsGoodMesh criterion state order
+IsGoodOrder AlongStrip criterion state order = IsGoodStrip criterion state order
+
+-- The bytes are the text of what is shown of a state: of the mesh of the criterion, its triangles in the order.
 abbrev pub IsGoodText : Show → State → List ℕ → Type 0
-IsGoodText (AsMeshes prefix) state bytes = (triangles : List ℕ)
-    × IsBestMesh state.grid.n state.budget (priority_in state) triangles × (bytes ≡ text_in state triangles)
-IsGoodText (AsStrips prefix) state bytes = (order : List ℕ) × IsBestStripIn state order × (bytes ≡ text_in state order)
-IsGoodText (AsLeast prefix tolerance) state bytes = (triangles : List ℕ)
-    × IsLeastMesh state.grid.n tolerance (priority_in state) triangles × (bytes ≡ text_in state triangles)
-IsGoodText AsMeasures state bytes = ⊥
-IsGoodText (AsSums n seed) state bytes = ⊥
+IsGoodText show state bytes = (order : List ℕ) × IsGoodOrder show.order show.criterion state order × (bytes ≡ text_in state order)
 
 -- The mesh has this number and the prefix of the words, and its bytes are right for this state.
 pub record IsGoodFrame (show : Show) (number : ℕ) (state : State) (mesh : Mesh) : Type 0 where

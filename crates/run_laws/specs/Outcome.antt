@@ -2,7 +2,7 @@
 -- Words: EngineEnd, Outcome, plain_outcome, text_outcome, picture_acts, shown_acts, sum_acts, stop_acts, stop_status,
 -- engine_end, frames_outcome, IsFramesOutcome, script_walk, made_budget, made_spacing, made_walk, IsMakeOutcome, fit_acts, IsFitOutcome, IsCompared,
 -- IsVerdictOutcome, IsCheckOutcome, IsJobOutcome, IsGridOutcome, IsCommandOutcome, IsWordsOutcome, IsOutcome, MakesNoCertificate.
-use Rattle.std.specs.Prelude.{◌≡◌, ⊤, ℕ, ◌+◌, ◌⊎◌, List, [], ◌∷◌, ◌++◌, length, sum_by, Option, Some, None, Result, Ok, Err}
+use Rattle.std.specs.Prelude.{◌≡◌, ⊤, ℕ, ◌+◌, ◌⊎◌, if◌then◌else◌, List, [], ◌∷◌, ◌++◌, length, sum_by, Option, Some, None, Result, Ok, Err}
 use Rattle.mesh_defs.specs.HeightField.{HeightField}
 use Rattle.mesh_defs.specs.State.{State, start_state, priority_in, text_in}
 use Rattle.roam_edge.specs.Shelf.{NamedFile, bytes_of}
@@ -22,13 +22,13 @@ use Rattle.roam_gen.specs.Generated.{made_grid, made_lines}
 use Rattle.run_laws.specs.declared.status.Status.{Status}
 use Rattle.run_laws.specs.declared.status.Status.TheVariants.{Done, Usage, GridRefused, ScriptRefused, Rejected}
 use Rattle.run_laws.specs.Walk.{Refusal, Walk, start_walk, walk_along, walk_of}
-use Rattle.word_laws.specs.Words.{Show, AsMeshes, AsStrips, AsLeast, AsMeasures, AsSums, Scripted, Making, Checking, Fitting, Job, Frames, Facts, Make, Check, Fit, FitMaking, FitChecking, MakeFit, CheckFit, Command, OnGrid, Generated, command_of}
+use Rattle.word_laws.specs.Words.{Meshes, Measures, Sums, Show, as_sums, is_of_engine, Scripted, Making, Checking, Fitting, Job, Frames, Facts, Make, Check, Fit, FitMaking, FitChecking, MakeFit, CheckFit, Command, OnGrid, Generated, command_of}
 use Rattle.run_laws.specs.CertFile.{cert_in, fit_cert_in}
 use Rattle.run_laws.specs.Certify.{checks_at, IsMade, IsFitMade, IsFirstDifference}
 use Rattle.run_laws.specs.Fit.{goal_of, IsFitted, fit_text}
 use Rattle.run_laws.specs.Act.{Act, WholeMesh, ReportText}
-use Rattle.run_laws.specs.Picture.{Picture, triangles_of, strip_triangles, ArePictures, last_members}
-use Rattle.run_laws.specs.ReportText.{frame_line, strip_line, least_line, measure_line, fit_line, try_line, info_line, grid_refusal, line_refusal, certified_line, rejection, certified_fit_line, fit_rejection}
+use Rattle.run_laws.specs.Picture.{Picture, shown_triangles, ArePictures, last_members}
+use Rattle.run_laws.specs.ReportText.{mesh_line, measure_line, fit_line, try_line, info_line, grid_refusal, line_refusal, certified_line, rejection, certified_fit_line, fit_rejection}
 
 -- what an engine holds at the end: the state, how far the camera went, the frames made, the set of the
 -- last one, and the sums of their splits and merges
@@ -56,16 +56,14 @@ plain_outcome done last files = record { acts = done; status = last; opened = fi
 abbrev pub text_outcome : List ℕ → Status → ℕ → Outcome
 text_outcome bytes last files = plain_outcome (ReportText bytes ∷ []) last files
 
--- the acts of the frame of this number: its mesh, and then its line; or its line alone
+-- the acts of the frame of this number: its mesh, and then its line; or a line alone; sums have none
 abbrev pub picture_acts : Show → ℕ → Picture → List Act
-picture_acts (AsMeshes prefix) number picture =
-    WholeMesh prefix number (text_in picture.state (triangles_of picture)) ∷ (ReportText (frame_line number picture) ∷ [])
-picture_acts (AsStrips prefix) number picture =
-    WholeMesh prefix number (text_in picture.state (strip_triangles picture)) ∷ (ReportText (strip_line number picture) ∷ [])
-picture_acts (AsLeast prefix tolerance) number picture =
-    WholeMesh prefix number (text_in picture.state (triangles_of picture)) ∷ (ReportText (least_line number picture) ∷ [])
-picture_acts AsMeasures number picture = ReportText (measure_line number picture) ∷ []
-picture_acts (AsSums n seed) number picture = []
+picture_acts show number picture = elim show.output as (λ _. List Act) [
+  | Meshes prefix ↦ WholeMesh prefix number (text_in picture.state (shown_triangles show picture))
+      ∷ (ReportText (mesh_line show.order show.criterion number picture) ∷ [])
+  | Measures ↦ ReportText (measure_line number picture) ∷ []
+  | Sums n seed ↦ []
+]
 
 -- the acts of frames, of which the first has this number
 abbrev pub shown_acts : Show → ℕ → List Picture → List Act
@@ -74,11 +72,11 @@ shown_acts show number (picture ∷ pictures) = picture_acts show number picture
 
 -- the acts behind all frames
 abbrev pub sum_acts : Show → List Picture → List Act
-sum_acts (AsMeshes prefix) pictures = []
-sum_acts (AsStrips prefix) pictures = []
-sum_acts (AsLeast prefix tolerance) pictures = []
-sum_acts AsMeasures pictures = []
-sum_acts (AsSums n seed) pictures = ReportText (try_line n seed pictures) ∷ []
+sum_acts show pictures = elim show.output as (λ _. List Act) [
+  | Meshes prefix ↦ []
+  | Measures ↦ []
+  | Sums n seed ↦ ReportText (try_line n seed pictures) ∷ []
+]
 
 -- the refusal of a line, where one stopped the walk
 abbrev pub stop_acts : Option Refusal → List Act
@@ -100,13 +98,9 @@ engine_end walk pictures = record {
   merges = sum_by (λ (p : Picture). p.merges) pictures;
 }
 
--- the engine that is left where frames are shown so; the meshes of a tolerance are made without one
+-- the engine that is left, where one makes the frames
 abbrev pub engine_for : Show → Walk → List Picture → Option EngineEnd
-engine_for (AsMeshes prefix) walk pictures = Some (engine_end walk pictures)
-engine_for (AsStrips prefix) walk pictures = Some (engine_end walk pictures)
-engine_for (AsLeast prefix tolerance) walk pictures = None
-engine_for AsMeasures walk pictures = Some (engine_end walk pictures)
-engine_for (AsSums n seed) walk pictures = Some (engine_end walk pictures)
+engine_for show walk pictures = if is_of_engine show then Some (engine_end walk pictures) else None
 
 -- The outcome of a walk and its pictures: the frames in order, and then the refusal, if a line is refused.
 abbrev pub frames_outcome : Show → ℕ → Walk → List Picture → Outcome
@@ -209,7 +203,7 @@ IsGridOutcome job (Err fault) files end = end ≡ text_outcome (grid_refusal fau
 -- what a command does over named files
 abbrev pub IsCommandOutcome : Command → List NamedFile → Outcome → Type 0
 IsCommandOutcome (OnGrid grid job) files end = IsGridOutcome job (grid_of (bytes_of files grid)) files end
-IsCommandOutcome (Generated n seed) files end = IsFramesOutcome (AsSums n seed) 0 (made_walk n seed) end
+IsCommandOutcome (Generated n seed) files end = IsFramesOutcome (as_sums n seed) 0 (made_walk n seed) end
 
 -- what words do, whether they are a command or none
 abbrev pub IsWordsOutcome : Option Command → List NamedFile → Outcome → Type 0

@@ -1,8 +1,8 @@
 -- What a frame shows: the mesh of a state, what blocks a finer one, and what changed since the frame before.
 -- Source: the greedy algorithm of Duchaineau et al., "ROAMing Terrain", IEEE Visualization 1997; the rest is
 -- this project's own.
--- Words: Picture, triangles_of, strip_triangles, mark_count, IsLeastFrame, IsFrameFor, IsNotCounted, IsChangeFor, IsPicture, ArePictures,
--- last_members, IsCertified.
+-- Words: Picture, triangles_of, strip_triangles, shown_triangles, mark_count, IsLeastFrame, IsFrameFor, IsNotCounted, IsChangeFor,
+-- IsPicture, ArePictures, last_members, IsCertified.
 use Rattle.std.specs.Prelude.{◌≡◌, ℕ, ◌<◌, ◌↔◌, ⊤, Bool, List, [], ◌∷◌, count_by, Option, None, IsNone, IfSome, Contains}
 use Rattle.mesh_defs.specs.declared.mark.Mark.{Mark}
 use Rattle.mesh_defs.specs.ClosedSet.{IsLeastClosed, leaves_of, among}
@@ -15,7 +15,7 @@ use Rattle.closure_laws.specs.Frame.{IsFrame}
 use Rattle.frame_steps.specs.Steps.{IsFrameRun}
 use Rattle.strip_laws.specs.Strip.{strip_of}
 use Rattle.least_laws.specs.Least.{is_worse}
-use Rattle.word_laws.specs.Words.{Show, AsMeshes, AsStrips, AsLeast, AsMeasures, AsSums}
+use Rattle.word_laws.specs.Words.{Criterion, OfBudget, OfTolerance, DepthFirst, AlongStrip, Show}
 
 -- what it shows; the triangles that are split, in ascending order; the greatest priority among the leaves; the
 -- triangle that blocks, with its need, if there is one; and how many splits and merges led there
@@ -35,6 +35,10 @@ triangles_of picture = leaves_of picture.state.grid.n (among picture.members)
 abbrev pub strip_triangles : Picture → List ℕ
 strip_triangles picture = strip_of picture.state.grid.n (among picture.members)
 
+-- the triangles in the order in which the mesh of a frame that is shown so has them
+abbrev pub shown_triangles : Show → Picture → List ℕ
+shown_triangles show picture = elim show.order as (λ _. List ℕ) [ DepthFirst ↦ triangles_of picture | AlongStrip ↦ strip_triangles picture ]
+
 -- how many of the triangles have this mark
 abbrev pub mark_count : State → Mark → List ℕ → ℕ
 mark_count state mark triangles =
@@ -47,43 +51,31 @@ pub record IsLeastFrame (n tolerance : ℕ) (priority : ℕ → ℕ) (has : ℕ 
   pub greatest : worst ≡ worst_of priority (leaves_of n has)
   pub unblocked : blocked ≡ None
 
--- the frame that is shown so: that of the budget in force, or that of a tolerance
-abbrev pub IsFrameFor : Show → State → List ℕ → ℕ → Option Blocked → Type 0
-IsFrameFor (AsMeshes prefix) state members worst blocked =
+-- the frame of this criterion: that of the budget in force, or that of a tolerance
+abbrev pub IsFrameFor : Criterion → State → List ℕ → ℕ → Option Blocked → Type 0
+IsFrameFor OfBudget state members worst blocked =
     IsFrame state.grid.n state.budget (priority_in state) (among members) worst blocked
-IsFrameFor (AsStrips prefix) state members worst blocked =
-    IsFrame state.grid.n state.budget (priority_in state) (among members) worst blocked
-IsFrameFor (AsLeast prefix tolerance) state members worst blocked =
+IsFrameFor (OfTolerance tolerance) state members worst blocked =
     IsLeastFrame state.grid.n tolerance (priority_in state) (among members) worst blocked
-IsFrameFor AsMeasures state members worst blocked =
-    IsFrame state.grid.n state.budget (priority_in state) (among members) worst blocked
-IsFrameFor (AsSums n seed) state members worst blocked =
-    IsFrame state.grid.n state.budget (priority_in state) (among members) worst blocked
 
 -- no change is counted
 pub record IsNotCounted (splits merges : ℕ) : Type 0 where
   pub no_splits : splits ≡ 0
   pub no_merges : merges ≡ 0
 
--- The change that is counted where frames are shown so: the triangles that the frame's steps split and merge, from the
--- set of the frame before. The mesh of a tolerance is made without steps.
-abbrev pub IsChangeFor : Show → State → List ℕ → List ℕ → ℕ → ℕ → Type 0
-IsChangeFor (AsMeshes prefix) state before after splits merges =
+-- The change that is counted by this criterion: the triangles that the frame's steps split and merge, from the set of the frame
+-- before. The mesh of a tolerance is made without steps.
+abbrev pub IsChangeFor : Criterion → State → List ℕ → List ℕ → ℕ → ℕ → Type 0
+IsChangeFor OfBudget state before after splits merges =
     IsFrameRun state.grid.n state.budget (priority_in state) before after splits merges
-IsChangeFor (AsStrips prefix) state before after splits merges =
-    IsFrameRun state.grid.n state.budget (priority_in state) before after splits merges
-IsChangeFor (AsLeast prefix tolerance) state before after splits merges = IsNotCounted splits merges
-IsChangeFor AsMeasures state before after splits merges =
-    IsFrameRun state.grid.n state.budget (priority_in state) before after splits merges
-IsChangeFor (AsSums n seed) state before after splits merges =
-    IsFrameRun state.grid.n state.budget (priority_in state) before after splits merges
+IsChangeFor (OfTolerance tolerance) state before after splits merges = IsNotCounted splits merges
 
 -- The picture of a state, where the frame before has split these triangles. There is one alone.
 pub record IsPicture (show : Show) (before : List ℕ) (state : State) (picture : Picture) : Type 0 where
   pub of_state : picture.state ≡ state
   pub ascending : IsAscending picture.members
-  pub frame : IsFrameFor show state picture.members picture.worst picture.blocked
-  pub change : IsChangeFor show state before picture.members picture.splits picture.merges
+  pub frame : IsFrameFor show.criterion state picture.members picture.worst picture.blocked
+  pub change : IsChangeFor show.criterion state before picture.members picture.splits picture.merges
 
 -- The pictures of the states, each from the set of the one before it.
 abbrev pub ArePictures : Show → List ℕ → List State → List Picture → Type 0

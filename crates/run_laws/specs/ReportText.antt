@@ -1,7 +1,7 @@
 -- The lines of the report. This project's own; each ends with one LF (10).
--- Words: blocked_text, marks_text, frame_line, strip_line, least_line, measure_line, fit_line, all_triangles, worst_in, count_blocked, sums_line,
--- try_line, info_line, grid_fault_text, grid_refusal, script_fault_text, line_refusal, certified_line, reject_text, rejection,
--- certified_fit_line, fit_reject_text, fit_rejection.
+-- Words: blocked_text, marks_text, frame_line, strip_line, least_line, mesh_line, measure_line, fit_line, all_triangles, worst_in,
+-- count_blocked, sums_line, try_line, info_line, grid_fault_text, grid_refusal, script_fault_text, line_refusal, certified_line,
+-- reject_text, rejection, certified_fit_line, fit_reject_text, fit_rejection.
 use Rattle.std.specs.Prelude.{ℕ, ◌^◌, max, is_some, List, [], ◌∷◌, ◌++◌, length, map, sum_by, count_by, Option, Some, None, codes, decimal}
 use Rattle.mesh_defs.specs.declared.mark.Mark.TheVariants.{Inside, Cut, Outside}
 use Rattle.mesh_defs.specs.HeightField.{HeightField, side_of}
@@ -22,6 +22,7 @@ use Rattle.fit_certificate_laws.specs.declared.reason.Reject.TheVariants as fit_
 use Rattle.roam_num.specs.Places.{exact_decimal}
 use Rattle.cert_text.specs.CertText.{number_text}
 use Rattle.run_laws.specs.Walk.{Refusal}
+use Rattle.word_laws.specs.Words.{Criterion, OfBudget, OfTolerance, TriangleOrder, DepthFirst, AlongStrip}
 use Rattle.deviation_laws.specs.PlaneHeight.{deviation_of, thickest_of}
 use Rattle.run_laws.specs.Picture.{Picture, triangles_of, strip_triangles, mark_count}
 use Rattle.run_laws.specs.Turns.{left_turns, right_turns}
@@ -61,6 +62,12 @@ least_line number picture =
     let triangles : List ℕ = triangles_of picture in
     codes "frame " ++ decimal number ++ codes " least " ++ decimal (length triangles)
     ++ codes " vertices " ++ decimal (length (vertices_of picture.state.grid.n triangles)) ++ codes " worst " ++ decimal picture.worst ++ codes "\n"
+
+-- the line behind a mesh whose triangles are in this order: along a strip it tells of the strip, whatever mesh it is of
+abbrev pub mesh_line : TriangleOrder → Criterion → ℕ → Picture → List ℕ
+mesh_line DepthFirst OfBudget number picture = frame_line number picture
+mesh_line DepthFirst (OfTolerance tolerance) number picture = least_line number picture
+mesh_line AlongStrip criterion number picture = strip_line number picture
 
 -- `measure K deviation N over M thickness E`: N over M is how far the surface is from the mesh at a grid point at most, in units
 -- of height, where M is 2^n; E is the greatest thickness of a triangle, in half units of height. The fraction is not reduced.

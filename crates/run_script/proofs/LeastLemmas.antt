@@ -10,7 +10,7 @@ use Rattle.least_laws.specs.Least.{is_worse, IsLeastList}
 use Rattle.least_mesh.specs.declared.least.LeastNote.{LeastNote}
 use Rattle.run_laws.specs.Act.{Act, WholeMesh, ReportText, Told, Stands, IsCutShort}
 use Rattle.run_laws.specs.Walk.{Walk}
-use Rattle.word_laws.specs.Words.{Show, AsLeast}
+use Rattle.word_laws.specs.Words.{Show, as_least}
 use Rattle.run_laws.specs.Picture.{Picture, IsPicture, last_members}
 use Rattle.run_laws.specs.Outcome.{Outcome, picture_acts}
 use Rattle.run_script.specs.declared.least_frames.LeastFrames.{LeastFrames}
@@ -19,8 +19,8 @@ use Rattle.run_laws.specs.Maker.{TakesFrame, Leaves}
 
 module _ (old new : LeastFrames) (prefix : new.prefix.now ≡ old.prefix.now) (tolerance : new.tolerance ≡ old.tolerance) where
   -- the same meshes are shown
-  same-show : (show : Show) → AsLeast old.prefix.now old.tolerance ≡ show → AsLeast new.prefix.now new.tolerance ≡ show
-  same-show show is = ap (λ (p : List ℕ). AsLeast p new.tolerance) prefix ∙ (ap (λ (t : ℕ). AsLeast old.prefix.now t) tolerance ∙ is)
+  same-show : (show : Show) → as_least old.prefix.now old.tolerance ≡ show → as_least new.prefix.now new.tolerance ≡ show
+  same-show show is = ap (λ (p : List ℕ). as_least p new.tolerance) prefix ∙ (ap (λ (t : ℕ). as_least old.prefix.now t) tolerance ∙ is)
 
   module _ (state : state_seen new ≡ state_seen old) (most : new.most ≡ old.most) (frames : new.frames ≡ old.frames + 1) where
     -- the least mesh was made, and is shown or cut short, as the picture of the walk's state
@@ -37,7 +37,7 @@ module _ (old new : LeastFrames) (prefix : new.prefix.now ≡ old.prefix.now) (t
         let same = among-list_of n list.has list.closure.closed in
         let all : leaves ≡ leaves_of n (among members) = list.leaves ∙ leaves_of-same n list.has (among members) same in
         let p : Picture = record { state = here; members = members; worst = note.worst; blocked = None; splits = 0; merges = 0 } in
-        let seen : IsPicture (AsLeast old.prefix.now old.tolerance) (last_members [] pictures) here p = record {
+        let seen : IsPicture (as_least old.prefix.now old.tolerance) (last_members [] pictures) here p = record {
           of_state = refl;
           ascending = ascending-list_of n list.has;
           frame = record {
@@ -51,7 +51,7 @@ module _ (old new : LeastFrames) (prefix : new.prefix.now ≡ old.prefix.now) (t
         let level : new.wedges.n ≡ n = ap (λ (s : State). s.grid.n) state in
         let acts : List ℕ → ℕ → State → List ℕ → ℕ → ℕ → List Act = λ prefix_now k s l t v.
         WholeMesh prefix_now k (text_in s l) ∷ (ReportText (least_numbers k t v note.worst) ∷ []) in
-        let is_acts : least_acts new note ≡ picture_acts (AsLeast old.prefix.now old.tolerance) (1 + length walk.frames) p =
+        let is_acts : least_acts new note ≡ picture_acts (as_least old.prefix.now old.tolerance) (1 + length walk.frames) p =
         ap (λ (l : List ℕ). acts l new.frames (state_seen new) leaves note.triangles note.vertices) prefix
         ∙ (ap (λ (k : ℕ). acts old.prefix.now k (state_seen new) leaves note.triangles note.vertices) number
         ∙ (ap (λ (s : State). acts old.prefix.now (1 + length walk.frames) s leaves note.triangles note.vertices) state
@@ -62,7 +62,7 @@ module _ (old new : LeastFrames) (prefix : new.prefix.now ≡ old.prefix.now) (t
         let Q : List Act → Type 0 = λ l. OnErr answer (IsCutShort before now l) in
         let P' : Show → Type 0 = λ s. OnOk answer (Stands before now (picture_acts s (1 + length walk.frames) p)) in
         let Q' : Show → Type 0 = λ s. OnErr answer (IsCutShort before now (picture_acts s (1 + length walk.frames) p)) in
-        let R : State → Type 0 = λ s. IsPicture (AsLeast old.prefix.now old.tolerance) (last_members [] pictures) s p in
+        let R : State → Type 0 = λ s. IsPicture (as_least old.prefix.now old.tolerance) (last_members [] pictures) s p in
         let R' : Show → Type 0 = λ s. IsPicture s (last_members [] pictures) walk.state p in
         record {
           picture = p;
@@ -78,5 +78,6 @@ module _ (old new : LeastFrames) (prefix : new.prefix.now ≡ old.prefix.now) (t
         }
 
 -- the meshes of a tolerance leave none
-pub least-leaves : (prefix : List ℕ) (tolerance : ℕ) (follows : Show → Walk → List Picture → Type 0) (end : Outcome) → Leaves (AsLeast prefix tolerance) follows end → None ≡ end.engine
+pub least-leaves : (prefix : List ℕ) (tolerance : ℕ) (follows : Show → Walk → List Picture → Type 0) (end : Outcome)
+    → Leaves (as_least prefix tolerance) follows end → None ≡ end.engine
 least-leaves prefix tolerance follows end leaves = leaves.left

@@ -8,7 +8,7 @@ use Rattle.roam_script.specs.declared.line.Line.TheVariants.{Frame}
 use Rattle.roam_script.specs.declared.script_fault.ScriptFault.{ScriptFault}
 use Rattle.roam_script.specs.LineText.{line_in}
 use Rattle.run_laws.specs.Walk.{Walk, limits_of, shown_by, after_line, refused_walk, walk_of}
-use Rattle.word_laws.specs.Words.{Show, AsMeshes, AsStrips, AsLeast, AsMeasures, AsSums}
+use Rattle.word_laws.specs.Words.{Show}
 use Rattle.run_laws.specs.Picture.{Picture, IsPicture, ArePictures, last_members}
 use Rattle.run_laws.specs.Act.{Act, ReportText, Told, Stands, IsCutShort}
 use Rattle.run_laws.specs.ReportText.{line_refusal}
@@ -27,11 +27,7 @@ use Rattle.run_laws.proofs.ShownLemmas.{shown_by-none}
 
 -- a refusal changes no engine that is left
 same-left : (show : Show) (why : ScriptFault) (walk : Walk) (pictures : List Picture) → engine_for show (refused_walk why walk) pictures ≡ engine_for show walk pictures
-same-left (AsMeshes prefix) why walk pictures = refl
-same-left (AsStrips prefix) why walk pictures = refl
-same-left (AsLeast prefix tolerance) why walk pictures = refl
-same-left AsMeasures why walk pictures = refl
-same-left (AsSums n seed) why walk pictures = refl
+same-left show why walk pictures = refl
 
 module _ (before middle : Told) (show : Show) (follows : Show → Walk → List Picture → Type 0) (start : Walk) (read : List ℕ) (old : Stage) (at : IsAt before middle show follows start read old) where
   abbrev here : Place

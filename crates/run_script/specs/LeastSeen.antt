@@ -10,7 +10,7 @@ use Rattle.roam_script.specs.declared.limits.Limits.{Limits}
 use Rattle.roam_script.specs.declared.limits.TheConstants.{MOST_FRAMES}
 use Rattle.run_laws.specs.Act.{Act, WholeMesh, ReportText}
 use Rattle.run_laws.specs.Walk.{Walk}
-use Rattle.word_laws.specs.Words.{Show, AsLeast}
+use Rattle.word_laws.specs.Words.{Show, as_least}
 use Rattle.run_laws.specs.Picture.{Picture}
 use Rattle.run_script.specs.declared.least_frames.LeastFrames.{LeastFrames}
 use Rattle.run_words.specs.ShowView.{IsPrefixLength}
@@ -21,7 +21,7 @@ state_seen f = record { grid = f.wedges; view = view_from f.camera f.spacing f.p
 
 -- the least meshes of this tolerance are shown, and a walk was followed
 pub record LeastFollows (f : LeastFrames) (show : Show) (walk : Walk) (pictures : List Picture) : Type 0 where
-  pub same_show : AsLeast f.prefix.now f.tolerance ≡ show
+  pub same_show : as_least f.prefix.now f.tolerance ≡ show
   pub at_state : state_seen f ≡ walk.state
   pub greatest : f.most ≡ walk.most
   pub made : f.frames ≡ length walk.frames

@@ -11,7 +11,7 @@ ghost use Rattle.wedgie_tree.specs.declared.wedges.TheConstants.{GREATEST_SPACIN
 ghost use Rattle.least_laws.specs.Least.{IsLeastList};
 ghost use Rattle.run_laws.specs.Moment.{Does};
 ghost use Rattle.run_laws.specs.Walk.{start_walk, state_after};
-ghost use Rattle.word_laws.specs.Words.{AsLeast};
+ghost use Rattle.word_laws.specs.Words.{as_least};
 ghost use Rattle.run_words.specs.ShowView.{IsPrefixLength};
 ghost use Rattle.run_script.specs.LeastSeen.{state_seen, IsUnderLeast, LeastFollows, IsLeastReady, IsLeastNoted, least_numbers, least_acts};
 
@@ -63,7 +63,7 @@ impl<'a> LeastFrames<'a> {
         requires prefix { IsPrefixLength prefix.now }
         requires spacing_low { 1 ≤ spacing }
         requires spacing_high { spacing ≤ GREATEST_SPACING }
-        ensures begins { IfOk result (λ f. LeastFollows f (AsLeast prefix.now tolerance)
+        ensures begins { IfOk result (λ f. LeastFollows f (as_least prefix.now tolerance)
             (start_walk budget (start_state grid spacing budget)) []) }
         ensures ready { IfOk result IsLeastReady }
     {

@@ -1,7 +1,7 @@
 //! The command `least`: the frames of a script as least meshes of a tolerance.
 
 ghost use Rattle.std.specs.Prelude.{◌≡◌, ◌^◌, ◌≤◌, None, Some, false};
-ghost use Rattle.word_laws.specs.Words.{OnGrid, Frames, AsLeast};
+ghost use Rattle.word_laws.specs.Words.{OnGrid, Frames, as_least};
 ghost use Rattle.run_laws.specs.Leaving.{Runs};
 ghost use Rattle.run_words.specs.ShowView.{IsPrefixLength};
 ghost use Rattle.run_words.specs.WordView.{show_for, scripted_seen, IsFrameCommand};
@@ -27,7 +27,7 @@ pub fn run_least<O: Outside>(
     requires idle { (O.moment outside.old).under_way ≡ false }
     requires accepted { IsFrameCommand command.now }
     requires prefix { IsPrefixLength prefix.now }
-    requires shown { show_for command.now.making ≡ AsLeast prefix.now tolerance }
+    requires shown { show_for command.now.meshing ≡ as_least prefix.now tolerance }
     requires opens { (O.moment outside.old).shelf.opens ≤ 2 ^ 63 }
     ensures same { O.is_same outside.old outside.new }
     ensures runs { Runs (O.moment outside.old) (O.moment outside.new)

@@ -2,7 +2,7 @@
 -- Words: IsPrefixLength, show_seen, IsShowing.
 use Rattle.std.specs.Prelude.{ℕ, ◌<◌, ◌≤◌, List, length}
 use Rattle.roam_edge.specs.declared.mesh_sink.TheConstants.{LONGEST_PREFIX}
-use Rattle.word_laws.specs.Words.{Show, AsMeshes, AsStrips, AsMeasures}
+use Rattle.word_laws.specs.Words.{Show, as_meshes, as_strips, as_measures}
 use Rattle.run_words.specs.declared.showing.Showing.{Showing}
 use Rattle.run_words.specs.declared.showing.Showing.TheVariants.{Meshes, Strips, Measures}
 
@@ -12,9 +12,9 @@ IsPrefixLength prefix = (0 < length prefix) × (length prefix ≤ LONGEST_PREFIX
 
 -- the same in the words of a run
 abbrev pub show_seen : Showing → Show
-show_seen (Meshes prefix) = AsMeshes prefix.now
-show_seen (Strips prefix) = AsStrips prefix.now
-show_seen Measures = AsMeasures
+show_seen (Meshes prefix) = as_meshes prefix.now
+show_seen (Strips prefix) = as_strips prefix.now
+show_seen Measures = as_measures
 
 -- the prefix, where there is one, has an accepted length
 abbrev pub IsShowing : Showing → Type 0

@@ -1,27 +1,27 @@
 -- The commands of the code in the words of a run, and what the code knows of them.
--- Words: show_for, IsMaking, scripted_seen, command_seen, IsFrameCommand, IsAccepted.
+-- Words: show_for, IsMeshing, scripted_seen, command_seen, IsFrameCommand, IsAccepted.
 use Rattle.std.specs.Prelude.{◌≤◌}
 use Rattle.mesh_defs.specs.declared.level.TheConstants.{GREATEST_LEVEL}
 use Rattle.wedgie_tree.specs.declared.wedges.TheConstants.{GREATEST_SPACING}
 use Rattle.run_words.specs.declared.words.FrameWords.{FrameWords}
 use Rattle.run_words.specs.declared.words.Command.{Command}
 use Rattle.run_words.specs.declared.words.Command.TheVariants.{Frames, Info, Try, Make, Check, Fit, MakeFit, CheckFit}
-use Rattle.run_words.specs.declared.showing.Making.{Making}
-use Rattle.run_words.specs.declared.showing.Making.TheVariants.{ByEngine, ByTolerance}
+use Rattle.run_words.specs.declared.showing.Meshing.{Meshing}
+use Rattle.run_words.specs.declared.showing.Meshing.TheVariants.{ByEngine, ByTolerance}
 use Rattle.run_words.specs.ShowView.{IsPrefixLength, show_seen, IsShowing}
 use Rattle.run_words.specs.CertifyView.{making_seen, checking_seen, AreInBounds}
 use Rattle.run_words.specs.FitView.{fitting_seen, IsFitting, fit_making_seen, fit_checking_seen, AreFitBounds}
 use Rattle.word_laws.specs.Words as words
 
 -- how frames are shown
-abbrev pub show_for : Making → words.Show
+abbrev pub show_for : Meshing → words.Show
 show_for (ByEngine showing) = show_seen showing
-show_for (ByTolerance prefix tolerance) = words.AsLeast prefix.now tolerance
+show_for (ByTolerance prefix tolerance) = words.as_least prefix.now tolerance
 
 -- the prefix, where there is one, has an accepted length
-abbrev pub IsMaking : Making → Type 0
-IsMaking (ByEngine showing) = IsShowing showing
-IsMaking (ByTolerance prefix tolerance) = IsPrefixLength prefix.now
+abbrev pub IsMeshing : Meshing → Type 0
+IsMeshing (ByEngine showing) = IsShowing showing
+IsMeshing (ByTolerance prefix tolerance) = IsPrefixLength prefix.now
 
 -- the frames of a script
 abbrev pub scripted_seen : FrameWords → words.Scripted
@@ -29,7 +29,7 @@ scripted_seen c = record {
   script = c.script.now;
   budget = c.budget;
   spacing = c.spacing;
-  show = show_for c.making;
+  show = show_for c.meshing;
 }
 
 abbrev pub command_seen : Command → words.Command
@@ -44,7 +44,7 @@ command_seen (CheckFit w) = words.OnGrid w.grid.now (words.CheckFit (fit_checkin
 
 -- budget and spacing lie within their bounds, and the prefix, where there is one, has an accepted length
 pub record IsFrameCommand (command : FrameWords) : Type 0 where
-  pub shown : IsMaking command.making
+  pub shown : IsMeshing command.meshing
   pub budget_low : words.least_budget ≤ command.budget
   pub budget_high : command.budget ≤ words.greatest_budget
   pub spacing_low : 1 ≤ command.spacing

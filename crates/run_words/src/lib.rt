@@ -12,5 +12,5 @@ mod words;
 
 pub use certify_words::{CheckWords, FitCheckWords, FitMakeWords, MakeWords};
 pub use fit_words::{FitWords, Target};
-pub use showing::{Making, Showing};
+pub use showing::{Meshing, Showing};
 pub use words::{Command, FrameWords, command_in};

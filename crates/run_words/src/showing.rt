@@ -1,4 +1,4 @@
-//! What makes the frames of a script, and how they are shown.
+//! Which meshes the frames of a script have, and how they are shown.
 
 /// How the frames of an engine are shown.
 #[derive(Clone, Copy)]
@@ -11,9 +11,9 @@ pub enum Showing<'a> {
     Measures,
 }
 
-/// What makes the frames of a script.
+/// Which meshes the frames of a script have, and how they are shown.
 #[derive(Clone, Copy)]
-pub enum Making<'a> {
+pub enum Meshing<'a> {
     /// An engine, whose frames are shown so.
     ByEngine(Showing<'a>),
     /// The least meshes of a tolerance, whose names begin with the prefix.

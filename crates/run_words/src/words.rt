@@ -2,16 +2,16 @@
 
 ghost use Rattle.std.specs.Prelude.{◌≡◌, ◌≤◌, if◌then◌else◌, true, map, string_bytes, IfSome, ◌<◌, ◌&&◌, ◌==◌, length, codes, bytes_eq};
 ghost use Rattle.std.specs.Option.{option_map};
-ghost use Rattle.word_laws.specs.Words.{AsMeasures, Facts, OnGrid, budget_word, command_of, frames_command, greatest_level, greatest_seed, least_budget, greatest_budget, least_command, meshes_command, six_command, number_word, spacing_word, tolerance_word, try_command};
+ghost use Rattle.word_laws.specs.Words.{as_measures, Facts, OnGrid, budget_word, command_of, frames_command, greatest_level, greatest_seed, least_budget, greatest_budget, least_command, meshes_command, six_command, number_word, spacing_word, tolerance_word, try_command};
 ghost use Rattle.word_laws.specs.Words.{is_prefix as is_prefix_seen};
 ghost use Rattle.run_words.specs.ShowView.{IsPrefixLength};
-ghost use Rattle.run_words.specs.WordView.{command_seen, show_for, IsMaking, IsAccepted};
+ghost use Rattle.run_words.specs.WordView.{command_seen, show_for, IsMeshing, IsAccepted};
 
 use crate::certify_words::{
     CheckWords, FitCheckWords, FitMakeWords, MakeWords, certify_in, is_task, make_fit_in,
 };
 use crate::fit_words::{FitWords, fit_in};
-use crate::showing::{Making, Showing};
+use crate::showing::{Meshing, Showing};
 use mesh_defs::GREATEST_LEVEL;
 use roam_edge::LONGEST_PREFIX;
 use roam_num::read_dec;
@@ -47,8 +47,8 @@ pub struct FrameWords<'a> {
     pub grid: &'a str,
     /// The name of the script's file.
     pub script: &'a str,
-    /// What makes the frames, and how they are shown.
-    pub making: Making<'a>,
+    /// Which meshes the frames have, and how they are shown.
+    pub meshing: Meshing<'a>,
     /// The greatest budget that the script may put in force.
     pub budget: u32,
     /// The world units of a grid step.
@@ -145,13 +145,13 @@ fn measure_in<'a>(
     spacing: &str,
 ) -> Option<Command<'a>>
     ensures value { option_map command_seen result ≡ (if bytes_eq word.now (codes "measure")
-        then frames_command grid.now script.now AsMeasures (budget_word budget.now) (spacing_word spacing.now) else None) }
+        then frames_command grid.now script.now as_measures (budget_word budget.now) (spacing_word spacing.now) else None) }
     ensures accepted { IfSome result IsAccepted }
 {
     if word == "measure" {
-        let making = Making::ByEngine(Showing::Measures);
+        let meshing = Meshing::ByEngine(Showing::Measures);
         let budget = small_number(budget, LEAST_BUDGET, GREATEST_BUDGET);
-        frames_in(grid, script, making, budget, spacing)
+        frames_in(grid, script, meshing, budget, spacing)
     } else {
         None
     }
@@ -204,17 +204,17 @@ fn meshes_in<'a>(
     if !is_prefix(prefix) {
         return None;
     }
-    let making = if word == "mesh" {
-        Making::ByEngine(Showing::Meshes(prefix))
+    let meshing = if word == "mesh" {
+        Meshing::ByEngine(Showing::Meshes(prefix))
     } else if word == "strip" {
-        Making::ByEngine(Showing::Strips(prefix))
+        Meshing::ByEngine(Showing::Strips(prefix))
     } else if word == "least" {
         return least_in(grid, script, prefix, number, spacing);
     } else {
         return None;
     };
     let budget = small_number(number, LEAST_BUDGET, GREATEST_BUDGET);
-    frames_in(grid, script, making, budget, spacing)
+    frames_in(grid, script, meshing, budget, spacing)
 }
 
 /// The least meshes of a tolerance, if it and the spacing are numbers within their bounds. A script may put each budget in force
@@ -232,28 +232,28 @@ fn least_in<'a>(
     ensures accepted { IfSome result IsAccepted }
 {
     let tolerance = number_in_word(tolerance, 0, GREATEST_TOLERANCE)?;
-    let making = Making::ByTolerance { prefix, tolerance };
-    frames_in(grid, script, making, Some(GREATEST_BUDGET), spacing)
+    let meshing = Meshing::ByTolerance { prefix, tolerance };
+    frames_in(grid, script, meshing, Some(GREATEST_BUDGET), spacing)
 }
 
 /// The frames of a script, if there is a budget and the spacing is a number within its bounds.
 fn frames_in<'a>(
     grid: &'a str,
     script: &'a str,
-    making: Making<'a>,
+    meshing: Meshing<'a>,
     budget: Option<u32>,
     spacing: &str,
 ) -> Option<Command<'a>>
-    requires making { IsMaking making }
+    requires meshing { IsMeshing meshing }
     requires budget { IfSome budget (λ number. (least_budget ≤ number) × (number ≤ greatest_budget)) }
     ensures value { option_map command_seen result ≡
-        frames_command grid.now script.now (show_for making.entry) budget (spacing_word spacing.now) }
+        frames_command grid.now script.now (show_for meshing.entry) budget (spacing_word spacing.now) }
     ensures accepted { IfSome result IsAccepted }
 {
     Some(Command::Frames(FrameWords {
         grid,
         script,
-        making,
+        meshing,
         budget: budget?,
         spacing: small_number(spacing, 1, GREATEST_SPACING)?,
     }))

@@ -1,5 +1,6 @@
 -- The words of a command line that are a command. This project's own.
--- Words: Show, Scripted, Making, Checking, Target, Fitting, FitMaking, FitChecking, Job, Command, job_files, names_of, file_count, is_scripted, has_script, is_check, is_of_engine,
+-- Words: Criterion, TriangleOrder, Output, Show, as_meshes, as_strips, as_least, as_measures, as_sums, Scripted, Making, Checking, Target,
+-- Fitting, FitMaking, FitChecking, Job, Command, job_files, names_of, file_count, is_scripted, has_script, is_check, is_of_engine,
 -- prefix_of, is_prefix, within, number_word, least_budget, greatest_budget, greatest_spacing, greatest_level, greatest_seed,
 -- greatest_tolerance, greatest_error, greatest_coordinate, is_coordinate, budget_word, spacing_word, tolerance_word, error_word, in_reach, coordinate_word, frames_command, least_command, meshes_command, try_command,
 -- camera_word, make_command, check_command, target_word, fit_command, fit_words, fit_make_command, fit_check_command, six_command, eight_command,
@@ -11,15 +12,48 @@ use Rattle.roam_edge.specs.declared.mesh_sink.TheConstants.{LONGEST_PREFIX}
 use Rattle.text_laws.specs.Numbers.{number_in, signed_in}
 use Rattle.roam_num.specs.Places.{thousandths_in}
 
--- how frames are shown: as meshes whose names begin with this prefix, of a budget, with the triangles depth first or in the
--- order of a strip, or of a tolerance; by how far the meshes of a budget are from the surface; or by their sums alone, of a
--- run that is generated from this level and seed
-pub data Show : Type 0 where
-  AsMeshes : (prefix : List ℕ) → Show
-  AsStrips : (prefix : List ℕ) → Show
-  AsLeast : (prefix : List ℕ) (tolerance : ℕ) → Show
-  AsMeasures : Show
-  AsSums : (n seed : ℕ) → Show
+-- which mesh a frame has: the best one of the budget in force, or the least one of a tolerance
+pub data Criterion : Type 0 where
+  OfBudget : Criterion
+  OfTolerance : (tolerance : ℕ) → Criterion
+
+-- the order in which a mesh has its triangles: depth first, or that of a strip
+pub data TriangleOrder : Type 0 where
+  DepthFirst : TriangleOrder
+  AlongStrip : TriangleOrder
+
+-- what is told of frames: of each its mesh, whose name begins with this prefix, and a line; of each a line on how far its mesh is from
+-- the surface; or of all together their sums, of a run that is generated from this level and seed
+pub data Output : Type 0 where
+  Meshes : (prefix : List ℕ) → Output
+  Measures : Output
+  Sums : (n seed : ℕ) → Output
+
+-- how frames are shown: which mesh each has, the order of its triangles, and what is told
+pub record Show : Type 0 where
+  pub criterion : Criterion
+  pub order : TriangleOrder
+  pub output : Output
+
+-- as the meshes of a budget, depth first
+abbrev pub as_meshes : List ℕ → Show
+as_meshes begin = record { criterion = OfBudget; order = DepthFirst; output = Meshes begin }
+
+-- as their strips
+abbrev pub as_strips : List ℕ → Show
+as_strips begin = record { criterion = OfBudget; order = AlongStrip; output = Meshes begin }
+
+-- as the least meshes of a tolerance, depth first
+abbrev pub as_least : List ℕ → ℕ → Show
+as_least begin tolerance = record { criterion = OfTolerance tolerance; order = DepthFirst; output = Meshes begin }
+
+-- by how far the meshes of a budget are from the surface
+abbrev pub as_measures : Show
+as_measures = record { criterion = OfBudget; order = DepthFirst; output = Measures }
+
+-- by the sums of the meshes of a budget, in a generated run
+abbrev pub as_sums : ℕ → ℕ → Show
+as_sums n seed = record { criterion = OfBudget; order = DepthFirst; output = Sums n seed }
 
 -- the frames of a script: its name, the greatest budget, how many world units a grid step has, and how
 -- they are shown
@@ -126,21 +160,13 @@ is_check (OnGrid grid (MakeFit m)) = false
 is_check (OnGrid grid (CheckFit c)) = true
 is_check (Generated n seed) = false
 
--- an engine makes the frames that are shown so; the meshes of a tolerance are made without one
+-- an engine makes the frames that are shown so: those of a budget; the meshes of a tolerance are made without one
 abbrev pub is_of_engine : Show → Bool
-is_of_engine (AsMeshes prefix) = true
-is_of_engine (AsStrips prefix) = true
-is_of_engine (AsLeast prefix tolerance) = false
-is_of_engine AsMeasures = true
-is_of_engine (AsSums n seed) = true
+is_of_engine show = elim show.criterion as (λ _. Bool) [ OfBudget ↦ true | OfTolerance tolerance ↦ false ]
 
--- what the names of meshes begin with, where meshes are shown
+-- what the names of meshes begin with, where meshes are told
 abbrev pub prefix_of : Show → Option (List ℕ)
-prefix_of (AsMeshes prefix) = Some prefix
-prefix_of (AsStrips prefix) = Some prefix
-prefix_of (AsLeast prefix tolerance) = Some prefix
-prefix_of AsMeasures = None
-prefix_of (AsSums n seed) = None
+prefix_of show = elim show.output as (λ _. Option (List ℕ)) [ Meshes prefix ↦ Some prefix | Measures ↦ None | Sums n seed ↦ None ]
 
 -- a prefix has at least 1 byte, and no more than a mesh sink takes
 abbrev pub is_prefix : List ℕ → Bool
@@ -220,13 +246,13 @@ frames_command grid_name script_name shown _ _ = None
 abbrev pub least_command : List ℕ → List ℕ → List ℕ → Option ℕ → Option ℕ → Option Command
 least_command grid_name script_name prefix None spacing = None
 least_command grid_name script_name prefix (Some tolerance) spacing =
-    frames_command grid_name script_name (AsLeast prefix tolerance) (Some greatest_budget) spacing
+    frames_command grid_name script_name (as_least prefix tolerance) (Some greatest_budget) spacing
 
 -- a word, GRID, SCRIPT, PREFIX, a number and SPACING
 abbrev pub meshes_command : List ℕ → List ℕ → List ℕ → List ℕ → List ℕ → List ℕ → Option Command
 meshes_command word i j prefix number step =
-    if bytes_eq word (codes "mesh") then frames_command i j (AsMeshes prefix) (budget_word number) (spacing_word step)
-    else if bytes_eq word (codes "strip") then frames_command i j (AsStrips prefix) (budget_word number) (spacing_word step)
+    if bytes_eq word (codes "mesh") then frames_command i j (as_meshes prefix) (budget_word number) (spacing_word step)
+    else if bytes_eq word (codes "strip") then frames_command i j (as_strips prefix) (budget_word number) (spacing_word step)
     else if bytes_eq word (codes "least") then least_command i j prefix (tolerance_word number) (spacing_word step)
     else None
 
@@ -306,7 +332,7 @@ command_of (word ∷ (i ∷ [])) = if bytes_eq word (codes "info") then Some (On
 command_of (word ∷ (i ∷ (j ∷ []))) =
     if bytes_eq word (codes "try") then try_command (number_word 1 greatest_level i) (number_word 0 greatest_seed j) else None
 command_of (word ∷ (i ∷ (j ∷ (k ∷ (l ∷ []))))) =
-    if bytes_eq word (codes "measure") then frames_command i j AsMeasures (budget_word k) (spacing_word l) else None
+    if bytes_eq word (codes "measure") then frames_command i j as_measures (budget_word k) (spacing_word l) else None
 command_of (word ∷ (i ∷ (j ∷ (k ∷ (l ∷ (m ∷ [])))))) = six_command word i j k l m
 command_of (word ∷ (i ∷ (j ∷ (k ∷ (l ∷ (m ∷ (o ∷ []))))))) =
     if bytes_eq word (codes "certify") && bytes_eq i (codes "check") then check_command j k l (budget_word m) (spacing_word o) else None
