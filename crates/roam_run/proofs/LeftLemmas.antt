@@ -1,5 +1,5 @@
 -- The engine that a run leaves is the one that its outcome tells of.
-use Rattle.std.proofs.Common.{◌≡◌, ◌⊎◌, inl, inr, ℕ, IsTrue, if◌then◌else◌, List, [], length, sum_by, Some, None, refl, sym, ◌∙◌, ap}
+use Rattle.std.proofs.Common.{◌≡◌, ◌⊎◌, ◌↔◌, ◌&&◌, inl, inr, ℕ, Bool, true, IsTrue, IsSome, if◌then◌else◌, List, [], length, sum_by, Option, option_map, Some, None, refl, sym, ◌∙◌, ap, subst}
 use Rattle.mesh_defs.specs.State.{State}
 use Rattle.triangle_pool.specs.Slots.{PoolState}
 use Rattle.roam_mesh.specs.Mesh.{pool_members}
@@ -9,9 +9,10 @@ use Rattle.run_laws.specs.declared.status.Status.TheVariants as ends
 use Rattle.run_laws.specs.Walk.{Walk}
 use Rattle.run_laws.specs.Picture.{Picture, last_members}
 use Rattle.run_laws.specs.Outcome.{Outcome, EngineEnd, sum_acts, engine_for, engine_end}
-use Rattle.run_laws.specs.Promise.{is_complete, ends_script}
+use Rattle.run_laws.specs.Promise.{is_complete, ends_script, leaves_engine}
 use Rattle.run_laws.specs.Maker.{Leaves, IsScriptEnd}
 use Rattle.run_laws.proofs.GridLemmas.{not-complete}
+use Rattle.word_laws.specs.Words.{Scripted, OnGrid, Frames, is_of_engine}
 use Rattle.run_words.specs.declared.showing.Showing.{Showing}
 use Rattle.run_words.specs.declared.showing.Showing.TheVariants.{Meshes, Strips, Measures}
 use Rattle.run_words.specs.ShowView.{show_seen}
@@ -55,3 +56,23 @@ left-some status engine (inl fault) is = absurd (not-complete status ends.ReadFa
 left-some status engine (inr (inl done)) is = ap (λ (s : Status). if ends_script s then Some engine else None) done
 left-some status engine (inr (inr (inl refused))) is = ap (λ (s : Status). if ends_script s then Some engine else None) refused
 left-some status engine (inr (inr (inr failed))) is = absurd (not-complete status ends.WriteFault refl is failed)
+
+-- an engine makes the frames that are shown so
+engine-makes : (showing : Showing) → is_of_engine (show_seen showing) ≡ true
+engine-makes (Meshes prefix) = refl
+engine-makes (Strips prefix) = refl
+engine-makes Measures = refl
+
+-- an engine is left where something of it is seen
+pub left-seen : (engine : Option EngineState) (P : Type 0) → (IsSome engine ↔ P) → IsSome (option_map engine_seen engine) ↔ P
+left-seen None P left = left
+left-seen (Some engine) P left = left
+
+-- one is left of a script just where its lines were carried out
+pub left-of-engine : (showing : Showing) (name : List ℕ) (s : Scripted) (status : Status) (engine : Option EngineState) → s.show ≡ show_seen showing
+    → (IsSome engine ↔ IsTrue (ends_script status))
+    → IsSome (option_map engine_seen engine) ↔ IsTrue (leaves_engine (Some (OnGrid name (Frames s))) status)
+left-of-engine showing name s status engine shown left =
+    let made : is_of_engine s.show ≡ true = ap is_of_engine shown ∙ engine-makes showing in
+    let P : Bool → Type 0 = λ b. IsSome (option_map engine_seen engine) ↔ IsTrue (b && ends_script status) in
+    subst P (sym made) (left-seen engine (IsTrue (ends_script status)) left)

@@ -1,3 +1,2 @@
 pub mod LeftLemmas
-pub mod TopLemmas
 pub mod TryLemmas

@@ -1,5 +1,5 @@
 -- The end of a generated run: all that it does is its line.
-use Rattle.std.proofs.Common.{◌≡◌, ℕ, ◌+◌, ◌++◌, ◌⊎◌, true, IsTrue, if◌then◌else◌, List, [], ◌∷◌, length, Option, Some, None, option_map, refl, sym, ◌∙◌, ap, subst, arith, inl, inr}
+use Rattle.std.proofs.Common.{◌≡◌, ℕ, ◌+◌, ◌++◌, ◌⊎◌, ◌↔◌, false, true, IsTrue, IsSome, if◌then◌else◌, List, [], ◌∷◌, length, Option, Some, None, option_map, refl, sym, ◌∙◌, ap, subst, arith, inl, inr}
 use Rattle.std.proofs.lemmas.Bool.{false≢true}
 use Rattle.roam_edge.specs.Shelf.{NamedFile}
 use Rattle.roam_gen.specs.Generated.{made_lines}
@@ -12,14 +12,17 @@ use Rattle.run_laws.specs.Picture.{Picture}
 use Rattle.run_laws.specs.ReportText.{all_triangles, worst_in, sums_line, try_line}
 use Rattle.run_laws.specs.Act.{Act, ReportText, Told, Stands, IsCutShort}
 use Rattle.run_laws.specs.Outcome.{Outcome, text_outcome, shown_acts, sum_acts, stop_acts, stop_status, frames_outcome, engine_end, made_walk}
-use Rattle.run_laws.specs.Promise.{Seen, is_complete, ends_script}
+use Rattle.run_laws.specs.Promise.{Seen, is_complete, ends_script, may_end}
 use Rattle.run_laws.proofs.WalkLemmas.{along-stop}
 use Rattle.run_engine.specs.declared.generated.Sums.{Sums}
 use Rattle.run_engine.specs.EngineSeen.{engine_seen}
 use Rattle.run_laws.specs.Maker.{DoesAs}
-use Rattle.run_laws.specs.Leaving.{CommandEnds}
+use Rattle.run_laws.specs.Moment.{Moment}
+use Rattle.run_laws.proofs.ActLemmas.{stands-nothing}
+use Rattle.run_laws.proofs.StatementLemmas.{ends-by-status}
+use Rattle.run_laws.specs.Leaving.{CommandEnds, Runs, TellsLast}
 use Rattle.run_engine.specs.SumView.{made_start, IsSumOf, SumsUp}
-use Rattle.roam_run.proofs.LeftLemmas.{followed-end}
+use Rattle.roam_run.proofs.LeftLemmas.{followed-end, left-seen}
 
 no-acts : (n seed k : ℕ) (ps : List Picture) → shown_acts (as_sums n seed) k ps ≡ []
 no-acts n seed k [] = refl
@@ -79,3 +82,108 @@ made-ends before now shelf n seed sums engine left files text status all is eith
         left-by n seed sums engine left status all either by,
       );
     }
+
+-- a generated run was carried out
+pub made-runs : (before now : Moment) (n seed : ℕ) (sums : Sums) (engine : EngineState) (left : Option EngineState) (text : List ℕ) (status : Status)
+    → before.under_way ≡ false → SumsUp n seed sums engine → text ≡ sums_line n seed sums.frames sums.triangles sums.worst sums.blocked
+    → left ≡ (if ends_script status then Some engine else None) → (IsSome left ↔ IsTrue (ends_script status))
+    → TellsLast before now text ends.Done status → Runs before now (Some (Generated n seed)) status (option_map engine_seen left)
+made-runs before now n seed sums engine left text status idle all is by some tells =
+    let P : Seen → Type 0 = λ shelf. (files : List NamedFile)
+    → CommandEnds before.sinks now.sinks before.shelf shelf (Generated n seed) files status (option_map engine_seen left) in
+    let opened : now.shelf.opens ≡ before.shelf.opens = ap (λ (shelf : Seen). shelf.opens) tells.shelf in
+    record {
+      ends = ends-by-status before now (Generated n seed) status (option_map engine_seen left)
+          (λ files are. subst P (sym tells.shelf) (λ other.
+          made-ends before.sinks now.sinks before.shelf n seed sums engine left other text status all is tells.ends by (tells.does 0)) files)
+          (λ e. absurd (not-read tells.ends e))
+          (λ e. absurd (not-memory tells.ends e));
+      leaves = record {
+        files = ap (λ (shelf : Seen). shelf.files) tells.shelf;
+        idle = λ not. tells.idle not ∙ idle;
+        opens = record {
+          done = λ e. omega (arith, opened);
+          script_refused = λ e. omega (arith, opened);
+          grid_refused = λ e. absurd (not-grid tells.ends e);
+          usage = λ e. opened;
+          read_fault = λ e. absurd (not-read tells.ends e);
+          rejected = λ e. absurd (not-rejected tells.ends e);
+          least = omega (arith, opened);
+          most = omega (arith, opened);
+        };
+        read_out = λ e none. absurd (omega (arith, none));
+        engine = left-seen left (IsTrue (ends_script status)) some;
+        shelf_in_time = λ not_late none. tells.shelf_late ∙ not_late;
+        meshes_in_time = tells.meshes_in_time;
+        report_in_time = tells.report_in_time;
+      };
+      allowed = allowed tells.ends;
+      causes = record {
+        read = λ e. absurd (not-read tells.ends e);
+        not_read = λ not. tells.shelf_faults;
+        writes = tells.writes;
+      };
+    }
+  where
+    not-read : (status ≡ ends.Done) ⊎ (status ≡ ends.WriteFault) → status ≡ ends.ReadFault → ⊥
+    not-read (inl a) e = cc
+    not-read (inr a) e = cc
+
+    not-memory : (status ≡ ends.Done) ⊎ (status ≡ ends.WriteFault) → status ≡ ends.NoMemory → ⊥
+    not-memory (inl a) e = cc
+    not-memory (inr a) e = cc
+
+    not-grid : (status ≡ ends.Done) ⊎ (status ≡ ends.WriteFault) → status ≡ ends.GridRefused → ⊥
+    not-grid (inl a) e = cc
+    not-grid (inr a) e = cc
+
+    not-rejected : (status ≡ ends.Done) ⊎ (status ≡ ends.WriteFault) → status ≡ ends.Rejected → ⊥
+    not-rejected (inl a) e = cc
+    not-rejected (inr a) e = cc
+
+    allowed : (status ≡ ends.Done) ⊎ (status ≡ ends.WriteFault) → IsTrue (may_end (Some (Generated n seed)) status)
+    allowed (inl a) = subst (λ (s : Status). IsTrue (may_end (Some (Generated n seed)) s)) (sym a) refl
+    allowed (inr a) = subst (λ (s : Status). IsTrue (may_end (Some (Generated n seed)) s)) (sym a) refl
+
+-- memory ran out in one
+pub unmade-runs : (now : Moment) (n seed : ℕ) → now.under_way ≡ false → Runs now now (Some (Generated n seed)) ends.NoMemory None
+unmade-runs now n seed idle = record {
+  ends = ends-by-status now now (Generated n seed) ends.NoMemory None
+      (λ files are. record { ends = λ m r. absurd (m refl) })
+      (λ e. cc)
+      (λ e. record {
+        opened = 0;
+        count = omega arith;
+        least = omega arith;
+        most = omega arith;
+        stands = stands-nothing now.sinks;
+        header = λ name job files same. cc;
+        in_order = λ name c files same. cc;
+        fit_in_order = λ name c files same. cc;
+      });
+  leaves = record {
+    files = refl;
+    idle = λ not. idle;
+    opens = record {
+      done = λ e. cc;
+      script_refused = λ e. cc;
+      grid_refused = λ e. cc;
+      usage = λ e. cc;
+      read_fault = λ e. cc;
+      rejected = λ e. cc;
+      least = omega arith;
+      most = omega arith;
+    };
+    read_out = λ e. cc;
+    engine = ((λ e. e), (λ e. e));
+    shelf_in_time = λ not_late none. not_late;
+    meshes_in_time = λ not_late none. not_late;
+    report_in_time = λ not_late none. not_late;
+  };
+  allowed = refl;
+  causes = record {
+    read = λ e. cc;
+    not_read = λ not. refl;
+    writes = record { write = λ e. cc; not_write = λ not. record { meshes_same = refl; report_same = refl } };
+  };
+}

@@ -1,20 +1,15 @@
 //! The top call: a run from words to meshes and a report.
 
-ghost use Rattle.std.specs.Prelude.{◌≡◌, ◌≢◌, ◌-◌, ◌^◌, ◌<◌, ◌≤◌, ◌⊎◌, ◌↔◌, ◌&&◌, ℕ, List, Option, map, option_map, [], ◌∷◌, Some, None, All, IsTrue, IsSome, is_some, false, if◌then◌else◌, string_bytes};
-ghost use Rattle.roam_edge.specs.Fault.{IsInTime};
-ghost use Rattle.mesh_defs.specs.HeightField.{HeightField};
+ghost use Rattle.std.specs.Prelude.{◌≡◌, ◌≢◌, ◌-◌, ◌^◌, ◌<◌, ◌≤◌, ◌⊎◌, ◌↔◌, List, Option, map, option_map, Some, None, IsTrue, IsSome, false, if◌then◌else◌, string_bytes};
 ghost use Rattle.mesh_defs.specs.declared.level.TheConstants.{GREATEST_LEVEL};
-ghost use Rattle.roam_edge.specs.MeshSink.{Mesh};
-ghost use Rattle.roam_edge.specs.Shelf.{NamedFile, bytes_of};
-ghost use Rattle.run_laws.specs.Act.{sinks_tell, report_tells};
-ghost use Rattle.run_laws.specs.Cause.{StatusHasCause};
-ghost use Rattle.word_laws.specs.Words.{Scripted, Fitting, OnGrid, Generated, Frames, is_of_engine, command_of, file_count, Checking, FitChecking};
+ghost use Rattle.roam_edge.specs.Shelf.{NamedFile};
+ghost use Rattle.word_laws.specs.Words.{OnGrid, Generated, Frames, command_of};
 ghost use Rattle.run_laws.specs.Outcome.{Outcome, EngineEnd, IsOutcome, MakesNoCertificate};
-ghost use Rattle.run_laws.specs.Promise.{Seen, shelf_tells, AreFiles, EndsRight, HasEnded, OpensForStatus, CommandReadFault, LeavesAtReadFault, CommandNoMemory, LeavesAtNoMemory, IsAccepted, is_complete, ends_script, may_end, leaves_engine};
+ghost use Rattle.run_laws.specs.Promise.{IsAccepted, ends_script};
 ghost use Rattle.run_laws.specs.Moment.{moment};
 ghost use Rattle.run_laws.specs.Statement.{KeepsBestMeshes, CertifiesMesh, TellsCertificates, EndsByStatus, LeavesOutside, IsCaused};
+ghost use Rattle.run_laws.specs.Leaving.{Runs};
 ghost use Rattle.run_engine.specs.EngineSeen.{engine_seen};
-ghost use Rattle.run_laws.specs.Leaving.{CommandEnds};
 ghost use Rattle.run_words.specs.WordView.{show_for, scripted_seen, command_seen, IsFrameCommand};
 ghost use Rattle.run_words.specs.WordView.{IsAccepted as IsAcceptedCommand};
 ghost use Rattle.run_words.specs.ShowView.{show_seen, IsShowing};
@@ -23,7 +18,7 @@ use frame_loop::Engine;
 use roam_edge::{MeshSink, Shelf, Sink};
 use run_check::run_check;
 use run_engine::{EngineFrames, run_make, sums_of, try_report};
-use run_files::{GridStop, end_with_text, grid_report, read_grid, run_info};
+use run_files::{Lent, Outside, end_with_text, grid_or_end, run_info};
 use run_fit::run_fit;
 use run_fit_check::{run_fit_check, run_fit_make};
 use run_laws::{Status, fitting_laws, run_laws, state_laws};
@@ -123,10 +118,10 @@ pub fn roam<F: Shelf, M: MeshSink, R: Sink>(
     // What stands after each status, and how the outside and the engine are left.
     ensures ends { EndsByStatus (moment F.Shelf M.MeshSink R.Sink shelf.old meshes.old report.old)
         (moment F.Shelf M.MeshSink R.Sink shelf.new meshes.new report.new)
-        (map string_bytes words.now) result.status (option_map engine_seen result.engine) }
+        (command_of (map string_bytes words.now)) result.status (option_map engine_seen result.engine) }
     ensures leaves { LeavesOutside (moment F.Shelf M.MeshSink R.Sink shelf.old meshes.old report.old)
         (moment F.Shelf M.MeshSink R.Sink shelf.new meshes.new report.new)
-        (map string_bytes words.now) result.status (option_map engine_seen result.engine) }
+        (command_of (map string_bytes words.now)) result.status (option_map engine_seen result.engine) }
 
     // What words and files determine: laws, which say nothing of this run, and by which `ends` does.
     ensures some_outcome { (files : List NamedFile) →
@@ -142,13 +137,18 @@ pub fn roam<F: Shelf, M: MeshSink, R: Sink>(
     // The causes.
     ensures causes { IsCaused (moment F.Shelf M.MeshSink R.Sink shelf.old meshes.old report.old)
         (moment F.Shelf M.MeshSink R.Sink shelf.new meshes.new report.new)
-        (map string_bytes words.now) result.status }
+        (command_of (map string_bytes words.now)) result.status }
     ensures untouched { result.status ≡ Status.Usage →
         (shelf.new ≡ shelf.old) × (meshes.new ≡ meshes.old) × (report.new ≡ report.old) }
 {
     run_laws();
     fitting_laws();
-    run_of_words(alloc, words, shelf, meshes, report)
+    let mut outside = Lent {
+        shelf,
+        meshes,
+        report,
+    };
+    run_of_words(alloc, words, &mut outside)
 }
 
 /// Carries out the words of a command line by `roam`, and answers how that ended; what the run leaves beside is dropped.
@@ -170,7 +170,7 @@ pub fn status_of<F: Shelf, M: MeshSink, R: Sink>(
     ensures ends { (left : Option EngineEnd) ×
         EndsByStatus (moment F.Shelf M.MeshSink R.Sink shelf.old meshes.old report.old)
         (moment F.Shelf M.MeshSink R.Sink shelf.new meshes.new report.new)
-        (map string_bytes words.now) result left }
+        (command_of (map string_bytes words.now)) result left }
     ensures usage { (result ≡ Status.Usage) ↔ (command_of (map string_bytes words.now) ≡ None) }
     ensures read_cause { (result ≡ Status.ReadFault) ↔ (F.faults shelf.old < F.faults shelf.new) }
     ensures write_cause { (result ≡ Status.WriteFault) ↔
@@ -181,275 +181,107 @@ pub fn status_of<F: Shelf, M: MeshSink, R: Sink>(
     roam(alloc, words, shelf, meshes, report).into_status()
 }
 
-/// Carries out the words of a command line.
-fn run_of_words<F: Shelf, M: MeshSink, R: Sink>(
-    alloc: Global,
-    words: &[String],
-    shelf: &mut F,
-    meshes: &mut M,
-    report: &mut R,
-) -> Run
-    requires idle { M.under_way meshes.old ≡ false }
-    requires shelf_faults { F.faults shelf.old < 2 ^ 64 - 1 }
-    requires mesh_faults { M.faults meshes.old < 2 ^ 64 - 1 }
-    requires report_faults { R.faults report.old < 2 ^ 64 - 1 }
-    requires opens { F.opens shelf.old ≤ 2 ^ 63 }
-    ensures outcome { (files : List NamedFile) → AreFiles (F.files shelf.old) (map string_bytes words.now) files →
-        EndsRight (sinks_tell M.MeshSink R.Sink meshes.old report.old)
-        (sinks_tell M.MeshSink R.Sink meshes.new report.new)
-        (shelf_tells F.Shelf shelf.old)
-        (shelf_tells F.Shelf shelf.new)
-        (map string_bytes words.now) files result.status }
-    ensures read_fault { result.status ≡ Status.ReadFault →
-        LeavesAtReadFault (sinks_tell M.MeshSink R.Sink meshes.old report.old)
-        (sinks_tell M.MeshSink R.Sink meshes.new report.new)
-        (shelf_tells F.Shelf shelf.old)
-        (shelf_tells F.Shelf shelf.new)
-        (map string_bytes words.now) }
-    ensures no_memory { result.status ≡ Status.NoMemory →
-        LeavesAtNoMemory (sinks_tell M.MeshSink R.Sink meshes.old report.old)
-        (sinks_tell M.MeshSink R.Sink meshes.new report.new)
-        (shelf_tells F.Shelf shelf.old)
-        (shelf_tells F.Shelf shelf.new)
-        (map string_bytes words.now) }
-    ensures engine { IsSome result.engine ↔
-        IsTrue (leaves_engine (command_of (map string_bytes words.now)) result.status) }
-    ensures engine_end { (files : List NamedFile) (end : Outcome) →
-        AreFiles (F.files shelf.old) (map string_bytes words.now) files →
-        IsOutcome (map string_bytes words.now) files end → IsTrue (is_complete result.status) →
-        option_map engine_seen result.engine ≡ end.engine }
-
-    ensures usage { (result.status ≡ Status.Usage) ↔ (command_of (map string_bytes words.now) ≡ None) }
-    ensures status { IsTrue (may_end (command_of (map string_bytes words.now)) result.status) }
-    ensures untouched { result.status ≡ Status.Usage →
-        (shelf.new ≡ shelf.old) × (meshes.new ≡ meshes.old) × (report.new ≡ report.old) }
-    ensures faults { StatusHasCause (F.faults shelf.old) (F.faults shelf.new) (M.faults meshes.old)
-        (M.faults meshes.new) (R.faults report.old) (R.faults report.new) result.status }
-    ensures read_cause { (result.status ≡ Status.ReadFault) ↔ (F.faults shelf.old < F.faults shelf.new) }
-    ensures write_cause { (result.status ≡ Status.WriteFault) ↔
-        ((M.faults meshes.old < M.faults meshes.new) ⊎ (R.faults report.old < R.faults report.new)) }
-    ensures opens { OpensForStatus (F.opens shelf.old) (F.opens shelf.new)
-        (file_count (command_of (map string_bytes words.now))) result.status }
-    ensures done { result.status ≡ Status.Done → 0 < file_count (command_of (map string_bytes words.now)) →
-        HasEnded (shelf_tells F.Shelf shelf.new) }
-    ensures files { F.files shelf.new ≡ F.files shelf.old }
-    ensures idle { result.status ≢ Status.WriteFault → M.under_way meshes.new ≡ false }
-    ensures shelf_in_time { IsInTime (F.late shelf.old) (F.faults shelf.old) (F.late shelf.new) }
-    ensures meshes_in_time { IsInTime (M.late meshes.old) (M.faults meshes.old) (M.late meshes.new) }
-    ensures report_in_time { IsInTime (R.late report.old) (R.faults report.old) (R.late report.new) }
+/// Carries out the words of a command line over an outside.
+fn run_of_words<O: Outside>(alloc: Global, words: &[String], outside: &mut O) -> Run
+    requires idle { (O.moment outside.old).under_way ≡ false }
+    requires opens { (O.moment outside.old).shelf.opens ≤ 2 ^ 63 }
+    ensures same { O.is_same outside.old outside.new }
+    ensures runs { Runs (O.moment outside.old) (O.moment outside.new) (command_of (map string_bytes words.now))
+        result.status (option_map engine_seen result.engine) }
+    ensures untouched { result.status ≡ Status.Usage → outside.new ≡ outside.old }
 {
-    run_laws();
     match command_in(words) {
         None => Run {
             status: Status::Usage,
             engine: None,
         },
-        Some(command) => run_command(alloc, &command, shelf, meshes, report),
+        Some(command) => run_command(alloc, &command, outside),
     }
 }
 
 /// Carries out a command.
-fn run_command<F: Shelf, M: MeshSink, R: Sink>(
-    alloc: Global,
-    command: &Command<'_>,
-    shelf: &mut F,
-    meshes: &mut M,
-    report: &mut R,
-) -> Run
-    requires idle { M.under_way meshes.old ≡ false }
+fn run_command<O: Outside>(alloc: Global, command: &Command<'_>, outside: &mut O) -> Run
+    requires idle { (O.moment outside.old).under_way ≡ false }
     requires accepted { IsAcceptedCommand command.now }
-    requires opens { F.opens shelf.old ≤ 2 ^ 63 }
-    ensures outcome { (files : List NamedFile) →
-        (0 < file_count (Some (command_seen command.now)) → F.files shelf.old ≡ Some files) →
-        CommandEnds (sinks_tell M.MeshSink R.Sink meshes.old report.old)
-        (sinks_tell M.MeshSink R.Sink meshes.new report.new)
-        (shelf_tells F.Shelf shelf.old)
-        (shelf_tells F.Shelf shelf.new)
-        (command_seen command.now) files result.status (option_map engine_seen result.engine) }
-    ensures read_fault { result.status ≡ Status.ReadFault →
-        CommandReadFault (sinks_tell M.MeshSink R.Sink meshes.old report.old)
-        (sinks_tell M.MeshSink R.Sink meshes.new report.new)
-        (shelf_tells F.Shelf shelf.old)
-        (shelf_tells F.Shelf shelf.new)
-        (command_seen command.now) }
-    ensures no_memory { result.status ≡ Status.NoMemory →
-        CommandNoMemory (sinks_tell M.MeshSink R.Sink meshes.old report.old)
-        (sinks_tell M.MeshSink R.Sink meshes.new report.new)
-        (shelf_tells F.Shelf shelf.old)
-        (shelf_tells F.Shelf shelf.new)
-        (command_seen command.now) }
-    ensures engine { IsSome result.engine ↔ IsTrue (leaves_engine (Some (command_seen command.now)) result.status) }
-    ensures status { IsTrue (may_end (Some (command_seen command.now)) result.status) }
-    ensures faults { StatusHasCause (F.faults shelf.old) (F.faults shelf.new) (M.faults meshes.old)
-        (M.faults meshes.new) (R.faults report.old) (R.faults report.new) result.status }
-    ensures opens { OpensForStatus (F.opens shelf.old) (F.opens shelf.new)
-        (file_count (Some (command_seen command.now))) result.status }
-    ensures done { result.status ≡ Status.Done → 0 < file_count (Some (command_seen command.now)) →
-        HasEnded (shelf_tells F.Shelf shelf.new) }
-    ensures files { F.files shelf.new ≡ F.files shelf.old }
-    ensures idle { result.status ≢ Status.WriteFault → M.under_way meshes.new ≡ false }
-    ensures shelf_in_time { IsInTime (F.late shelf.old) (F.faults shelf.old) (F.late shelf.new) }
-    ensures meshes_in_time { IsInTime (M.late meshes.old) (M.faults meshes.old) (M.late meshes.new) }
-    ensures report_in_time { IsInTime (R.late report.old) (R.faults report.old) (R.late report.new) }
+    requires opens { (O.moment outside.old).shelf.opens ≤ 2 ^ 63 }
+    ensures same { O.is_same outside.old outside.new }
+    ensures runs { Runs (O.moment outside.old) (O.moment outside.new) (Some (command_seen command.now))
+        result.status (option_map engine_seen result.engine) }
 {
     match command {
-        Command::Frames(words) => run_frames(alloc, words, shelf, meshes, report),
-        Command::Info(grid) => Run::without_engine(run_info(alloc, grid, shelf, report)),
-        Command::Try { n, seed } => run_try(alloc, *n, *seed, report),
-        Command::Make(words) => Run::without_engine(run_make(alloc, words, shelf, report)),
-        Command::Check(words) => Run::without_engine(run_check(alloc, words, shelf, report)),
-        Command::Fit(words) => Run::without_engine(run_fit(alloc, words, shelf, meshes, report)),
-        Command::MakeFit(words) => Run::without_engine(run_fit_make(alloc, words, shelf, report)),
-        Command::CheckFit(words) => Run::without_engine(run_fit_check(alloc, words, shelf, report)),
+        Command::Frames(words) => run_frames(alloc, words, outside),
+        Command::Info(grid) => Run::without_engine(run_info(alloc, grid, outside)),
+        Command::Try { n, seed } => run_try(alloc, *n, *seed, outside),
+        Command::Make(words) => Run::without_engine(run_make(alloc, words, outside)),
+        Command::Check(words) => Run::without_engine(run_check(alloc, words, outside)),
+        Command::Fit(words) => Run::without_engine(run_fit(alloc, words, outside)),
+        Command::MakeFit(words) => Run::without_engine(run_fit_make(alloc, words, outside)),
+        Command::CheckFit(words) => Run::without_engine(run_fit_check(alloc, words, outside)),
     }
 }
 
 /// Carries out a command that makes the frames of a script.
-fn run_frames<F: Shelf, M: MeshSink, R: Sink>(
-    alloc: Global,
-    command: &FrameWords<'_>,
-    shelf: &mut F,
-    meshes: &mut M,
-    report: &mut R,
-) -> Run
-    requires idle { M.under_way meshes.old ≡ false }
+fn run_frames<O: Outside>(alloc: Global, command: &FrameWords<'_>, outside: &mut O) -> Run
+    requires idle { (O.moment outside.old).under_way ≡ false }
     requires accepted { IsFrameCommand command.now }
-    requires opens { F.opens shelf.old ≤ 2 ^ 63 }
-    ensures outcome { (files : List NamedFile) → F.files shelf.old ≡ Some files →
-        CommandEnds (sinks_tell M.MeshSink R.Sink meshes.old report.old)
-        (sinks_tell M.MeshSink R.Sink meshes.new report.new)
-        (shelf_tells F.Shelf shelf.old)
-        (shelf_tells F.Shelf shelf.new)
-        (OnGrid command.now.grid.now (Frames (scripted_seen command.now))) files result.status
-        (option_map engine_seen result.engine) }
-    ensures read_fault { result.status ≡ Status.ReadFault →
-        CommandReadFault (sinks_tell M.MeshSink R.Sink meshes.old report.old)
-        (sinks_tell M.MeshSink R.Sink meshes.new report.new)
-        (shelf_tells F.Shelf shelf.old)
-        (shelf_tells F.Shelf shelf.new)
-        (OnGrid command.now.grid.now (Frames (scripted_seen command.now))) }
-    ensures no_memory { result.status ≡ Status.NoMemory →
-        CommandNoMemory (sinks_tell M.MeshSink R.Sink meshes.old report.old)
-        (sinks_tell M.MeshSink R.Sink meshes.new report.new)
-        (shelf_tells F.Shelf shelf.old)
-        (shelf_tells F.Shelf shelf.new)
-        (OnGrid command.now.grid.now (Frames (scripted_seen command.now))) }
-    ensures engine { IsSome result.engine ↔
-        IsTrue (is_of_engine (show_for command.now.meshing) && ends_script result.status) }
-    ensures not_usage { result.status ≢ Status.Usage }
-    ensures not_rejected { result.status ≢ Status.Rejected }
-    ensures faults { StatusHasCause (F.faults shelf.old) (F.faults shelf.new) (M.faults meshes.old)
-        (M.faults meshes.new) (R.faults report.old) (R.faults report.new) result.status }
-    ensures opens { OpensForStatus (F.opens shelf.old) (F.opens shelf.new) 2 result.status }
-    ensures done { result.status ≡ Status.Done →
-        HasEnded (shelf_tells F.Shelf shelf.new) }
-    ensures files { F.files shelf.new ≡ F.files shelf.old }
-    ensures idle { result.status ≢ Status.WriteFault → M.under_way meshes.new ≡ false }
-    ensures shelf_in_time { IsInTime (F.late shelf.old) (F.faults shelf.old) (F.late shelf.new) }
-    ensures meshes_in_time { IsInTime (M.late meshes.old) (M.faults meshes.old) (M.late meshes.new) }
-    ensures report_in_time { IsInTime (R.late report.old) (R.faults report.old) (R.late report.new) }
+    requires opens { (O.moment outside.old).shelf.opens ≤ 2 ^ 63 }
+    ensures same { O.is_same outside.old outside.new }
+    ensures runs { Runs (O.moment outside.old) (O.moment outside.new)
+        (Some (OnGrid command.now.grid.now (Frames (scripted_seen command.now))))
+        result.status (option_map engine_seen result.engine) }
 {
     match command.meshing {
-        Meshing::ByEngine(showing) => run_engine(alloc, command, showing, shelf, meshes, report),
+        Meshing::ByEngine(showing) => run_engine(alloc, command, showing, outside),
         Meshing::ByTolerance { prefix, tolerance } => {
-            let status = run_least(alloc, command, prefix, tolerance, shelf, meshes, report);
-            Run::without_engine(status)
+            Run::without_engine(run_least(alloc, command, prefix, tolerance, outside))
         }
     }
 }
 
 /// Carries out a command whose frames an engine makes, and which are shown so.
-fn run_engine<F: Shelf, M: MeshSink, R: Sink>(
+fn run_engine<O: Outside>(
     alloc: Global,
     command: &FrameWords<'_>,
     showing: Showing<'_>,
-    shelf: &mut F,
-    meshes: &mut M,
-    report: &mut R,
+    outside: &mut O,
 ) -> Run
-    requires idle { M.under_way meshes.old ≡ false }
+    requires idle { (O.moment outside.old).under_way ≡ false }
     requires accepted { IsFrameCommand command.now }
     requires showing { IsShowing showing }
     requires shown { show_for command.now.meshing ≡ show_seen showing }
-    requires opens { F.opens shelf.old ≤ 2 ^ 63 }
-    ensures outcome { (files : List NamedFile) → F.files shelf.old ≡ Some files →
-        CommandEnds (sinks_tell M.MeshSink R.Sink meshes.old report.old)
-        (sinks_tell M.MeshSink R.Sink meshes.new report.new)
-        (shelf_tells F.Shelf shelf.old)
-        (shelf_tells F.Shelf shelf.new)
-        (OnGrid command.now.grid.now (Frames (scripted_seen command.now))) files result.status
-        (option_map engine_seen result.engine) }
-    ensures read_fault { result.status ≡ Status.ReadFault →
-        CommandReadFault (sinks_tell M.MeshSink R.Sink meshes.old report.old)
-        (sinks_tell M.MeshSink R.Sink meshes.new report.new)
-        (shelf_tells F.Shelf shelf.old)
-        (shelf_tells F.Shelf shelf.new)
-        (OnGrid command.now.grid.now (Frames (scripted_seen command.now))) }
-    ensures no_memory { result.status ≡ Status.NoMemory →
-        CommandNoMemory (sinks_tell M.MeshSink R.Sink meshes.old report.old)
-        (sinks_tell M.MeshSink R.Sink meshes.new report.new)
-        (shelf_tells F.Shelf shelf.old)
-        (shelf_tells F.Shelf shelf.new)
-        (OnGrid command.now.grid.now (Frames (scripted_seen command.now))) }
-    ensures engine { IsSome result.engine ↔ IsTrue (ends_script result.status) }
-    ensures not_usage { result.status ≢ Status.Usage }
-    ensures not_rejected { result.status ≢ Status.Rejected }
-    ensures faults { StatusHasCause (F.faults shelf.old) (F.faults shelf.new) (M.faults meshes.old)
-        (M.faults meshes.new) (R.faults report.old) (R.faults report.new) result.status }
-    ensures opens { OpensForStatus (F.opens shelf.old) (F.opens shelf.new) 2 result.status }
-    ensures done { result.status ≡ Status.Done →
-        HasEnded (shelf_tells F.Shelf shelf.new) }
-    ensures files { F.files shelf.new ≡ F.files shelf.old }
-    ensures idle { result.status ≢ Status.WriteFault → M.under_way meshes.new ≡ false }
-    ensures shelf_in_time { IsInTime (F.late shelf.old) (F.faults shelf.old) (F.late shelf.new) }
-    ensures meshes_in_time { IsInTime (M.late meshes.old) (M.faults meshes.old) (M.late meshes.new) }
-    ensures report_in_time { IsInTime (R.late report.old) (R.faults report.old) (R.late report.new) }
+    requires opens { (O.moment outside.old).shelf.opens ≤ 2 ^ 63 }
+    ensures same { O.is_same outside.old outside.new }
+    ensures runs { Runs (O.moment outside.old) (O.moment outside.new)
+        (Some (OnGrid command.now.grid.now (Frames (scripted_seen command.now))))
+        result.status (option_map engine_seen result.engine) }
 {
     state_laws();
-    match read_grid(alloc, command.grid, shelf) {
+    match grid_or_end(alloc, command.grid, outside) {
         Ok(grid) => {
             let made = EngineFrames::make(alloc, grid, showing, command.budget, command.spacing);
             let Ok(mut frames) = made else {
                 return Run::without_engine(Status::NoMemory);
             };
-            let status = run_script(&mut frames, command.script, shelf, meshes, report);
+            let status = run_script(&mut frames, command.script, outside);
             Run::of_script(status, frames.engine)
         }
-        Err(GridStop::NoMemory) => Run::without_engine(Status::NoMemory),
-        Err(GridStop::Failed) => Run::without_engine(Status::ReadFault),
-        Err(GridStop::Refused(fault)) => {
-            let text = grid_report(fault);
-            let status = end_with_text(text.as_slice(), Status::GridRefused, report);
-            Run::without_engine(status)
-        }
+        Err(status) => Run::without_engine(status),
     }
 }
 
 /// Carries out the command `try`, which opens no file and writes no mesh.
-fn run_try<R: Sink>(alloc: Global, n: u32, seed: u32, report: &mut R) -> Run
+fn run_try<O: Outside>(alloc: Global, n: u32, seed: u32, outside: &mut O) -> Run
+    requires idle { (O.moment outside.old).under_way ≡ false }
     requires n_low { 1 ≤ n }
     requires n_high { n ≤ GREATEST_LEVEL }
-    ensures outcome { (meshes : Option (List Mesh)) (count : ℕ) (shelf : Seen)
-        (files : List NamedFile) →
-        CommandEnds (report_tells R.Sink meshes count report.old)
-        (report_tells R.Sink meshes count report.new)
-        shelf shelf (Generated n seed) files result.status (option_map engine_seen result.engine) }
-    ensures no_memory { result.status ≡ Status.NoMemory →
-        (meshes : Option (List Mesh)) (count : ℕ) (shelf : Seen) →
-        CommandNoMemory (report_tells R.Sink meshes count report.old)
-        (report_tells R.Sink meshes count report.new)
-        shelf shelf (Generated n seed) }
-    ensures engine { IsSome result.engine ↔ IsTrue (ends_script result.status) }
-    ensures status { (result.status ≢ Status.Usage) × (result.status ≢ Status.GridRefused)
-        × (result.status ≢ Status.ScriptRefused) × (result.status ≢ Status.ReadFault)
-        × (result.status ≢ Status.Rejected) }
-    ensures faults { (shelf meshes : ℕ) → StatusHasCause shelf shelf meshes meshes
-        (R.faults report.old) (R.faults report.new) result.status }
-    ensures in_time { IsInTime (R.late report.old) (R.faults report.old) (R.late report.new) }
+    ensures same { O.is_same outside.old outside.new }
+    ensures runs { Runs (O.moment outside.old) (O.moment outside.new) (Some (Generated n seed))
+        result.status (option_map engine_seen result.engine) }
 {
     match sums_of(alloc, n, seed) {
         Ok((sums, engine)) => {
-            let status = end_with_text(try_report(n, seed, &sums).as_slice(), Status::Done, report);
+            let line = try_report(n, seed, &sums);
+            let status = end_with_text(line.as_slice(), Status::Done, outside);
             Run::of_script(status, engine)
         }
         Err(_) => Run::without_engine(Status::NoMemory),

@@ -1,5 +1,5 @@
 -- What an engine's first frame has for a certificate; how `certify make` and `certify check` end.
-use Rattle.std.proofs.Common.{◌≡◌, ℕ, ◌+◌, ◌<◌, ◌≤◌, List, length, None, Result, Ok, Err, IfOk, refl, sym, ◌∙◌, ap, subst}
+use Rattle.std.proofs.Common.{◌≡◌, ℕ, ◌<◌, ◌≤◌, List, length, Result, Ok, Err, IfOk, sym, ◌∙◌, ap, subst}
 use Rattle.mesh_defs.specs.HeightField.{HeightField}
 use Rattle.mesh_defs.specs.ClosedSet.{leaves_of, among}
 use Rattle.mesh_defs.specs.Priority.{worst_of}
@@ -11,21 +11,10 @@ use Rattle.closure_laws.proofs.FrameLemmas.{IsBestMesh-frame}
 use Rattle.roam_mesh.specs.Mesh.{pool_members}
 use Rattle.frame_loop.specs.Engine.{EngineState, IsFrameDone}
 use Rattle.frame_loop.specs.declared.note.FrameNote.{FrameNote}
-use Rattle.roam_edge.specs.Shelf.{NamedFile, bytes_of}
-use Rattle.pgm_grid.specs.Progress.{grid_of}
 use Rattle.cert_text.specs.Certificate.{Certificate}
-use Rattle.cert_text.specs.CertText.{cert_text}
-use Rattle.run_laws.specs.declared.status.Status.{Status}
-use Rattle.run_laws.specs.declared.status.Status.TheVariants as ends
-use Rattle.word_laws.specs.Words.{Making, Make, OnGrid}
+use Rattle.word_laws.specs.Words.{Making}
 use Rattle.certificate_laws.specs.Certificate.{IsSound}
 use Rattle.run_laws.specs.Certify.{IsMade, makes_at}
-use Rattle.run_laws.specs.Act.{Told}
-use Rattle.run_laws.specs.Outcome.{text_outcome}
-use Rattle.run_laws.specs.Promise.{Seen}
-use Rattle.run_laws.specs.Maker.{DoesAs}
-use Rattle.run_laws.specs.Leaving.{CommandEnds}
-use Rattle.run_laws.proofs.GridLemmas.{ends-as}
 
 module _ (state : State) (before after : EngineState) (note : FrameNote) (leaves : List ℕ) (same : before.state ≡ state) (done : IsFrameDone before after note)
     (listed : leaves ≡ leaves_of after.state.grid.n (among (pool_members after.mesh.pool))) where
@@ -58,10 +47,3 @@ made-of m grid leaves (Ok cert) best place same sound few = record {
   few = few;
 }
 made-of m grid leaves (Err e) best place same sound few = tt
-
--- a certificate ends the command that makes it
-pub make-ends : (before now : Told) (old new : Seen) (name : List ℕ) (m : Making) (files : List NamedFile) (grid : HeightField) (cert : Certificate) (status : Status)
-    → grid_of (bytes_of files name) ≡ Ok grid → IsMade m grid cert → new.opens ≡ old.opens + 1
-    → DoesAs before now (text_outcome (cert_text cert) ends.Done 1) status → CommandEnds before now old new (OnGrid name (Make m)) files status None
-make-ends before now old new name m files grid cert status found made opened does =
-    ends-as before now old new name (Make m) files (Ok grid) (text_outcome (cert_text cert) ends.Done 1) status found (cert, made, refl) opened does None (λ e. refl)

@@ -1,5 +1,5 @@
 -- Frames as strips and as measures: what is written is what the picture says.
-use Rattle.std.proofs.Common.{◌≡◌, ℕ, List, length, Result, OnOk, OnErr, sym, ◌∙◌, ap, subst}
+use Rattle.std.proofs.Common.{◌≡◌, ℕ, List, length, Result, sym, ◌∙◌, ap, subst}
 use Rattle.mesh_defs.specs.HeightField.{HeightField}
 use Rattle.mesh_defs.specs.View.{ViewPlane}
 use Rattle.mesh_defs.specs.State.{text_in}
@@ -12,7 +12,7 @@ use Rattle.roam_mesh.specs.Mesh.{pool_members}
 use Rattle.frame_loop.specs.Engine.{EngineState}
 use Rattle.frame_loop.specs.declared.note.FrameNote.{FrameNote}
 use Rattle.run_laws.specs.Turns.{left_turns, right_turns}
-use Rattle.run_laws.specs.Act.{Told, Stands, IsCutShort}
+use Rattle.run_laws.specs.Moment.{Moment, Does}
 use Rattle.run_laws.specs.Picture.{Picture, strip_triangles}
 use Rattle.run_laws.specs.Outcome.{picture_acts}
 use Rattle.run_laws.specs.ReportText.{strip_line}
@@ -37,17 +37,9 @@ pub strip-line : (engine : EngineState) (note : FrameNote) (number : ℕ) (order
 strip-line engine note number order is =
     ap (λ (l : List ℕ). strip_numbers number (length l) (left_turns engine.state.grid.n l) (right_turns engine.state.grid.n l)) is
 
-module _ {T E : Type 0} (before now : Told) (showing other : Showing) (number : ℕ) (picture : Picture) (answer : Result T E) (is : showing ≡ other) where
-  -- what stands of a frame that is shown in a known way
-  pub shown-stands : OnOk answer (Stands before now (picture_acts (show_seen other) number picture))
-      → OnOk answer (Stands before now (picture_acts (show_seen showing) number picture))
-  shown-stands stands =
-      let P : Showing → Type 0 = λ s. OnOk answer (Stands before now (picture_acts (show_seen s) number picture)) in
-      subst P (sym is) stands
-
-  -- what was cut short of it
-  pub shown-cut : OnErr answer (IsCutShort before now (picture_acts (show_seen other) number picture))
-      → OnErr answer (IsCutShort before now (picture_acts (show_seen showing) number picture))
-  shown-cut cut =
-      let P : Showing → Type 0 = λ s. OnErr answer (IsCutShort before now (picture_acts (show_seen s) number picture)) in
-      subst P (sym is) cut
+-- what a frame does that is shown in a known way
+pub shown-does : {T E : Type 0} (before now : Moment) (showing other : Showing) (number : ℕ) (picture : Picture) (answer : Result T E)
+    → showing ≡ other → Does before now (picture_acts (show_seen other) number picture) answer
+    → Does before now (picture_acts (show_seen showing) number picture) answer
+shown-does before now showing other number picture answer is does =
+    subst (λ (s : Showing). Does before now (picture_acts (show_seen s) number picture) answer) (sym is) does

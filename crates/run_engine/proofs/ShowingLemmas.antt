@@ -4,7 +4,7 @@ use Rattle.mesh_defs.specs.State.{State}
 use Rattle.mesh_defs.specs.ClosedSet.{leaves_of, among}
 use Rattle.closure_laws.proofs.LeafLemmas.{leaves-most}
 use Rattle.roam_mesh.specs.Mesh.{pool_members}
-use Rattle.frame_loop.specs.Engine.{EngineState, IsFrameDone}
+use Rattle.frame_loop.specs.Engine.{EngineState, IsFrameDone, mesh_seen}
 use Rattle.frame_loop.specs.declared.note.FrameNote.{FrameNote}
 use Rattle.run_laws.specs.Walk.{Walk}
 use Rattle.word_laws.specs.Words.{Show, is_of_engine}
@@ -14,7 +14,7 @@ use Rattle.run_laws.specs.Outcome.{picture_acts}
 use Rattle.run_words.specs.declared.showing.Showing.{Showing}
 use Rattle.run_words.specs.declared.showing.Showing.TheVariants.{Meshes, Strips, Measures}
 use Rattle.run_engine.specs.EngineFrames.{EngineFollows, IsEngineReady}
-use Rattle.run_engine.specs.NoteSeen.{picture_seen, leaves_seen}
+use Rattle.run_engine.specs.NoteSeen.{picture_seen}
 use Rattle.run_words.specs.ShowView.{show_seen}
 use Rattle.run_engine.specs.ShowView.{is_strip}
 use Rattle.run_laws.specs.Maker.{TakesFrame}
@@ -28,7 +28,7 @@ of-engine Measures = refl
 
 -- the frame that was made has room for its strip
 pub frame-room : (showing : Showing) (old new : EngineState) (room : List ℕ) (note : FrameNote) (lines : ℕ) → IsEngineReady showing old room lines → IsFrameDone old new note
-    → is_strip showing ≡ true → length (leaves_seen new) ≤ length room
+    → is_strip showing ≡ true → length (mesh_seen new) ≤ length room
 frame-room showing old new room note lines is done strip =
     let members : List ℕ = pool_members new.mesh.pool in
     let few : length (leaves_of old.state.grid.n (among members)) ≤ old.state.budget = done.frame.closure.fits in

@@ -3,10 +3,9 @@
 use Rattle.std.specs.Prelude.{◌≡◌, ℕ, List, [], ◌∷◌, ◌++◌, length, codes, decimal}
 use Rattle.mesh_defs.specs.declared.mark.Mark.TheVariants.{Inside, Cut, Outside}
 use Rattle.mesh_defs.specs.View.{ViewPlane}
-use Rattle.mesh_defs.specs.ClosedSet.{leaves_of, among}
 use Rattle.mesh_defs.specs.MeshText.{vertices_of}
 use Rattle.roam_mesh.specs.Mesh.{pool_members}
-use Rattle.frame_loop.specs.Engine.{EngineState}
+use Rattle.frame_loop.specs.Engine.{EngineState, mesh_seen}
 use Rattle.frame_loop.specs.declared.note.FrameNote.{FrameNote}
 use Rattle.run_laws.specs.Picture as shown
 use Rattle.run_laws.specs.ReportText.{blocked_text}
@@ -22,17 +21,13 @@ picture_seen engine note = record {
   merges = note.merges;
 }
 
--- the mesh of the engine: the leaves of its set, depth first
-abbrev pub leaves_seen : EngineState → List ℕ
-leaves_seen engine = leaves_of engine.state.grid.n (among (pool_members engine.mesh.pool))
-
 -- the counts of the note are those of the engine's mesh
 pub record IsNoted (engine : EngineState) (note : FrameNote) : Type 0 where
-  pub triangle_count : note.triangles ≡ length (leaves_seen engine)
-  pub vertex_count : note.vertices ≡ length (vertices_of engine.state.grid.n (leaves_seen engine))
-  pub inside_count : note.inside ≡ shown.mark_count engine.state Inside (leaves_seen engine)
-  pub cut_count : note.cut ≡ shown.mark_count engine.state Cut (leaves_seen engine)
-  pub outside_count : note.outside ≡ shown.mark_count engine.state Outside (leaves_seen engine)
+  pub triangle_count : note.triangles ≡ length (mesh_seen engine)
+  pub vertex_count : note.vertices ≡ length (vertices_of engine.state.grid.n (mesh_seen engine))
+  pub inside_count : note.inside ≡ shown.mark_count engine.state Inside (mesh_seen engine)
+  pub cut_count : note.cut ≡ shown.mark_count engine.state Cut (mesh_seen engine)
+  pub outside_count : note.outside ≡ shown.mark_count engine.state Outside (mesh_seen engine)
 
 -- how many triangles have each mark, where a plane is in force
 abbrev pub note_marks : List ViewPlane → FrameNote → List ℕ

@@ -15,9 +15,9 @@ use crate::frame::show_frame;
 use bintree_addr::Tri;
 use frame_loop::Engine;
 use pgm_grid::Grid;
-use roam_edge::{Failed, MeshSink, NoMemory, Sink};
+use roam_edge::{Failed, NoMemory};
 use roam_script::{Limits, Line};
-use run_laws::FrameMaker;
+use run_files::{FrameMaker, Outside};
 use run_words::Showing;
 use std::alloc::Global;
 
@@ -83,14 +83,10 @@ impl<'a> FrameMaker for EngineFrames<'a> {
         carry_out(&mut self.engine, line);
     }
 
-    fn take_frame<M: MeshSink, R: Sink>(
-        &mut self,
-        meshes: &mut M,
-        report: &mut R,
-    ) -> Result<(), Failed> {
+    fn take_frame<O: Outside>(&mut self, outside: &mut O) -> Result<(), Failed> {
         let note = self.engine.frame();
         let room = self.room.as_mut_slice();
-        show_frame(self.showing, &self.engine, &note, room, meshes, report)
+        show_frame(self.showing, &self.engine, &note, room, outside)
     }
 }
 

@@ -1,33 +1,30 @@
 //! A frame as a strip, or as a line on how far its mesh is from the surface.
 
-ghost use Rattle.std.specs.Prelude.{ℕ, ◌≡◌, ◌*◌, ◌^◌, ◌<◌, ◌≤◌, Option, List, false, length, All, OnOk, OnErr};
+ghost use Rattle.std.specs.Prelude.{◌≡◌, ◌*◌, ◌^◌, ◌<◌, ◌≤◌, false, length, All};
 ghost use Rattle.mesh_defs.specs.Triangle.{level_of};
-ghost use Rattle.mesh_defs.specs.ClosedSet.{IsClosed, among};
-ghost use Rattle.roam_edge.specs.Fault.{HasCause, IsInTime};
-ghost use Rattle.roam_edge.specs.MeshSink.{Mesh};
+ghost use Rattle.mesh_defs.specs.ClosedSet.{IsClosed};
 ghost use Rattle.roam_edge.specs.declared.mesh_sink.TheConstants.{LONGEST_PREFIX, GREATEST_NUMBER};
 ghost use Rattle.wedgie_tree.specs.declared.wedges.TheConstants.{GREATEST_SPACING};
 ghost use Rattle.obj_write.specs.Numbers.{numbers_of};
 ghost use Rattle.strip_laws.specs.Strip.{strip_of};
 ghost use Rattle.deviation_laws.specs.PlaneHeight.{deviation_of, thickest_of};
-ghost use Rattle.roam_mesh.specs.Mesh.{pool_members};
+ghost use Rattle.frame_loop.specs.Engine.{is_split, mesh_seen};
 ghost use Rattle.frame_loop.specs.declared.note.FrameNote.{FrameNote as NoteSeen};
-ghost use Rattle.run_laws.specs.Act.{sinks_tell, report_tells, Stands, IsCutShort};
-ghost use Rattle.run_laws.specs.Cause.{WritesHaveCause};
+ghost use Rattle.run_laws.specs.Moment.{Does};
 ghost use Rattle.run_laws.specs.Turns.{left_turns, right_turns};
 ghost use Rattle.word_laws.specs.Words.{as_strips, as_measures};
 ghost use Rattle.run_laws.specs.Outcome.{picture_acts};
-ghost use Rattle.run_engine.specs.NoteSeen.{picture_seen, leaves_seen};
+ghost use Rattle.run_engine.specs.NoteSeen.{picture_seen};
 ghost use Rattle.run_engine.specs.ShowView.{strip_numbers, measure_numbers};
 
 use arrayvec::ArrayVec;
 use bintree_addr::Tri;
 use frame_loop::Engine;
 use mesh_measure::{deviation, thickest};
-use obj_write::{MeshView, write_mesh};
-use roam_edge::{Failed, MeshSink, Sink};
+use obj_write::MeshView;
+use roam_edge::Failed;
 use roam_num::push_bytes;
-use run_files::{Text, push_placed};
+use run_files::{Outside, Text, push_placed, show_mesh};
 use run_laws::turn_count_laws;
 use strip_order::{strip, turns};
 
@@ -35,87 +32,65 @@ use strip_order::{strip, turns};
 ///
 /// The strip is put to the front of the room, which has a place for each triangle.
 /// Cost (not proved): that of `strip`, `turns` and `write_mesh`; takes no memory.
-pub(crate) fn write_strip<M: MeshSink, R: Sink>(
+pub(crate) fn write_strip<O: Outside>(
     prefix: &str,
     engine: &Engine,
     room: &mut [Tri],
-    meshes: &mut M,
-    report: &mut R,
+    outside: &mut O,
 ) -> Result<(), Failed>
-    requires idle { M.under_way meshes.old ≡ false }
+    requires idle { (O.moment outside.old).under_way ≡ false }
     requires prefix_some { 0 < length prefix.now }
     requires prefix_short { length prefix.now ≤ LONGEST_PREFIX }
     requires number_low { 1 ≤ engine.now.frames }
     requires number_high { engine.now.frames ≤ GREATEST_NUMBER }
-    requires closed { IsClosed engine.now.state.grid.n (among (pool_members engine.now.mesh.pool)) }
-    requires room { length (leaves_seen engine.now) ≤ length room.old }
-    ensures ok { (note : NoteSeen) →
-        OnOk result (Stands (sinks_tell M.MeshSink R.Sink meshes.old report.old)
-        (sinks_tell M.MeshSink R.Sink meshes.new report.new)
-        (picture_acts (as_strips prefix.now) engine.now.frames (picture_seen engine.now note))) }
-    ensures idle { OnOk result (M.under_way meshes.new ≡ false) }
-    ensures err { (note : NoteSeen) →
-        OnErr result (IsCutShort (sinks_tell M.MeshSink R.Sink meshes.old report.old)
-        (sinks_tell M.MeshSink R.Sink meshes.new report.new)
-        (picture_acts (as_strips prefix.now) engine.now.frames (picture_seen engine.now note))) }
-    ensures faults { WritesHaveCause (M.faults meshes.old) (M.faults meshes.new)
-        (R.faults report.old) (R.faults report.new) result }
-    ensures meshes_in_time { IsInTime (M.late meshes.old) (M.faults meshes.old) (M.late meshes.new) }
-    ensures report_in_time { IsInTime (R.late report.old) (R.faults report.old) (R.late report.new) }
+    requires closed { IsClosed engine.now.state.grid.n (is_split engine.now) }
+    requires room { length (mesh_seen engine.now) ≤ length room.old }
+    ensures same { O.is_same outside.old outside.new }
+    ensures does { (note : NoteSeen) → Does (O.moment outside.old) (O.moment outside.new)
+        (picture_acts (as_strips prefix.now) engine.now.frames (picture_seen engine.now note)) result }
 {
     let count = engine.view().leaves.len();
     let order = &mut room[..count];
     put_strip(engine, order);
-    write_order(prefix, engine, order, meshes, report)
+    write_order(prefix, engine, order, outside)
 }
 
 /// Puts the strip of an engine's mesh into room for just as many triangles.
 fn put_strip(engine: &Engine, order: &mut [Tri])
-    requires closed { IsClosed engine.now.state.grid.n (among (pool_members engine.now.mesh.pool)) }
-    requires room { length order.old ≡ length (leaves_seen engine.now) }
-    ensures { order.new ≡ strip_of engine.now.state.grid.n (among (pool_members engine.now.mesh.pool)) }
+    requires closed { IsClosed engine.now.state.grid.n (is_split engine.now) }
+    requires room { length order.old ≡ length (mesh_seen engine.now) }
+    ensures { order.new ≡ strip_of engine.now.state.grid.n (is_split engine.now) }
 {
     let _level = engine.grid().n();
     strip(engine.view().leaves, order);
 }
 
 /// Writes the mesh of an engine with its triangles in the order of their strip, and then the line of the strip.
-fn write_order<M: MeshSink, R: Sink>(
+fn write_order<O: Outside>(
     prefix: &str,
     engine: &Engine,
     order: &[Tri],
-    meshes: &mut M,
-    report: &mut R,
+    outside: &mut O,
 ) -> Result<(), Failed>
-    requires idle { M.under_way meshes.old ≡ false }
+    requires idle { (O.moment outside.old).under_way ≡ false }
     requires prefix_some { 0 < length prefix.now }
     requires prefix_short { length prefix.now ≤ LONGEST_PREFIX }
     requires number_low { 1 ≤ engine.now.frames }
     requires number_high { engine.now.frames ≤ GREATEST_NUMBER }
-    requires closed { IsClosed engine.now.state.grid.n (among (pool_members engine.now.mesh.pool)) }
-    requires order { order.now ≡ strip_of engine.now.state.grid.n (among (pool_members engine.now.mesh.pool)) }
-    ensures ok { (note : NoteSeen) →
-        OnOk result (Stands (sinks_tell M.MeshSink R.Sink meshes.old report.old)
-        (sinks_tell M.MeshSink R.Sink meshes.new report.new)
-        (picture_acts (as_strips prefix.now) engine.now.frames (picture_seen engine.now note))) }
-    ensures idle { OnOk result (M.under_way meshes.new ≡ false) }
-    ensures err { (note : NoteSeen) →
-        OnErr result (IsCutShort (sinks_tell M.MeshSink R.Sink meshes.old report.old)
-        (sinks_tell M.MeshSink R.Sink meshes.new report.new)
-        (picture_acts (as_strips prefix.now) engine.now.frames (picture_seen engine.now note))) }
-    ensures faults { WritesHaveCause (M.faults meshes.old) (M.faults meshes.new)
-        (R.faults report.old) (R.faults report.new) result }
-    ensures meshes_in_time { IsInTime (M.late meshes.old) (M.faults meshes.old) (M.late meshes.new) }
-    ensures report_in_time { IsInTime (R.late report.old) (R.faults report.old) (R.late report.new) }
+    requires closed { IsClosed engine.now.state.grid.n (is_split engine.now) }
+    requires order { order.now ≡ strip_of engine.now.state.grid.n (is_split engine.now) }
+    ensures same { O.is_same outside.old outside.new }
+    ensures does { (note : NoteSeen) → Does (O.moment outside.old) (O.moment outside.new)
+        (picture_acts (as_strips prefix.now) engine.now.frames (picture_seen engine.now note)) result }
 {
     let line = strip_report(engine, order);
-    write_mesh(&in_order(engine, order), prefix, engine.frames(), meshes)?;
-    report.write(line.as_slice())
+    let view = in_order(engine, order);
+    show_mesh(&view, prefix, engine.frames(), line.as_slice(), outside)
 }
 
 /// The mesh of an engine, with its triangles in the order of their strip.
 fn in_order<'a>(engine: &'a Engine, order: &'a [Tri]) -> MeshView<'a>
-    requires order { order.now ≡ strip_of engine.now.state.grid.n (among (pool_members engine.now.mesh.pool)) }
+    requires order { order.now ≡ strip_of engine.now.state.grid.n (is_split engine.now) }
     ensures leaves { result.leaves.now ≡ order.now }
     ensures wedges { result.wedges.now ≡ engine.now.state.grid }
     ensures planes { result.planes.now ≡ engine.now.state.view.planes }
@@ -137,8 +112,8 @@ fn in_order<'a>(engine: &'a Engine, order: &'a [Tri]) -> MeshView<'a>
 
 /// The line of the strip of an engine's last frame.
 fn strip_report(engine: &Engine, order: &[Tri]) -> Text
-    requires closed { IsClosed engine.now.state.grid.n (among (pool_members engine.now.mesh.pool)) }
-    requires order { order.now ≡ strip_of engine.now.state.grid.n (among (pool_members engine.now.mesh.pool)) }
+    requires closed { IsClosed engine.now.state.grid.n (is_split engine.now) }
+    requires order { order.now ≡ strip_of engine.now.state.grid.n (is_split engine.now) }
     ensures { let n = engine.now.state.grid.n in
         result.items ≡ strip_numbers engine.now.frames (length order.now) (left_turns n order.now) (right_turns n order.now) }
 {
@@ -168,28 +143,21 @@ fn strip_text(number: u32, triangles: u64, left: u32, right: u32) -> Text
 /// Writes the line on how far the mesh of an engine is from the surface.
 ///
 /// Cost (not proved): that of `deviation`; takes no memory.
-pub(crate) fn write_measure<R: Sink>(engine: &Engine, report: &mut R) -> Result<(), Failed>
-    requires closed { IsClosed engine.now.state.grid.n (among (pool_members engine.now.mesh.pool)) }
-    ensures ok { (meshes : Option (List Mesh)) (count : ℕ) (note : NoteSeen) →
-        OnOk result (Stands (report_tells R.Sink meshes count report.old)
-        (report_tells R.Sink meshes count report.new)
-        (picture_acts as_measures engine.now.frames (picture_seen engine.now note))) }
-    ensures err { (meshes : Option (List Mesh)) (count : ℕ) (note : NoteSeen) →
-        OnErr result (IsCutShort (report_tells R.Sink meshes count report.old)
-        (report_tells R.Sink meshes count report.new)
-        (picture_acts as_measures engine.now.frames (picture_seen engine.now note))) }
-    ensures faults { HasCause (R.faults report.old) (R.faults report.new) result }
-    ensures in_time { IsInTime (R.late report.old) (R.faults report.old) (R.late report.new) }
+pub(crate) fn write_measure<O: Outside>(engine: &Engine, outside: &mut O) -> Result<(), Failed>
+    requires closed { IsClosed engine.now.state.grid.n (is_split engine.now) }
+    ensures same { O.is_same outside.old outside.new }
+    ensures does { (note : NoteSeen) → Does (O.moment outside.old) (O.moment outside.new)
+        (picture_acts as_measures engine.now.frames (picture_seen engine.now note)) result }
 {
-    report.write(measure_report(engine).as_slice())
+    outside.tell(measure_report(engine).as_slice())
 }
 
 /// The line on how far the mesh of an engine is from the surface.
 fn measure_report(engine: &Engine) -> Text
-    requires closed { IsClosed engine.now.state.grid.n (among (pool_members engine.now.mesh.pool)) }
+    requires closed { IsClosed engine.now.state.grid.n (is_split engine.now) }
     ensures { let grid = engine.now.state.grid in
-        result.items ≡ measure_numbers engine.now.frames (deviation_of grid.n grid.heights (leaves_seen engine.now)) (2 ^ grid.n)
-        (thickest_of grid.n grid.heights (leaves_seen engine.now)) }
+        result.items ≡ measure_numbers engine.now.frames (deviation_of grid.n grid.heights (mesh_seen engine.now)) (2 ^ grid.n)
+        (thickest_of grid.n grid.heights (mesh_seen engine.now)) }
 {
     let view = engine.view();
     let off = deviation(view.wedges, view.leaves);

@@ -20,6 +20,7 @@ use Rattle.run_laws.specs.Maker.{DoesAs, IsScriptEnd, Leaves, EndsScript, Script
 use Rattle.run_laws.specs.FileStop.{StopsReading}
 use Rattle.run_laws.specs.Moment.{Moment, OnlyReads}
 use Rattle.run_laws.specs.Leaving.{CommandEnds, Runs, HasOpened, ReadsGrid, EndsWith, TellsLast, LeavesByScript}
+use Rattle.run_laws.proofs.ActLemmas.{stands-nothing}
 use Rattle.run_laws.proofs.GridLemmas.{not-complete, grid-fault, grid-memory, first_walk, script-ends, script-fault}
 use Rattle.run_laws.proofs.StatementLemmas.{ends-by-status}
 
@@ -410,3 +411,55 @@ module _ (before middle now : Moment) (name : List ℕ) (s : Scripted) (grid : H
             (subst (λ (k : ℕ). StatusHasCause k now.shelf_faults middle.sinks.mesh_faults now.sinks.mesh_faults
             middle.sinks.report_faults now.sinks.report_faults status) read.opened.faults leaves.causes);
       }
+
+-- words that are no command do nothing
+pub usage-runs : (now : Moment) (said : Option Command) → now.under_way ≡ false → said ≡ None → Runs now now said Usage None
+usage-runs now said idle is = subst (λ (c : Option Command). Runs now now c Usage None) (sym is) (record {
+  ends = record {
+    complete = λ e files are. record {
+      end = plain_outcome [] Usage 0;
+      is_outcome = refl;
+      ends_so = refl;
+      stands = stands-nothing now.sinks;
+      opened = omega arith;
+      engine = refl;
+    };
+    write_fault = λ e. cc;
+    read_fault = λ e. cc;
+    no_memory = λ e. cc;
+  };
+  leaves = record {
+    files = refl;
+    idle = λ not. idle;
+    opens = record {
+      done = λ e. cc;
+      script_refused = λ e. cc;
+      grid_refused = λ e. cc;
+      usage = λ e. refl;
+      read_fault = λ e. cc;
+      rejected = λ e. cc;
+      least = omega arith;
+      most = omega arith;
+    };
+    read_out = λ e. cc;
+    engine = ((λ e. e), (λ e. e));
+    shelf_in_time = same-in-time _ _ _ refl;
+    meshes_in_time = same-in-time _ _ _ refl;
+    report_in_time = same-in-time _ _ _ refl;
+  };
+  allowed = refl;
+  causes = record {
+    read = λ e. cc;
+    not_read = λ not. refl;
+    writes = record { write = λ e. cc; not_write = λ not. record { meshes_same = refl; report_same = refl } };
+  };
+})
+
+-- and a command has another status
+pub command-not-usage : (before now : Moment) (command : Command) (status : Status) (left : Option EngineEnd)
+    → Runs before now (Some command) status left → status ≡ Usage → ⊥
+command-not-usage before now command status left runs is =
+    not-allowed (subst (λ (s : Status). IsTrue (may_end (Some command) s)) is runs.allowed)
+  where
+    not-allowed : false ≡ true → ⊥
+    not-allowed e = cc

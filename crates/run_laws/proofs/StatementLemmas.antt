@@ -9,7 +9,7 @@ use Rattle.word_laws.specs.Words.{Command, command_of}
 use Rattle.run_laws.specs.Act.{Act, ReportText, IsCutShort}
 use Rattle.run_laws.specs.Cause.{StatusHasCause}
 use Rattle.run_laws.specs.Outcome.{EngineEnd, Outcome, IsWordsOutcome, IsOutcome}
-use Rattle.run_laws.specs.Promise.{AreFiles, EndsRight, is_complete, may_end, CommandReadFault, CommandNoMemory}
+use Rattle.run_laws.specs.Promise.{AreFiles, EndsRight, is_complete, may_end, CommandReadFault, CommandNoMemory, LeavesAtReadFault, LeavesAtNoMemory}
 use Rattle.run_laws.specs.CutShort.{CutTextsStand, WriteFaultsStand}
 use Rattle.run_laws.specs.Laws.{AcceptedIsDone, OutcomesAreUnique, EnginesAreUnique}
 use Rattle.run_laws.specs.Leaving.{CommandEnds}
@@ -254,3 +254,18 @@ faults-follow before now command status cause = record {
     };
   };
 }
+
+-- where a read failed, or memory ran out, what stands does so of the command that the words are
+pub read-leaves : (before now : Moment) (words : List (List ℕ)) (status : Status) (left : Option EngineEnd)
+    → EndsByStatus before now (command_of words) status left
+    → status ≡ ReadFault → LeavesAtReadFault before.sinks now.sinks before.shelf now.shelf words
+read-leaves before now words status left ends is =
+    let at = ends.read_fault is in
+    record { command = at.0; is_command = at.1; leaves = at.2 }
+
+pub memory-leaves : (before now : Moment) (words : List (List ℕ)) (status : Status) (left : Option EngineEnd)
+    → EndsByStatus before now (command_of words) status left
+    → status ≡ NoMemory → LeavesAtNoMemory before.sinks now.sinks before.shelf now.shelf words
+memory-leaves before now words status left ends is =
+    let at = ends.no_memory is in
+    record { command = at.0; is_command = at.1; leaves = at.2 }

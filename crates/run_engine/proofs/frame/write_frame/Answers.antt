@@ -1,34 +1,27 @@
-use Rattle.std.proofs.Common.{◌∙◌}
-use Rattle.std.proofs.lemmas.Result.{err_from_is_err_and}
-use Rattle.run_laws.proofs.ActLemmas.{both-ok, both-err}
+use Rattle.std.proofs.Common.{ℕ, List, [], ◌∷◌, ◌∙◌, ap}
+use Rattle.mesh_defs.specs.State.{text_in}
+use Rattle.obj_write.specs.MeshView.{view_text}
+use Rattle.run_laws.specs.Act.{Act, WholeMesh, ReportText}
+use Rattle.run_laws.specs.Picture.{triangles_of}
+use Rattle.run_laws.proofs.DoesLemmas.{does-same}
 use Rattle.run_engine.specs.NoteSeen.{picture_seen}
-use Rattle.run_engine.proofs.FrameLemmas.{cut-frame-mesh, cut-frame-line, frame-stands, mesh-text, note-text}
+use Rattle.run_engine.proofs.FrameLemmas.{mesh-text, note-text, view-valid}
 use Rattle.run_engine.proofs.frame.write_frame.Goals as goal
 
-pub returns-in_err-write_mesh-clause-err : goal.returns-in_err-write_mesh-clause-err
-returns-in_err-write_mesh-clause-err g c =
-    let p = err_from_is_err_and c.from_residual.result c.from_residual.ensures.1 in
-    let view = c.view.ensures in
-    rw p.1 (cut-frame-mesh _ _ _ _ c.args.engine.now.frames c.frames.result c.frames.ensures (picture_seen c.args.engine.now c.args.note.now) _
-    (mesh-text c.args.engine.now c.args.note.now c.view.result view.wedges view.planes view.spacing view.leaves)
-    c.in_err-write_mesh.ensures.err c.in_err-write_mesh.ensures.faults.failed)
+pub show_mesh-requires-clause-view : goal.show_mesh-requires-clause-view
+show_mesh-requires-clause-view g c = view-valid c.view.result c.view.ensures.wedges c.view.ensures.levels c.view.ensures.numbers
+    c.view.ensures.spacing_low c.view.ensures.spacing_high
 
-pub returns-clause-ok : goal.returns-clause-ok
-returns-clause-ok g c =
+pub returns-clause-does : goal.returns-clause-does
+returns-clause-does g c =
+    let e = c.args.engine.now in
     let view = c.view.ensures in
-    both-ok c.write.result (frame-stands _ _ _ _ _ c.args.engine.now.frames c.frames.result c.frames.ensures (picture_seen
-    c.args.engine.now c.args.note.now) _
-    (mesh-text c.args.engine.now c.args.note.now c.view.result view.wedges view.planes view.spacing view.leaves)
-    c.in_ok-write_mesh.ensures.ok c.in_ok-write_mesh.ensures.faults.ok
-    c.as_slice.result.now (c.as_slice.ensures.value ∙ (c.frame_report.ensures ∙ note-text c.args.engine.now.frames c.args.engine.now c.args.note.now c.requires.noted)))
-    c.write.ensures.bytes.ok c.write.ensures.faults.ok
-
-pub returns-clause-err : goal.returns-clause-err
-returns-clause-err g c =
-    let view = c.view.ensures in
-    both-err c.write.result (cut-frame-line _ _ _ _ _ c.args.engine.now.frames c.frames.result c.frames.ensures (picture_seen
-    c.args.engine.now c.args.note.now) _
-    (mesh-text c.args.engine.now c.args.note.now c.view.result view.wedges view.planes view.spacing view.leaves)
-    c.in_ok-write_mesh.ensures.ok c.in_ok-write_mesh.ensures.faults.ok
-    c.as_slice.result.now (c.as_slice.ensures.value ∙ (c.frame_report.ensures ∙ note-text c.args.engine.now.frames c.args.engine.now c.args.note.now c.requires.noted)))
-    c.write.ensures.bytes.failed c.write.ensures.faults.failed
+    let acts : ℕ → List ℕ → List ℕ → List Act = λ number text line. WholeMesh c.args.prefix.now number text ∷ (ReportText line ∷ []) in
+    let text : List ℕ = text_in e.state (triangles_of (picture_seen e c.args.note.now)) in
+    does-same _ _ _ _ c.show_mesh.result
+    (ap (λ (k : ℕ). acts k (view_text c.view.result) c.as_slice.result.now) c.frames.ensures
+    ∙ (ap (λ (t : List ℕ). acts e.frames t c.as_slice.result.now)
+    (mesh-text e c.args.note.now c.view.result view.wedges view.planes view.spacing view.leaves)
+    ∙ ap (acts e.frames text)
+    (c.as_slice.ensures.value ∙ (c.frame_report-line.ensures ∙ note-text e.frames e c.args.note.now c.requires.noted))))
+    c.show_mesh.ensures.does

@@ -1,45 +1,29 @@
-use Rattle.std.proofs.Common.{◌≡◌, List, ℕ, refl, ◌∙◌}
-use Rattle.std.proofs.lemmas.Result.{err_from_is_err_and}
-use Rattle.run_laws.proofs.ActLemmas.{both-ok, both-err}
+use Rattle.std.proofs.Common.{ℕ, List, [], ◌∷◌, ◌∙◌, ap}
 use Rattle.mesh_defs.specs.State.{text_in}
 use Rattle.obj_write.specs.MeshView.{view_text}
+use Rattle.run_laws.specs.Act.{Act, WholeMesh, ReportText}
 use Rattle.run_laws.specs.Picture.{strip_triangles}
-use Rattle.run_laws.specs.ReportText.{strip_line}
+use Rattle.run_laws.proofs.DoesLemmas.{does-same}
 use Rattle.run_engine.specs.NoteSeen.{picture_seen}
+use Rattle.run_engine.proofs.FrameLemmas.{view-valid}
 use Rattle.run_engine.proofs.ShowLemmas.{strip-text, strip-line}
-use Rattle.run_laws.proofs.ShownLemmas.{cut-acts-mesh, cut-acts-line, stands-acts}
 use Rattle.run_engine.proofs.shows.write_order.Goals as goal
 
-pub returns-in_err-write_mesh-clause-err : goal.returns-in_err-write_mesh-clause-err
-returns-in_err-write_mesh-clause-err g c note =
-    let p = err_from_is_err_and c.from_residual.result c.from_residual.ensures.1 in
-    let bytes : List ℕ = text_in c.args.engine.now.state (strip_triangles (picture_seen c.args.engine.now note)) in
-    let line : List ℕ = strip_line c.args.engine.now.frames (picture_seen c.args.engine.now note) in
-    let is : view_text c.in_order.result ≡ bytes = strip-text c.args.engine.now note c.in_order.result
-    c.in_order.ensures.wedges c.in_order.ensures.planes c.in_order.ensures.spacing (c.in_order.ensures.leaves ∙ c.requires.order) in
-    rw p.1 (cut-acts-mesh _ _ _ (g.R.Sink.contents c.args.report.now) _ _ _ bytes line (view_text c.in_order.result) line
-    c.frames.ensures is refl c.in_err-write_mesh.ensures.err c.in_err-write_mesh.ensures.faults.failed)
+pub show_mesh-requires-clause-view : goal.show_mesh-requires-clause-view
+show_mesh-requires-clause-view g c =
+    let view = c.in_order-view.ensures in
+    view-valid c.in_order-view.result view.wedges (rw view.leaves view.levels) (rw view.leaves view.numbers) view.spacing_low view.spacing_high
 
-pub returns-clause-err : goal.returns-clause-err
-returns-clause-err g c note =
-    let bytes : List ℕ = text_in c.args.engine.now.state (strip_triangles (picture_seen c.args.engine.now note)) in
-    let line : List ℕ = strip_line c.args.engine.now.frames (picture_seen c.args.engine.now note) in
-    let is : view_text c.in_order.result ≡ bytes = strip-text c.args.engine.now note c.in_order.result
-    c.in_order.ensures.wedges c.in_order.ensures.planes c.in_order.ensures.spacing (c.in_order.ensures.leaves ∙ c.requires.order) in
-    both-err c.write.result
-    (cut-acts-line _ _ _ _ _ _ _ bytes line (view_text c.in_order.result) c.as_slice.result.now c.frames.ensures is
-    (c.as_slice.ensures.value ∙ (c.strip_report-line.ensures ∙ strip-line c.args.engine.now note c.args.engine.now.frames c.args.order.now c.requires.order))
-    c.in_ok-write_mesh.ensures.ok c.in_ok-write_mesh.ensures.faults.ok)
-    c.write.ensures.bytes.failed c.write.ensures.faults.failed
-
-pub returns-clause-ok : goal.returns-clause-ok
-returns-clause-ok g c note =
-    let bytes : List ℕ = text_in c.args.engine.now.state (strip_triangles (picture_seen c.args.engine.now note)) in
-    let line : List ℕ = strip_line c.args.engine.now.frames (picture_seen c.args.engine.now note) in
-    let is : view_text c.in_order.result ≡ bytes = strip-text c.args.engine.now note c.in_order.result
-    c.in_order.ensures.wedges c.in_order.ensures.planes c.in_order.ensures.spacing (c.in_order.ensures.leaves ∙ c.requires.order) in
-    both-ok c.write.result
-    (stands-acts _ _ _ _ _ _ _ bytes line (view_text c.in_order.result) c.as_slice.result.now c.frames.ensures is
-    (c.as_slice.ensures.value ∙ (c.strip_report-line.ensures ∙ strip-line c.args.engine.now note c.args.engine.now.frames c.args.order.now c.requires.order))
-    c.in_ok-write_mesh.ensures.ok c.in_ok-write_mesh.ensures.faults.ok)
-    c.write.ensures.bytes.ok c.write.ensures.faults.ok
+pub returns-clause-does : goal.returns-clause-does
+returns-clause-does g c note =
+    let e = c.args.engine.now in
+    let view = c.in_order-view.ensures in
+    let acts : ℕ → List ℕ → List ℕ → List Act = λ number text line. WholeMesh c.args.prefix.now number text ∷ (ReportText line ∷ []) in
+    let text : List ℕ = text_in e.state (strip_triangles (picture_seen e note)) in
+    does-same _ _ _ _ c.show_mesh.result
+    (ap (λ (k : ℕ). acts k (view_text c.in_order-view.result) c.as_slice.result.now) c.frames.ensures
+    ∙ (ap (λ (t : List ℕ). acts e.frames t c.as_slice.result.now)
+    (strip-text e note c.in_order-view.result view.wedges view.planes view.spacing (view.leaves ∙ c.requires.order))
+    ∙ ap (acts e.frames text)
+    (c.as_slice.ensures.value ∙ (c.strip_report-line.ensures ∙ strip-line e note e.frames c.args.order.now c.requires.order))))
+    c.show_mesh.ensures.does

@@ -14,4 +14,7 @@ show_frame-requires-clause-room g c strip =
 pub returns-clause-outcome : goal.returns-clause-outcome
 returns-clause-outcome g c show walk pictures follows =
     engine-takes _ _ c.args.self.now.showing c.args.self.now.engine c.frame-note.new.self c.frame-note.result c.show_frame.result c.frame-note.ensures.done
-    c.show_frame.ensures.ok c.show_frame.ensures.err show walk pictures follows
+    c.show_frame.ensures.does.done c.show_frame.ensures.does.cut_short show walk pictures follows
+
+pub returns-clause-only : goal.returns-clause-only
+returns-clause-only g c = c.show_frame.ensures.does.only
