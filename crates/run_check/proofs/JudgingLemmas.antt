@@ -32,7 +32,8 @@ levels-recursion n [] are = tt
 levels-recursion n (a ∷ leaves) are = (level-le n a are.0, levels-recursion n leaves are.1)
 
 pub leaf-levels : (n : ℕ) (leaves : List ℕ) → All (IsAddress n) leaves → All (λ a. level_of a ≤ 2 * n) leaves
-leaf-levels n leaves are = All-from_recursion (λ a. level_of a ≤ 2 * n) leaves (levels-recursion n leaves (recursion_from_All (IsAddress n) leaves are))
+leaf-levels n leaves are =
+    All-from_recursion (λ a. level_of a ≤ 2 * n) leaves (levels-recursion n leaves (recursion_from_All (IsAddress n) leaves are))
 
 -- commands that check are the same
 same-check : (name other : List ℕ) (c check : Checking) → OnGrid name (Check c) ≡ OnGrid other (Check check) → c ≡ check
@@ -43,7 +44,8 @@ not-fit : (name other : List ℕ) (c : Checking) (check : FitChecking) → OnGri
 not-fit name other c check e = cc
 
 -- the grid of one is that of the other
-same-found : (name other : List ℕ) (c check : Checking) (grid : HeightField) (files : List NamedFile) → OnGrid name (Check c) ≡ OnGrid other (Check check)
+same-found : (name other : List ℕ) (c check : Checking) (grid : HeightField) (files : List NamedFile)
+    → OnGrid name (Check c) ≡ OnGrid other (Check check)
     → grid_of (bytes_of files name) ≡ Ok grid → grid_of (bytes_of files other) ≡ Ok grid
 same-found name other c check grid files e found =
     let P : List ℕ → Type 0 = λ l. grid_of (bytes_of files l) ≡ Ok grid in
@@ -65,7 +67,8 @@ behind-memory before old new name c grid count opens low high found faultless = 
   in_order = λ other check files e told two. (
     grid,
     same-found name other c check grid files e (found files told),
-    λ three. (let P : Checking → Type 0 = λ d. IsFaultlessFile d grid files in subst P (same-check name other c check e) (faultless three files told)),
+    λ three. (let P : Checking → Type 0 = λ d. IsFaultlessFile d grid files in
+        subst P (same-check name other c check e) (faultless three files told)),
   );
   fit_in_order = λ other check files e told two. absurd (not-fit name other c check e);
 }
@@ -126,11 +129,12 @@ module _ (before middle last now : Moment) (name : List ℕ) (c : Checking) (gri
   check-runs (Rejected why) opened ended judged is_text is_end tells =
       rejected-runs before middle last now name (Check c) grid (1 + mesh_opens (Rejected why)) _ status idle read opened refl
       (omega arith) (two-most why) refl refl
-      (λ files told. subst (λ (k : ℕ). IsJobOutcome (Check c) grid files (text_outcome (rejection why) ends.Rejected k)) (three-in (mesh_opens (Rejected why))) (judged files told))
+      (λ files told. subst (λ (k : ℕ). IsJobOutcome (Check c) grid files (text_outcome (rejection why) ends.Rejected k))
+      (one-more (mesh_opens (Rejected why))) (judged files told))
       (tells-as is_text is_end tells)
     where
-      three-in : (k : ℕ) → 2 + k ≡ 1 + (1 + k)
-      three-in k = omega arith
+      one-more : (k : ℕ) → 2 + k ≡ 1 + (1 + k)
+      one-more k = omega arith
 
       two-most : (why : Reject) → 1 + mesh_opens (Rejected why) ≤ 2
       two-most (BadLine line) = omega arith

@@ -448,7 +448,8 @@ module _ (before middle now : Moment) (name : List ℕ) (s : Scripted) (grid : H
 pub opens-one : (before now : Moment) → before.shelf.opens ≤ 2 ^ 63 + 2 → OnlyReads before now
     → now.shelf.opens ≡ next_count before.shelf.opens → now.shelf_faults ≡ before.shelf_faults
     → IsInTime before.shelf_late before.shelf_faults now.shelf_late → HasOpened before now 1
-opens-one before now low only opens faults in_time = record { only = only; opens = next-one _ _ low opens; faults = faults; in_time = in_time }
+opens-one before now low only opens faults in_time =
+    record { only = only; opens = next-one _ _ low opens; faults = faults; in_time = in_time }
 
 -- a file was opened, and a read of it failed
 pub fails-one : (before now : Moment) (name : List ℕ) (holds : List ℕ → Type 0) → before.shelf.opens ≤ 2 ^ 63 + 2 → OnlyReads before now
@@ -517,10 +518,11 @@ module _ (before middle last now : Moment) (name : List ℕ) (job : Job) (grid :
 
   job-ends : (meant : Status)
       → ((files : List NamedFile) → middle.shelf.files ≡ Some files → IsJobOutcome job grid files (text_outcome text meant (1 + more)))
-      → (files : List NamedFile) → before.shelf.files ≡ Some files → IsCommandOutcome (OnGrid name job) files (text_outcome text meant (1 + more))
+      → (files : List NamedFile) → before.shelf.files ≡ Some files
+      → IsCommandOutcome (OnGrid name job) files (text_outcome text meant (1 + more))
   job-ends meant outcome files told =
-      subst (λ (r : Result HeightField PgmFault). IsGridOutcome job r files (text_outcome text meant (1 + more))) (sym (read.is_grid files told))
-      (outcome files (read.opened.only.files ∙ told))
+      subst (λ (r : Result HeightField PgmFault). IsGridOutcome job r files (text_outcome text meant (1 + more)))
+      (sym (read.is_grid files told)) (outcome files (read.opened.only.files ∙ told))
 
   -- a check ended with the line that a mesh is certified, and read its three files
   pub certified-runs : more ≡ 2 → HasEnded last.shelf → leaves_engine job-command Done ≡ false

@@ -9,5 +9,7 @@ compare_rest-requires-clause-levels g c = rw c.leaves.ensures.value (leaf-levels
 pub returns-in-Ok-compare_rest-clause-ended : goal.returns-in-Ok-compare_rest-clause-ended
 returns-in-Ok-compare_rest-clause-ended g c none =
     has-ended _ _ _ _ _ (c.in-Ok-compare_rest.ensures.ended none) c.in-Ok-compare_rest.ensures.told
-    (λ all is_told. (_, c.in-Ok.ensures.opened.chosen all (sym (c.in-Ok-compare_rest.ensures.only.files ∙ c.in-Ok.ensures.only.files) ∙ is_told)))
+    (λ all is_told.
+    let same = c.in-Ok-compare_rest.ensures.only.files ∙ c.in-Ok.ensures.only.files in
+    (_, c.in-Ok.ensures.opened.chosen all (sym same ∙ is_told)))
     (c.in-Ok-compare_rest.ensures.all_read none)
