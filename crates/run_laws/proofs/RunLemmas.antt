@@ -451,24 +451,6 @@ pub opens-one : (before now : Moment) → before.shelf.opens ≤ 2 ^ 63 + 2 → 
 opens-one before now low only opens faults in_time =
     record { only = only; opens = next-one _ _ low opens; faults = faults; in_time = in_time }
 
--- a file was opened, and a read of it failed
-pub fails-one : (before now : Moment) (name : List ℕ) (holds : List ℕ → Type 0) → before.shelf.opens ≤ 2 ^ 63 + 2 → OnlyReads before now
-    → now.shelf.opens ≡ next_count before.shelf.opens → Rose before.shelf_faults now.shelf_faults
-    → IsInTime before.shelf_late before.shelf_faults now.shelf_late
-    → ((all : List NamedFile) → before.shelf.files ≡ Some all → StopsReading holds (bytes_of all name) now.shelf.rest now.shelf.ended)
-    → HasFailed before now 1 name holds
-fails-one before now name holds low only opens failed in_time stops =
-    record { only = only; opens = next-one _ _ low opens; failed = failed; in_time = in_time; stops = stops }
-
--- nothing was opened
-pub opens-none : (moment : Moment) → HasOpened moment moment 0
-opens-none moment = record {
-  only = record { files = refl; sinks = refl; under_way = refl; mesh_late = refl; report_late = refl };
-  opens = omega arith;
-  faults = refl;
-  in_time = λ not_late none. not_late;
-}
-
 -- only the shelf was called, and then only it was again
 reads-then : (before middle now : Moment) → OnlyReads before middle → OnlyReads middle now → OnlyReads before now
 reads-then before middle now one other = record {
