@@ -1,7 +1,7 @@
 -- What a check of a certificate and a mesh comes to, and where it stops.
--- Words: judged_text, judged_status, opened_for, judged_outcome, mesh_seen, IsJudged, IsFaultlessFile, JudgesNoMemory, MeshHasRead,
--- StopsMesh, JudgesFault.
-use Rattle.std.specs.Prelude.{◌≡◌, ℕ, ◌+◌, ◌⊎◌, Bool, List, Option, Some, Ok}
+-- Words: judged_text, judged_status, mesh_opens, judged_outcome, mesh_seen, IsJudged, IsFaultlessFile, MeshHasRead, NoMemoryBehind,
+-- FailsBehind, JudgesNoMemory, JudgesFault.
+use Rattle.std.specs.Prelude.{◌≡◌, ℕ, ◌+◌, ◌⊎◌, List, Some, Ok}
 use Rattle.mesh_defs.specs.HeightField.{HeightField}
 use Rattle.mesh_defs.specs.State.{text_in}
 use Rattle.roam_edge.specs.Shelf.{NamedFile, bytes_of}
@@ -15,9 +15,10 @@ use Rattle.run_laws.specs.CertFile.{cert_in, CertHasRead}
 use Rattle.run_laws.specs.Certify.{checks_at, IsFaultless}
 use Rattle.run_laws.specs.ReportText.{certified_line, rejection}
 use Rattle.run_laws.specs.Outcome.{Outcome, text_outcome, IsCheckOutcome}
+use Rattle.run_laws.specs.Moment.{Moment}
+use Rattle.run_laws.specs.Leaving.{HasOpened, HasFailed}
 use Rattle.run_check.specs.declared.verdict_report.Judgement.{Judgement}
 use Rattle.run_check.specs.declared.verdict_report.Judgement.TheVariants.{Certified, Rejected}
-use Rattle.run_laws.specs.FileStop.{StopsReading}
 
 -- the line of a judgement
 abbrev pub judged_text : Judgement → List ℕ
@@ -29,19 +30,19 @@ abbrev pub judged_status : Judgement → Status
 judged_status (Certified camera triangles worst) = ends.Done
 judged_status (Rejected why) = ends.Rejected
 
--- how many files were opened for it: the mesh only behind a certificate without a fault
-abbrev pub opened_for : Judgement → ℕ
-opened_for (Certified camera triangles worst) = 3
-opened_for (Rejected (BadLine line)) = 2
-opened_for (Rejected NotConforming) = 2
-opened_for (Rejected OverBudget) = 2
-opened_for (Rejected (BadReason index)) = 2
-opened_for (Rejected TooFewReasons) = 2
-opened_for (Rejected (MeshDiffers place)) = 3
+-- how often the mesh was opened for it: only behind a certificate without a fault
+abbrev pub mesh_opens : Judgement → ℕ
+mesh_opens (Certified camera triangles worst) = 1
+mesh_opens (Rejected (BadLine line)) = 0
+mesh_opens (Rejected NotConforming) = 0
+mesh_opens (Rejected OverBudget) = 0
+mesh_opens (Rejected (BadReason index)) = 0
+mesh_opens (Rejected TooFewReasons) = 0
+mesh_opens (Rejected (MeshDiffers place)) = 1
 
--- the outcome of a run that tells it
+-- the outcome of a run that tells it: the grid and the certificate were opened for it, and the mesh or not
 abbrev pub judged_outcome : Judgement → Outcome
-judged_outcome judgement = text_outcome (judged_text judgement) (judged_status judgement) (opened_for judgement)
+judged_outcome judgement = text_outcome (judged_text judgement) (judged_status judgement) (2 + mesh_opens judgement)
 
 -- the text of the mesh of a certificate
 abbrev pub mesh_seen : Checking → HeightField → Certificate → List ℕ
@@ -57,24 +58,28 @@ abbrev pub IsFaultlessFile : Checking → HeightField → List NamedFile → Typ
 IsFaultlessFile c grid files =
     (cert : Certificate) × (cert_in grid.n (bytes_of files c.certificate) ≡ Ok cert) × IsFaultless c grid cert
 
--- memory ran out once the certificate was opened, or once the mesh was too, behind a certificate without a fault
-abbrev pub JudgesNoMemory : Checking → HeightField → Option (List NamedFile) → ℕ → ℕ → Type 0
-JudgesNoMemory c grid told before now =
-    (now ≡ before + 1)
-    ⊎ ((now ≡ before + 2) × ((files : List NamedFile) → told ≡ Some files → IsFaultlessFile c grid files))
-
 -- so much of a mesh was read: a prefix of this text
 abbrev pub MeshHasRead : List ℕ → List ℕ → Type 0
 MeshHasRead text read = IsPrefix read text
 
--- a read of the mesh failed, behind a certificate without a fault
-abbrev pub StopsMesh : Checking → HeightField → List NamedFile → Option (List ℕ) → Bool → Type 0
-StopsMesh c grid files rest ended =
-    (cert : Certificate) × (cert_in grid.n (bytes_of files c.certificate) ≡ Ok cert) × IsFaultless c grid cert
-    × StopsReading (MeshHasRead (mesh_seen c grid cert)) (bytes_of files c.mesh) rest ended
+-- behind this certificate memory ran out: at once, or, if it has no fault, when the mesh was opened
+abbrev pub NoMemoryBehind : Checking → HeightField → Certificate → Moment → Moment → Type 0
+NoMemoryBehind c grid cert before now = HasOpened before now 0 ⊎ (HasOpened before now 1 × IsFaultless c grid cert)
 
--- a read failed, at the certificate or at the mesh
-abbrev pub JudgesFault : Checking → HeightField → Option (List NamedFile) → Option (List ℕ) → Bool → ℕ → ℕ → Type 0
-JudgesFault c grid told rest ended before now =
-    ((now ≡ before + 1) × ((files : List NamedFile) → told ≡ Some files → StopsReading (CertHasRead grid.n) (bytes_of files c.certificate) rest ended))
-    ⊎ ((now ≡ before + 2) × ((files : List NamedFile) → told ≡ Some files → StopsMesh c grid files rest ended))
+-- behind this certificate, which has no fault, a read of the mesh failed
+abbrev pub FailsBehind : Checking → HeightField → Certificate → Moment → Moment → Type 0
+FailsBehind c grid cert before now = IsFaultless c grid cert × HasFailed before now 1 c.mesh (MeshHasRead (mesh_seen c grid cert))
+
+-- memory ran out once the certificate was opened, or once the mesh was too, behind a certificate without a fault
+abbrev pub JudgesNoMemory : Checking → HeightField → Moment → Moment → Type 0
+JudgesNoMemory c grid before now =
+    HasOpened before now 1
+    ⊎ (HasOpened before now 2 × ((files : List NamedFile) → before.shelf.files ≡ Some files → IsFaultlessFile c grid files))
+
+-- a read failed, at the certificate or, behind one without a fault, at the mesh
+abbrev pub JudgesFault : Checking → HeightField → Moment → Moment → Type 0
+JudgesFault c grid before now =
+    HasFailed before now 1 c.certificate (CertHasRead grid.n)
+    ⊎ ((cert : Certificate)
+    × ((files : List NamedFile) → before.shelf.files ≡ Some files → cert_in grid.n (bytes_of files c.certificate) ≡ Ok cert)
+    × IsFaultless c grid cert × HasFailed before now 2 c.mesh (MeshHasRead (mesh_seen c grid cert)))

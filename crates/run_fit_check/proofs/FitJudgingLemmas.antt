@@ -1,5 +1,5 @@
 -- A certificate of a fitted mesh and a mesh are judged: what the calls of a check come to.
-use Rattle.std.proofs.Common.{◌≡◌, ◌≢◌, ℕ, ◌+◌, ◌≤◌, Bool, inl, inr, List, [], Option, Some, None, Ok, take, slice_get, refl, sym, ◌∙◌, ap, subst, arith}
+use Rattle.std.proofs.Common.{◌≡◌, ◌≢◌, ℕ, ◌+◌, ◌≤◌, inl, inr, List, [], Some, None, Ok, false, take, slice_get, refl, sym, ◌∙◌, ap, subst, arith}
 use Rattle.mesh_defs.specs.HeightField.{HeightField}
 use Rattle.roam_edge.specs.Shelf.{NamedFile, bytes_of}
 use Rattle.pgm_grid.specs.Progress.{grid_of}
@@ -7,22 +7,24 @@ use Rattle.fit_certificate_laws.specs.declared.reason.Target.{Target as Goal}
 use Rattle.fit_certificate_laws.specs.declared.reason.Verdict.TheVariants as verdict
 use Rattle.fit_certificate_laws.specs.Certificate.{FitCertificate, IsSound}
 use Rattle.run_laws.specs.declared.status.Status.{Status}
+use Rattle.run_laws.specs.declared.status.Status.TheVariants.{Done, NoMemory, ReadFault}
 use Rattle.word_laws.specs.Words.{Checking, Check, FitChecking, CheckFit, OnGrid}
 use Rattle.run_laws.specs.Act.{Told}
-use Rattle.run_laws.specs.FileStop.{StopsReading}
 use Rattle.run_laws.specs.Fit.{goal_of, fit_text}
-use Rattle.run_laws.specs.Outcome.{text_outcome, IsFitCheckOutcome}
-use Rattle.run_laws.specs.Promise.{Seen, CommandReadFault, CommandNoMemory}
+use Rattle.run_laws.specs.Outcome.{IsFitCheckOutcome}
+use Rattle.run_laws.specs.Promise.{Seen, HasEnded, CommandNoMemory}
+use Rattle.run_laws.specs.Moment.{Moment}
+use Rattle.run_laws.specs.Leaving.{Runs, HasOpened, HasFailed, ReadsGrid, TellsLast}
 use Rattle.run_laws.proofs.ActLemmas.{stands-nothing}
+use Rattle.run_laws.proofs.GridLemmas.{file-fault, same-name}
+use Rattle.run_laws.proofs.RunLemmas.{read-failed, memory-spent, opens-then, fails-then, certified-runs, rejected-runs, tells-as}
 use Rattle.run_fit_check.specs.declared.verdict_report.Judgement.{Judgement}
-use Rattle.run_fit_check.specs.declared.verdict_report.Judgement.TheVariants.{Certified, MeshDiffers}
-use Rattle.run_laws.specs.Maker.{DoesAs}
-use Rattle.run_laws.specs.Leaving.{CommandEnds}
-use Rattle.run_fit_check.specs.FitJudging.{judged_text, judged_status, opened_for, judged_outcome, IsJudged, IsFaultlessFile, JudgesNoMemory, MeshHasRead, JudgesFault, IsSoundFor, StopsFitMesh}
-use Rattle.run_laws.proofs.GridLemmas.{ends-as, file-fault, same-name}
+use Rattle.run_fit_check.specs.declared.verdict_report.Judgement.TheVariants.{Certified, Rejected, BadLine, MeshDiffers}
+use Rattle.run_fit_check.specs.FitJudging.{judged_text, judged_status, mesh_opens, judged_outcome, IsJudged, IsFaultlessFile, MeshHasRead, IsSoundFor, FailsBehind, JudgesNoMemory, JudgesFault}
 
 -- The triangles are those of a certificate without a fault, of so many that are off by so much.
-module _ (c : FitChecking) (grid : HeightField) (cert : FitCertificate) (count deviation : ℕ) (triangles : List ℕ) (sound : IsSoundFor c grid cert count deviation)
+module _ (c : FitChecking) (grid : HeightField) (cert : FitCertificate) (count deviation : ℕ) (triangles : List ℕ)
+    (sound : IsSoundFor c grid cert count deviation)
     (made : (target : Goal) (mesh : List ℕ) → IsSound grid.n grid.heights target cert mesh → triangles ≡ mesh) where
   mesh-is : triangles ≡ sound.0
   mesh-is = made (goal_of grid.n c.target) sound.0 sound.1
@@ -56,26 +58,13 @@ module _ (c : FitChecking) (grid : HeightField) (cert : FitCertificate) (count d
   )
 
   -- a read of the file failed
-  pub stops-fit : (told : Option (List NamedFile)) (rest : Option (List ℕ)) (ended : Bool)
-      → ((files : List NamedFile) → told ≡ Some files → StopsReading (MeshHasRead (fit_text c.spacing grid triangles)) (bytes_of files c.mesh) rest ended)
-      → StopsFitMesh c grid cert told rest ended
-  stops-fit told rest ended stops = (
+  pub fails-behind : (before now : Moment) → HasFailed before now 1 c.mesh (MeshHasRead (fit_text c.spacing grid triangles))
+      → FailsBehind c grid cert before now
+  fails-behind before now failed = (
     sound.0,
     sound.1,
-    λ files is_told.
-        subst (λ (l : List ℕ). StopsReading (MeshHasRead (fit_text c.spacing grid l)) (bytes_of files c.mesh) rest ended) mesh-is (stops files is_told),
+    subst (λ (l : List ℕ). HasFailed before now 1 c.mesh (MeshHasRead (fit_text c.spacing grid l))) mesh-is failed,
   )
-
--- a judgement ends a check
-pub check-ends : (before now : Told) (old new : Seen) (name : List ℕ) (c : FitChecking) (files : List NamedFile) (grid : HeightField) (judgement : Judgement) (text : List ℕ) (middle : ℕ) (end status : Status)
-    → grid_of (bytes_of files name) ≡ Ok grid → IsJudged c grid files judgement → text ≡ judged_text grid.n judgement → end ≡ judged_status judgement
-    → middle ≡ old.opens + 1 → new.opens + 1 ≡ middle + opened_for judgement
-    → DoesAs before now (text_outcome text end (opened_for judgement)) status → CommandEnds before now old new (OnGrid name (CheckFit c)) files status None
-check-ends before now old new name c files grid judgement text middle end status found judged is_text is_end one more does =
-    let P : List ℕ → Type 0 = λ t. DoesAs before now (text_outcome t end (opened_for judgement)) status in
-    let Q : Status → Type 0 = λ s. DoesAs before now (text_outcome (judged_text grid.n judgement) s (opened_for judgement)) status in
-    ends-as before now old new name (CheckFit c) files (Ok grid) (judged_outcome grid.n judgement) status found judged (omega (arith, one, more))
-    (subst Q is_end (subst P is_text does)) None (λ e. refl)
 
 -- commands that check are the same
 same-check : (name other : List ℕ) (c check : FitChecking) → OnGrid name (CheckFit c) ≡ OnGrid other (CheckFit check) → c ≡ check
@@ -86,16 +75,19 @@ not-view : (name other : List ℕ) (c : FitChecking) (check : Checking) → OnGr
 not-view name other c check e = cc
 
 -- the grid of one is that of the other
-same-found : (name other : List ℕ) (c check : FitChecking) (grid : HeightField) (files : List NamedFile) → OnGrid name (CheckFit c) ≡ OnGrid other (CheckFit check)
+same-found : (name other : List ℕ) (c check : FitChecking) (grid : HeightField) (files : List NamedFile)
+    → OnGrid name (CheckFit c) ≡ OnGrid other (CheckFit check)
     → grid_of (bytes_of files name) ≡ Ok grid → grid_of (bytes_of files other) ≡ Ok grid
 same-found name other c check grid files e found =
     let P : List ℕ → Type 0 = λ l. grid_of (bytes_of files l) ≡ Ok grid in
     subst P (same-name name other (CheckFit c) (CheckFit check) e) found
 
 -- memory ran out behind the grid, with so many files opened
-behind-memory : (before : Told) (old new : Seen) (name : List ℕ) (c : FitChecking) (grid : HeightField) (count : ℕ) → new.opens ≡ old.opens + count → 2 ≤ count → count ≤ 3
+behind-memory : (before : Told) (old new : Seen) (name : List ℕ) (c : FitChecking) (grid : HeightField) (count : ℕ)
+    → new.opens ≡ old.opens + count → 2 ≤ count → count ≤ 3
     → ((files : List NamedFile) → old.files ≡ Some files → grid_of (bytes_of files name) ≡ Ok grid)
-    → (3 ≤ count → (files : List NamedFile) → old.files ≡ Some files → IsFaultlessFile c grid files) → CommandNoMemory before before old new (OnGrid name (CheckFit c))
+    → (3 ≤ count → (files : List NamedFile) → old.files ≡ Some files → IsFaultlessFile c grid files)
+    → CommandNoMemory before before old new (OnGrid name (CheckFit c))
 behind-memory before old new name c grid count opens low high found faultless = record {
   opened = count;
   count = opens;
@@ -107,38 +99,70 @@ behind-memory before old new name c grid count opens low high found faultless = 
   fit_in_order = λ other check files e told two. (
     grid,
     same-found name other c check grid files e (found files told),
-    λ three. (let P : FitChecking → Type 0 = λ d. IsFaultlessFile d grid files in subst P (same-check name other c check e) (faultless three files told)),
+    λ three. (let P : FitChecking → Type 0 = λ d. IsFaultlessFile d grid files in
+        subst P (same-check name other c check e) (faultless three files told)),
   );
 }
 
--- memory ran out behind the grid
-pub check-memory : (before : Told) (old new : Seen) (name : List ℕ) (c : FitChecking) (grid : HeightField) (middle : ℕ) → middle ≡ old.opens + 1
-    → ((files : List NamedFile) → old.files ≡ Some files → grid_of (bytes_of files name) ≡ Ok grid) → JudgesNoMemory c grid old.files middle new.opens
-    → CommandNoMemory before before old new (OnGrid name (CheckFit c))
-check-memory before old new name c grid middle one found (inl first) =
-    behind-memory before old new name c grid 2 (omega (arith, one, first)) (omega arith) (omega arith) found (λ three. absurd (omega (arith, three)))
-check-memory before old new name c grid middle one found (inr (second, faultless)) =
-    behind-memory before old new name c grid 3 (omega (arith, one, second)) (omega arith) (omega arith) found (λ three. faultless)
+module _ (before middle now : Moment) (name : List ℕ) (c : FitChecking) (grid : HeightField) (idle : before.under_way ≡ false)
+    (read : ReadsGrid before middle name grid) where
+  -- memory ran out behind the grid
+  pub check-memory : JudgesNoMemory c grid middle now → Runs before now (Some (OnGrid name (CheckFit c))) NoMemory None
+  check-memory (inl one) =
+      let opened = opens-then before middle now 1 1 read.opened one in
+      memory-spent before now name (CheckFit c) 2 idle opened
+      (behind-memory _ _ _ name c grid 2 opened.opens (omega arith) (omega arith) read.is_grid (λ three. absurd (omega (arith, three))))
+  check-memory (inr (two, faultless)) =
+      let opened = opens-then before middle now 1 2 read.opened two in
+      memory-spent before now name (CheckFit c) 3 idle opened
+      (behind-memory _ _ _ name c grid 3 opened.opens (omega arith) (omega arith) read.is_grid
+      (λ three files told. faultless files (read.opened.only.files ∙ told)))
 
--- a read failed behind the grid
-pub check-fault : (before : Told) (old new : Seen) (name : List ℕ) (c : FitChecking) (grid : HeightField) (middle : ℕ) → middle ≡ old.opens + 1
-    → ((files : List NamedFile) → old.files ≡ Some files → grid_of (bytes_of files name) ≡ Ok grid)
-    → JudgesFault c grid old.files new.rest new.ended middle new.opens
-    → CommandReadFault before before old new (OnGrid name (CheckFit c))
-check-fault before old new name c grid middle one found (inl (first, stops)) = record {
-  file = 1;
-  opened = omega (arith, one, first);
-  before_script = λ scripted. stands-nothing before;
-  at_file = λ files told.
-      let at = stops files told in
-      file-fault before before new (OnGrid name (CheckFit c)) files 1 c.certificate [] _ at refl (grid, found files told, (at.has_read, refl)) (stands-nothing before);
-}
-check-fault before old new name c grid middle one found (inr (second, stops)) = record {
-  file = 2;
-  opened = omega (arith, one, second);
-  before_script = λ scripted. stands-nothing before;
-  at_file = λ files told.
-      let at = stops files told in
-      file-fault before before new (OnGrid name (CheckFit c)) files 2 c.mesh [] _ at.4 refl
-      (grid, found files told, ((at.0, at.1, at.2, at.3, at.4.has_read), refl)) (stands-nothing before);
-}
+  -- a read failed behind the grid
+  pub check-fault : JudgesFault c grid middle now → Runs before now (Some (OnGrid name (CheckFit c))) ReadFault None
+  check-fault (inl one) =
+      let failed = fails-then before middle now 1 1 c.certificate _ read.opened one in
+      read-failed before now name (CheckFit c) 2 c.certificate _ idle failed (omega arith) (omega arith)
+      (record {
+        file = 1;
+        opened = failed.opens;
+        before_script = λ scripted. stands-nothing before.sinks;
+        at_file = λ files told.
+            let at = failed.stops files told in
+            file-fault _ _ now.shelf (OnGrid name (CheckFit c)) files 1 c.certificate [] _ at refl
+            (grid, read.is_grid files told, (at.has_read, refl)) (stands-nothing before.sinks);
+      })
+  check-fault (inr (cert, triangles, is, faultless, two)) =
+      let failed = fails-then before middle now 1 2 c.mesh _ read.opened two in
+      read-failed before now name (CheckFit c) 3 c.mesh _ idle failed (omega arith) (omega arith)
+      (record {
+        file = 2;
+        opened = failed.opens;
+        before_script = λ scripted. stands-nothing before.sinks;
+        at_file = λ files told.
+            let at = failed.stops files told in
+            file-fault _ _ now.shelf (OnGrid name (CheckFit c)) files 2 c.mesh [] _ at refl
+            (grid, read.is_grid files told, ((cert, triangles, is files (read.opened.only.files ∙ told), faultless, at.has_read), refl))
+            (stands-nothing before.sinks);
+      })
+
+module _ (before middle last now : Moment) (name : List ℕ) (c : FitChecking) (grid : HeightField) (text : List ℕ) (meant status : Status)
+    (idle : before.under_way ≡ false) (read : ReadsGrid before middle name grid) where
+  -- the line of a judgement ends a check
+  pub check-runs : (judgement : Judgement) → HasOpened middle last (1 + mesh_opens judgement)
+      → (judged_status judgement ≡ Done → HasEnded last.shelf)
+      → ((files : List NamedFile) → middle.shelf.files ≡ Some files → IsJudged c grid files judgement)
+      → text ≡ judged_text grid.n judgement → meant ≡ judged_status judgement → TellsLast last now text meant status
+      → Runs before now (Some (OnGrid name (CheckFit c))) status None
+  check-runs (Certified triangles deviation) opened ended judged is_text is_end tells =
+      certified-runs before middle last now name (CheckFit c) grid 2 _ status idle read opened refl refl (ended refl) refl judged
+      (tells-as is_text is_end tells)
+  check-runs (Rejected why) opened ended judged is_text is_end tells =
+      rejected-runs before middle last now name (CheckFit c) grid 1 _ status idle read opened refl
+      (omega arith) (omega arith) refl refl judged (tells-as is_text is_end tells)
+  check-runs (BadLine line) opened ended judged is_text is_end tells =
+      rejected-runs before middle last now name (CheckFit c) grid 1 _ status idle read opened refl
+      (omega arith) (omega arith) refl refl judged (tells-as is_text is_end tells)
+  check-runs (MeshDiffers place) opened ended judged is_text is_end tells =
+      rejected-runs before middle last now name (CheckFit c) grid 2 _ status idle read opened refl
+      (omega arith) (omega arith) refl refl judged (tells-as is_text is_end tells)

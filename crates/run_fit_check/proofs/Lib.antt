@@ -1,4 +1,3 @@
 pub mod FitCertStageLemmas
 pub mod FitJudgingLemmas
-pub mod FitMakingLemmas
 pub mod TextLemmas

@@ -1,7 +1,7 @@
 -- What a check of a fitted mesh by a certificate comes to, and where it stops.
--- Words: judged_text, judged_status, opened_for, judged_outcome, IsJudged, IsFaultlessFile, JudgesNoMemory, MeshHasRead,
--- StopsMesh, JudgesFault, IsFaultlessCert, IsSoundFor, StopsFitMesh.
-use Rattle.std.specs.Prelude.{◌≡◌, ℕ, ◌+◌, ◌⊎◌, Bool, List, length, Option, Some, Ok}
+-- Words: judged_text, judged_status, mesh_opens, judged_outcome, IsJudged, IsFaultlessFile, IsSoundFor, MeshHasRead, NoMemoryBehind,
+-- FailsBehind, JudgesNoMemory, JudgesFault.
+use Rattle.std.specs.Prelude.{◌≡◌, ℕ, ◌+◌, ◌⊎◌, List, length, Some, Ok}
 use Rattle.mesh_defs.specs.HeightField.{HeightField}
 use Rattle.roam_edge.specs.Shelf.{NamedFile, bytes_of}
 use Rattle.roam_edge.specs.Told.{IsPrefix}
@@ -16,9 +16,10 @@ use Rattle.run_laws.specs.Certify.{IsFitFaultless}
 use Rattle.run_laws.specs.Fit.{fit_text}
 use Rattle.run_laws.specs.ReportText.{certified_fit_line, fit_rejection, rejection}
 use Rattle.run_laws.specs.Outcome.{Outcome, text_outcome, IsFitCheckOutcome}
+use Rattle.run_laws.specs.Moment.{Moment}
+use Rattle.run_laws.specs.Leaving.{HasOpened, HasFailed}
 use Rattle.run_fit_check.specs.declared.verdict_report.Judgement.{Judgement}
 use Rattle.run_fit_check.specs.declared.verdict_report.Judgement.TheVariants.{Certified, Rejected, BadLine, MeshDiffers}
-use Rattle.run_laws.specs.FileStop.{StopsReading}
 
 -- the line of a judgement, over the grid with this n
 abbrev pub judged_text : ℕ → Judgement → List ℕ
@@ -34,16 +35,16 @@ judged_status (Rejected why) = ends.Rejected
 judged_status (BadLine line) = ends.Rejected
 judged_status (MeshDiffers place) = ends.Rejected
 
--- how many files were opened for it: the mesh only behind a certificate without a fault
-abbrev pub opened_for : Judgement → ℕ
-opened_for (Certified triangles deviation) = 3
-opened_for (Rejected why) = 2
-opened_for (BadLine line) = 2
-opened_for (MeshDiffers place) = 3
+-- how often the mesh was opened for it: only behind a certificate without a fault
+abbrev pub mesh_opens : Judgement → ℕ
+mesh_opens (Certified triangles deviation) = 1
+mesh_opens (Rejected why) = 0
+mesh_opens (BadLine line) = 0
+mesh_opens (MeshDiffers place) = 1
 
--- the outcome of a run that tells it
+-- the outcome of a run that tells it: the grid and the certificate were opened for it, and the mesh or not
 abbrev pub judged_outcome : ℕ → Judgement → Outcome
-judged_outcome n judgement = text_outcome (judged_text n judgement) (judged_status judgement) (opened_for judgement)
+judged_outcome n judgement = text_outcome (judged_text n judgement) (judged_status judgement) (2 + mesh_opens judgement)
 
 -- the judgement is right for the files
 abbrev pub IsJudged : FitChecking → HeightField → List NamedFile → Judgement → Type 0
@@ -56,40 +57,37 @@ IsFaultlessFile c grid files =
     (cert : FitCertificate) × (triangles : List ℕ) × (fit_cert_in grid.n (bytes_of files c.certificate) ≡ Ok cert)
     × IsFitFaultless c grid cert triangles
 
--- memory ran out once the certificate was opened, or once the mesh was too, behind a certificate without a fault
-abbrev pub JudgesNoMemory : FitChecking → HeightField → Option (List NamedFile) → ℕ → ℕ → Type 0
-JudgesNoMemory c grid told before now =
-    (now ≡ before + 1)
-    ⊎ ((now ≡ before + 2) × ((files : List NamedFile) → told ≡ Some files → IsFaultlessFile c grid files))
+-- a certificate without a fault, of so many triangles that are off by so much
+abbrev pub IsSoundFor : FitChecking → HeightField → FitCertificate → ℕ → ℕ → Type 0
+IsSoundFor c grid cert count deviation =
+    (triangles : List ℕ) × IsFitFaultless c grid cert triangles × (count ≡ length triangles)
+    × (deviation ≡ deviation_of grid.n grid.heights triangles)
 
 -- so much of a mesh was read: a prefix of this text
 abbrev pub MeshHasRead : List ℕ → List ℕ → Type 0
 MeshHasRead text read = IsPrefix read text
 
--- a read of the mesh failed, behind a certificate without a fault
-abbrev pub StopsMesh : FitChecking → HeightField → List NamedFile → Option (List ℕ) → Bool → Type 0
-StopsMesh c grid files rest ended =
-    (cert : FitCertificate) × (triangles : List ℕ) × (fit_cert_in grid.n (bytes_of files c.certificate) ≡ Ok cert)
-    × IsFitFaultless c grid cert triangles
-    × StopsReading (MeshHasRead (fit_text c.spacing grid triangles)) (bytes_of files c.mesh) rest ended
+-- behind this certificate memory ran out: at once, or, if it has no fault, when the mesh was opened
+abbrev pub NoMemoryBehind : FitChecking → HeightField → FitCertificate → Moment → Moment → Type 0
+NoMemoryBehind c grid cert before now =
+    HasOpened before now 0 ⊎ (HasOpened before now 1 × ((triangles : List ℕ) × IsFitFaultless c grid cert triangles))
 
--- a read failed, at the certificate or at the mesh
-abbrev pub JudgesFault : FitChecking → HeightField → Option (List NamedFile) → Option (List ℕ) → Bool → ℕ → ℕ → Type 0
-JudgesFault c grid told rest ended before now =
-    ((now ≡ before + 1) × ((files : List NamedFile) → told ≡ Some files → StopsReading (FitCertHasRead grid.n) (bytes_of files c.certificate) rest ended))
-    ⊎ ((now ≡ before + 2) × ((files : List NamedFile) → told ≡ Some files → StopsMesh c grid files rest ended))
-
--- a certificate without a fault, of some triangles
-abbrev pub IsFaultlessCert : FitChecking → HeightField → FitCertificate → Type 0
-IsFaultlessCert c grid cert = (triangles : List ℕ) × IsFitFaultless c grid cert triangles
-
--- the same, of so many triangles that are off by so much
-abbrev pub IsSoundFor : FitChecking → HeightField → FitCertificate → ℕ → ℕ → Type 0
-IsSoundFor c grid cert count deviation =
-    (triangles : List ℕ) × IsFitFaultless c grid cert triangles × (count ≡ length triangles) × (deviation ≡ deviation_of grid.n grid.heights triangles)
-
--- a read of the mesh failed, behind this certificate, which has no fault
-abbrev pub StopsFitMesh : FitChecking → HeightField → FitCertificate → Option (List NamedFile) → Option (List ℕ) → Bool → Type 0
-StopsFitMesh c grid cert told rest ended =
+-- behind this certificate, which has no fault, a read of the mesh failed
+abbrev pub FailsBehind : FitChecking → HeightField → FitCertificate → Moment → Moment → Type 0
+FailsBehind c grid cert before now =
     (triangles : List ℕ) × IsFitFaultless c grid cert triangles
-    × ((files : List NamedFile) → told ≡ Some files → StopsReading (MeshHasRead (fit_text c.spacing grid triangles)) (bytes_of files c.mesh) rest ended)
+    × HasFailed before now 1 c.mesh (MeshHasRead (fit_text c.spacing grid triangles))
+
+-- memory ran out once the certificate was opened, or once the mesh was too, behind a certificate without a fault
+abbrev pub JudgesNoMemory : FitChecking → HeightField → Moment → Moment → Type 0
+JudgesNoMemory c grid before now =
+    HasOpened before now 1
+    ⊎ (HasOpened before now 2 × ((files : List NamedFile) → before.shelf.files ≡ Some files → IsFaultlessFile c grid files))
+
+-- a read failed, at the certificate or, behind one without a fault, at the mesh
+abbrev pub JudgesFault : FitChecking → HeightField → Moment → Moment → Type 0
+JudgesFault c grid before now =
+    HasFailed before now 1 c.certificate (FitCertHasRead grid.n)
+    ⊎ ((cert : FitCertificate) × (triangles : List ℕ)
+    × ((files : List NamedFile) → before.shelf.files ≡ Some files → fit_cert_in grid.n (bytes_of files c.certificate) ≡ Ok cert)
+    × IsFitFaultless c grid cert triangles × HasFailed before now 2 c.mesh (MeshHasRead (fit_text c.spacing grid triangles)))

@@ -1,4 +1,4 @@
-//! A certificate of a fitted mesh, read from a shelf.
+//! A certificate of a fitted mesh, read from the outside of a run.
 
 ghost use Rattle.std.specs.Prelude.{◌≡◌, ◌≢◌, ◌+◌, ◌-◌, ◌*◌, ◌^◌, ◌<◌, ◌≤◌, ◌++◌, ◌∷◌, [], ℕ, List, IfOk, OnOk, Some, None, Ok, Err, length};
 ghost use Rattle.mesh_defs.specs.declared.level.TheConstants.{GREATEST_LEVEL};
@@ -8,13 +8,13 @@ ghost use Rattle.fit_cert_text.specs.FitCertReader.{fit_line_in, nothing_read};
 ghost use Rattle.run_laws.specs.CertFile.{HasFitCertCome, FitCertHasRead, fit_cert_of, fit_cert_in};
 ghost use Rattle.fit_cert_text.specs.Laws.{line_count};
 ghost use Rattle.run_laws.specs.FileStop.{StopsReading};
+ghost use Rattle.run_laws.specs.Moment.{OnlyReads};
 ghost use Rattle.run_fit_check.specs.FitCertStage.{place_seen, IsCounted, TakesFitCert, EndsFitCert};
 
 use arrayvec::ArrayVec;
 use fit_cert_text::{CertFault, FitCert, FitCertReader, fit_text_laws};
-use roam_edge::Shelf;
 use roam_script::MOST_LINE_BYTES;
-use run_files::{CertStop, PIECE};
+use run_files::{CertStop, Outside, PIECE};
 use std::alloc::Global;
 
 /// How far a certificate was read.
@@ -139,35 +139,37 @@ fn finished(reader: FitCertReader, lines: u32) -> Result<FitCert, CertStop>
 }
 
 /// Reads the certificate of a fitted mesh of this name to its end or its first line that is refused, of the grid of side 2^n.
-pub(crate) fn read_fit_cert<F: Shelf>(
+pub(crate) fn read_fit_cert<O: Outside>(
     alloc: Global,
     n: u32,
     name: &str,
-    shelf: &mut F,
+    outside: &mut O,
 ) -> Result<FitCert, CertStop>
     requires in_grid { (1 ≤ n) × (n ≤ GREATEST_LEVEL) }
-    ensures ok { IfOk result (λ cert. (files : List NamedFile) → F.files shelf.old ≡ Some files →
+    ensures ok { IfOk result (λ cert. (files : List NamedFile) → (O.moment outside.old).shelf.files ≡ Some files →
         fit_cert_in n (bytes_of files name.now) ≡ Ok cert) }
     ensures bad_line { (line : ℕ) → result ≡ Err (CertStop.BadLine line) →
-        (files : List NamedFile) → F.files shelf.old ≡ Some files →
+        (files : List NamedFile) → (O.moment outside.old).shelf.files ≡ Some files →
         fit_cert_in n (bytes_of files name.now) ≡ Err line }
     // Where a read failed, no line that was read is refused.
-    ensures undecided { result ≡ Err CertStop.Failed → (files : List NamedFile) → F.files shelf.old ≡ Some files →
+    ensures undecided { result ≡ Err CertStop.Failed → (files : List NamedFile) → (O.moment outside.old).shelf.files ≡ Some files →
         StopsReading (FitCertHasRead n) (bytes_of files name.now)
-        (F.rest shelf.new) (F.ended shelf.new) }
-    ensures files { F.files shelf.new ≡ F.files shelf.old }
-    ensures opens { F.opens shelf.new ≡ next_count (F.opens shelf.old) }
-    ensures failed { result ≡ Err CertStop.Failed → Rose (F.faults shelf.old) (F.faults shelf.new) }
-    ensures no_fault { result ≢ Err CertStop.Failed → F.faults shelf.new ≡ F.faults shelf.old }
-    ensures in_time { IsInTime (F.late shelf.old) (F.faults shelf.old) (F.late shelf.new) }
+        (O.moment outside.new).shelf.rest (O.moment outside.new).shelf.ended }
+    ensures same { O.is_same outside.old outside.new }
+    ensures only { OnlyReads (O.moment outside.old) (O.moment outside.new) }
+    ensures opens { (O.moment outside.new).shelf.opens ≡ next_count (O.moment outside.old).shelf.opens }
+    ensures failed { result ≡ Err CertStop.Failed → Rose (O.moment outside.old).shelf_faults (O.moment outside.new).shelf_faults }
+    ensures no_fault { result ≢ Err CertStop.Failed → (O.moment outside.new).shelf_faults ≡ (O.moment outside.old).shelf_faults }
+    ensures in_time { IsInTime (O.moment outside.old).shelf_late (O.moment outside.old).shelf_faults
+        (O.moment outside.new).shelf_late }
 {
-    let Ok(()) = shelf.open_named(name) else {
+    let Ok(()) = outside.open_named(name) else {
         return Err(CertStop::Failed);
     };
     let mut stage = FitCertStage::new(alloc, n);
     let mut buffer = [0; PIECE];
     'pieces: loop {
-        let Ok(count) = shelf.read(&mut buffer) else {
+        let Ok(count) = outside.read(&mut buffer) else {
             return Err(CertStop::Failed);
         };
         if count == 0 {

@@ -4,8 +4,8 @@ use Rattle.std.proofs.Common.{◌≡◌, ◌≢◌, ◌⊎◌, ◌↔◌, ℕ, �
 use Rattle.roam_edge.specs.Fault.{Rose, next_count, IsInTime}
 use Rattle.roam_edge.specs.Shelf.{NamedFile, bytes_of}
 use Rattle.run_laws.specs.declared.status.Status.{Status}
-use Rattle.run_laws.specs.declared.status.Status.TheVariants.{Done, NoMemory, Usage, GridRefused, ScriptRefused, ReadFault, WriteFault}
-use Rattle.word_laws.specs.Words.{Show, Scripted, Job, Command, OnGrid, is_of_engine, Frames, Facts, Make, Check, Fit, MakeFit, CheckFit, names_of, file_count}
+use Rattle.run_laws.specs.declared.status.Status.TheVariants.{Done, NoMemory, Usage, GridRefused, ScriptRefused, ReadFault, WriteFault, Rejected}
+use Rattle.word_laws.specs.Words.{Show, Scripted, Job, Command, OnGrid, is_check, is_of_engine, Frames, Facts, Make, Check, Fit, MakeFit, CheckFit, names_of, file_count}
 use Rattle.mesh_defs.specs.HeightField.{HeightField}
 use Rattle.pgm_grid.specs.declared.fault.PgmFault.{PgmFault}
 use Rattle.pgm_grid.specs.Progress.{grid_of}
@@ -15,13 +15,13 @@ use Rattle.run_laws.specs.ReportText.{grid_refusal}
 use Rattle.run_laws.specs.Picture.{Picture}
 use Rattle.run_laws.specs.Walk.{Walk}
 use Rattle.run_laws.specs.Outcome.{Outcome, EngineEnd, plain_outcome, text_outcome, IsJobOutcome, IsGridOutcome, IsCommandOutcome}
-use Rattle.run_laws.specs.Promise.{Seen, HasEnded, HasReadHeader, IsUndecided, OpensForStatus, CommandReadFault, CommandNoMemory, is_complete, ends_script, may_end, leaves_engine}
+use Rattle.run_laws.specs.Promise.{Seen, HasEnded, HasReadHeader, IsUndecided, OpensForStatus, CommandReadFault, CommandNoMemory, most_open_job, is_complete, ends_script, may_end, leaves_engine}
 use Rattle.run_laws.specs.Maker.{DoesAs, IsScriptEnd, Leaves, EndsScript, ScriptHasCome}
 use Rattle.run_laws.specs.FileStop.{StopsReading}
 use Rattle.run_laws.specs.Moment.{Moment, OnlyReads}
-use Rattle.run_laws.specs.Leaving.{CommandEnds, Runs, HasOpened, ReadsGrid, EndsWith, TellsLast, LeavesByScript}
+use Rattle.run_laws.specs.Leaving.{CommandEnds, Runs, HasOpened, HasFailed, ReadsGrid, EndsWith, TellsLast, LeavesByScript}
 use Rattle.run_laws.proofs.ActLemmas.{stands-nothing}
-use Rattle.run_laws.proofs.GridLemmas.{not-complete, grid-fault, grid-memory, first_walk, script-ends, script-fault}
+use Rattle.run_laws.proofs.GridLemmas.{next-one, not-complete, grid-fault, grid-memory, first_walk, script-ends, script-fault}
 use Rattle.run_laws.proofs.StatementLemmas.{ends-by-status}
 
 abbrev no-engine : Option EngineEnd
@@ -65,92 +65,123 @@ in-time-then late middle last faults one same not_late none = same ∙ one not_l
 same-in-time : (late last : Bool) (faults : ℕ) → last ≡ late → IsInTime late faults last
 same-in-time late last faults same not_late none = same ∙ not_late
 
+-- where memory runs out, no more files were opened than the command names
+most-named : (name : List ℕ) (job : Job) → most_open_job job ≤ file_count (Some (OnGrid name job))
+most-named name (Frames s) = omega arith
+most-named name Facts = omega arith
+most-named name (Make m) = omega arith
+most-named name (Check c) = omega arith
+most-named name (Fit f) = omega arith
+most-named name (MakeFit m) = omega arith
+most-named name (CheckFit c) = omega arith
+
+-- a read of one of a command's files failed, or its opening
+pub read-failed : (before now : Moment) (name : List ℕ) (job : Job) (files : ℕ) (last : List ℕ) (holds : List ℕ → Type 0)
+    → before.under_way ≡ false → HasFailed before now files last holds → 1 ≤ files → files ≤ file_count (Some (OnGrid name job))
+    → CommandReadFault before.sinks before.sinks before.shelf now.shelf (OnGrid name job)
+    → Runs before now (Some (OnGrid name job)) ReadFault None
+read-failed before now name job files last holds idle read some within fault = record {
+  ends = ends-by-status before now (OnGrid name job) ReadFault None
+      (λ files are. record { ends = λ m r. absurd (r refl) })
+      (λ is. (let P : Told → Type 0 = λ t. CommandReadFault before.sinks t before.shelf now.shelf (OnGrid name job) in
+      subst P (sym read.only.sinks) fault))
+      (λ e. cc);
+  leaves = record {
+    files = read.only.files;
+    idle = λ not. read.only.under_way ∙ idle;
+    opens = record {
+      done = λ e. cc;
+      script_refused = λ e. cc;
+      grid_refused = λ e. cc;
+      usage = λ e. cc;
+      read_fault = λ e. omega (arith, read.opens, some);
+      rejected = λ e. cc;
+      least = omega (arith, read.opens);
+      most = omega (arith, read.opens, within);
+    };
+    read_out = λ e. cc;
+    engine = none-left (Some (OnGrid name job)) ReadFault (none-unended name job ReadFault refl);
+    shelf_in_time = read.in_time;
+    meshes_in_time = same-in-time _ _ _ read.only.mesh_late;
+    report_in_time = same-in-time _ _ _ read.only.report_late;
+  };
+  allowed = names-some name job;
+  causes = record {
+    read = λ e. read.failed;
+    not_read = λ not. absurd (not refl);
+    writes = record {
+      write = λ e. cc;
+      not_write = λ not. record {
+        meshes_same = ap (λ (t : Told). t.mesh_faults) read.only.sinks;
+        report_same = ap (λ (t : Told). t.report_faults) read.only.sinks;
+      };
+    };
+  };
+}
+
+-- memory ran out once so many of a command's files were opened
+pub memory-spent : (before now : Moment) (name : List ℕ) (job : Job) (files : ℕ) → before.under_way ≡ false → HasOpened before now files
+    → CommandNoMemory before.sinks before.sinks before.shelf now.shelf (OnGrid name job)
+    → Runs before now (Some (OnGrid name job)) NoMemory None
+memory-spent before now name job files idle read spent = record {
+  ends = ends-by-status before now (OnGrid name job) NoMemory None
+      (λ files are. record { ends = λ m r. absurd (m refl) })
+      (λ e. cc)
+      (λ is. (let P : Told → Type 0 = λ t. CommandNoMemory before.sinks t before.shelf now.shelf (OnGrid name job) in
+      subst P (sym read.only.sinks) spent));
+  leaves = record {
+    files = read.only.files;
+    idle = λ not. read.only.under_way ∙ idle;
+    opens = record {
+      done = λ e. cc;
+      script_refused = λ e. cc;
+      grid_refused = λ e. cc;
+      usage = λ e. cc;
+      read_fault = λ e. cc;
+      rejected = λ e. cc;
+      least = omega (arith, spent.count);
+      most = omega (arith, spent.count, spent.most, most-named name job);
+    };
+    read_out = λ e. cc;
+    engine = none-left (Some (OnGrid name job)) NoMemory (none-unended name job NoMemory refl);
+    shelf_in_time = read.in_time;
+    meshes_in_time = same-in-time _ _ _ read.only.mesh_late;
+    report_in_time = same-in-time _ _ _ read.only.report_late;
+  };
+  allowed = refl;
+  causes = record {
+    read = λ e. cc;
+    not_read = λ not. read.faults;
+    writes = record {
+      write = λ e. cc;
+      not_write = λ not. record {
+        meshes_same = ap (λ (t : Told). t.mesh_faults) read.only.sinks;
+        report_same = ap (λ (t : Told). t.report_faults) read.only.sinks;
+      };
+    };
+  };
+}
+
 module _ (before now : Moment) (name : List ℕ) (job : Job) (idle : before.under_way ≡ false) (only : OnlyReads before now)
     (opened : now.shelf.opens ≡ before.shelf.opens + 1)
     (in_time : IsInTime before.shelf_late before.shelf_faults now.shelf_late) where
-  abbrev command : Option Command
-  command = Some (OnGrid name job)
-
   -- a read of its grid failed, or its opening
   pub grid-failed : Rose before.shelf_faults now.shelf_faults
       → ((files : List NamedFile) → before.shelf.files ≡ Some files
       → StopsReading IsUndecided (bytes_of files name) now.shelf.rest now.shelf.ended)
-      → Runs before now command ReadFault None
-  grid-failed rose stops = record {
-    ends = ends-by-status before now (OnGrid name job) ReadFault None
-        (λ files are. record { ends = λ m r. absurd (r refl) })
-        (λ is. (let P : Told → Type 0 = λ t. CommandReadFault before.sinks t before.shelf now.shelf (OnGrid name job) in
-        subst P (sym only.sinks) (grid-fault before.sinks before.shelf now.shelf name job opened stops)))
-        (λ e. cc);
-    leaves = record {
-      files = only.files;
-      idle = λ not. only.under_way ∙ idle;
-      opens = record {
-        done = λ e. cc;
-        script_refused = λ e. cc;
-        grid_refused = λ e. cc;
-        usage = λ e. cc;
-        read_fault = λ e. omega (arith, opened);
-        rejected = λ e. cc;
-        least = omega (arith, opened);
-        most = omega (arith, opened);
-      };
-      read_out = λ e. cc;
-      engine = none-left command ReadFault (none-unended name job ReadFault refl);
-      shelf_in_time = in_time;
-      meshes_in_time = same-in-time _ _ _ only.mesh_late;
-      report_in_time = same-in-time _ _ _ only.report_late;
-    };
-    allowed = names-some name job;
-    causes = record {
-      read = λ e. rose;
-      not_read = λ not. absurd (not refl);
-      writes = record {
-        write = λ e. cc;
-        not_write = λ not. record { meshes_same = ap (λ (t : Told). t.mesh_faults) only.sinks; report_same = ap (λ (t : Told). t.report_faults) only.sinks };
-      };
-    };
-  }
+      → Runs before now (Some (OnGrid name job)) ReadFault None
+  grid-failed rose stops =
+      read-failed before now name job 1 name IsUndecided idle
+      (record { only = only; opens = opened; failed = rose; in_time = in_time; stops = stops })
+      (omega arith) (omega arith) (grid-fault before.sinks before.shelf now.shelf name job opened stops)
 
   -- memory ran out once so much of its grid was read
   pub grid-spent : now.shelf_faults ≡ before.shelf_faults
       → ((files : List NamedFile) → before.shelf.files ≡ Some files → HasReadHeader (bytes_of files name) now.shelf.rest)
-      → Runs before now command NoMemory None
-  grid-spent calm header = record {
-    ends = ends-by-status before now (OnGrid name job) NoMemory None
-        (λ files are. record { ends = λ m r. absurd (m refl) })
-        (λ e. cc)
-        (λ is. (let P : Told → Type 0 = λ t. CommandNoMemory before.sinks t before.shelf now.shelf (OnGrid name job) in
-        subst P (sym only.sinks) (grid-memory before.sinks before.shelf now.shelf name job opened header)));
-    leaves = record {
-      files = only.files;
-      idle = λ not. only.under_way ∙ idle;
-      opens = record {
-        done = λ e. cc;
-        script_refused = λ e. cc;
-        grid_refused = λ e. cc;
-        usage = λ e. cc;
-        read_fault = λ e. cc;
-        rejected = λ e. cc;
-        least = omega (arith, opened);
-        most = omega (arith, opened);
-      };
-      read_out = λ e. cc;
-      engine = none-left command NoMemory (none-unended name job NoMemory refl);
-      shelf_in_time = in_time;
-      meshes_in_time = same-in-time _ _ _ only.mesh_late;
-      report_in_time = same-in-time _ _ _ only.report_late;
-    };
-    allowed = refl;
-    causes = record {
-      read = λ e. cc;
-      not_read = λ not. calm;
-      writes = record {
-        write = λ e. cc;
-        not_write = λ not. record { meshes_same = ap (λ (t : Told). t.mesh_faults) only.sinks; report_same = ap (λ (t : Told). t.report_faults) only.sinks };
-      };
-    };
-  }
+      → Runs before now (Some (OnGrid name job)) NoMemory None
+  grid-spent calm header =
+      memory-spent before now name job 1 idle (record { only = only; opens = opened; faults = calm; in_time = in_time })
+      (grid-memory before.sinks before.shelf now.shelf name job opened header)
 
 module _ (before middle now : Moment) (name : List ℕ) (job : Job) (k : ℕ) (idle : before.under_way ≡ false)
     (read : HasOpened before middle k) (acts : List Act) (meant : Status)
@@ -463,3 +494,105 @@ command-not-usage before now command status left runs is =
   where
     not-allowed : false ≡ true → ⊥
     not-allowed e = cc
+
+-- A command that reads further files behind its grid, as a check does.
+
+-- a file was opened, and no read of it failed
+pub opens-one : (before now : Moment) → before.shelf.opens ≤ 2 ^ 63 + 2 → OnlyReads before now
+    → now.shelf.opens ≡ next_count before.shelf.opens → now.shelf_faults ≡ before.shelf_faults
+    → IsInTime before.shelf_late before.shelf_faults now.shelf_late → HasOpened before now 1
+opens-one before now low only opens faults in_time =
+    record { only = only; opens = next-one _ _ low opens; faults = faults; in_time = in_time }
+
+-- only the shelf was called, and then only it was again
+reads-then : (before middle now : Moment) → OnlyReads before middle → OnlyReads middle now → OnlyReads before now
+reads-then before middle now one other = record {
+  files = other.files ∙ one.files;
+  sinks = other.sinks ∙ one.sinks;
+  under_way = other.under_way ∙ one.under_way;
+  mesh_late = other.mesh_late ∙ one.mesh_late;
+  report_late = other.report_late ∙ one.report_late;
+}
+
+-- files were opened, and then more
+pub opens-then : (before middle now : Moment) (files more : ℕ) → HasOpened before middle files → HasOpened middle now more
+    → HasOpened before now (files + more)
+opens-then before middle now files more one other = record {
+  only = reads-then before middle now one.only other.only;
+  opens = omega (arith, one.opens, other.opens);
+  faults = other.faults ∙ one.faults;
+  in_time = λ not_late none. other.in_time (one.in_time not_late none) (one.faults ∙ none);
+}
+
+-- files were opened, and then a read of a further one failed
+pub fails-then : (before middle now : Moment) (files more : ℕ) (name : List ℕ) (holds : List ℕ → Type 0) → HasOpened before middle files
+    → HasFailed middle now more name holds → HasFailed before now (files + more) name holds
+fails-then before middle now files more name holds one other = record {
+  only = reads-then before middle now one.only other.only;
+  opens = omega (arith, one.opens, other.opens);
+  failed = subst (λ (k : ℕ). Rose k now.shelf_faults) one.faults other.failed;
+  in_time = λ not_late none. other.in_time (one.in_time not_late none) (one.faults ∙ none);
+  stops = λ all told. other.stops all (one.only.files ∙ told);
+}
+
+-- a text that was written last, by other words for the text and for what it means
+pub tells-as : {before now : Moment} {said text : List ℕ} {meant end status : Status} → said ≡ text → meant ≡ end
+    → TellsLast before now said meant status → TellsLast before now text end status
+tells-as {before = before} {now = now} {text = text} {meant = meant} {status = status} same is tells =
+    subst (λ (s : Status). TellsLast before now text s status) is
+    (subst (λ (t : List ℕ). TellsLast before now t meant status) same tells)
+
+module _ (before middle last now : Moment) (name : List ℕ) (job : Job) (grid : HeightField) (more : ℕ) (text : List ℕ) (status : Status)
+    (idle : before.under_way ≡ false) (read : ReadsGrid before middle name grid) (behind : HasOpened middle last more)
+    (three : file_count (Some (OnGrid name job)) ≡ 3) where
+  abbrev job-command : Option Command
+  job-command = Some (OnGrid name job)
+
+  all-opened : HasOpened before last (1 + more)
+  all-opened = opens-then before middle last 1 more read.opened behind
+
+  job-ends : (meant : Status)
+      → ((files : List NamedFile) → middle.shelf.files ≡ Some files → IsJobOutcome job grid files (text_outcome text meant (1 + more)))
+      → (files : List NamedFile) → before.shelf.files ≡ Some files
+      → IsCommandOutcome (OnGrid name job) files (text_outcome text meant (1 + more))
+  job-ends meant outcome files told =
+      subst (λ (r : Result HeightField PgmFault). IsGridOutcome job r files (text_outcome text meant (1 + more)))
+      (sym (read.is_grid files told)) (outcome files (read.opened.only.files ∙ told))
+
+  -- a check ended with the line that a mesh is certified, and read its three files
+  pub certified-runs : more ≡ 2 → HasEnded last.shelf → leaves_engine job-command Done ≡ false
+      → ((files : List NamedFile) → middle.shelf.files ≡ Some files → IsJobOutcome job grid files (text_outcome text Done (1 + more)))
+      → TellsLast last now text Done status → Runs before now job-command status None
+  certified-runs two ended left outcome tells =
+      text-runs before last now name job (1 + more) idle all-opened text Done (job-ends Done outcome) status tells
+      (omega arith) (omega (arith, two, three)) refl refl left
+      (record {
+        done = λ e. omega (arith, all-opened.opens, two, three);
+        script_refused = λ e. cc;
+        grid_refused = λ e. cc;
+        usage = λ e. cc;
+        read_fault = λ e. cc;
+        rejected = λ e. cc;
+        least = omega (arith, all-opened.opens);
+        most = omega (arith, all-opened.opens, two, three);
+      })
+      (λ e. ended)
+
+  -- a check ended with the line that it rejects its certificate or its mesh
+  pub rejected-runs : 1 ≤ more → more ≤ 2 → IsTrue (is_check (OnGrid name job)) → leaves_engine job-command Rejected ≡ false
+      → ((files : List NamedFile) → middle.shelf.files ≡ Some files → IsJobOutcome job grid files (text_outcome text Rejected (1 + more)))
+      → TellsLast last now text Rejected status → Runs before now job-command status None
+  rejected-runs some most check left outcome tells =
+      text-runs before last now name job (1 + more) idle all-opened text Rejected (job-ends Rejected outcome) status tells
+      (omega arith) (omega (arith, most, three)) refl check left
+      (record {
+        done = λ e. cc;
+        script_refused = λ e. cc;
+        grid_refused = λ e. cc;
+        usage = λ e. cc;
+        read_fault = λ e. cc;
+        rejected = λ e. omega (arith, all-opened.opens, some);
+        least = omega (arith, all-opened.opens);
+        most = omega (arith, all-opened.opens, most, three);
+      })
+      (λ e. cc)

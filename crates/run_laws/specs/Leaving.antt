@@ -1,8 +1,8 @@
 -- How a command is carried out: how it ends, what its engine tells then, and what reading its files and telling its end come to.
--- Words: CommandEnds, Runs, HasOpened, ReadsGrid, EndsWith, TellsLast, LeavesByScript.
+-- Words: CommandEnds, Runs, HasOpened, HasFailed, ReadsGrid, EndsWith, TellsLast, LeavesByScript.
 use Rattle.std.specs.Prelude.{◌≡◌, ◌≢◌, ◌⊎◌, ℕ, ◌+◌, IsTrue, List, [], ◌∷◌, Option, Some, Ok}
 use Rattle.mesh_defs.specs.HeightField.{HeightField}
-use Rattle.roam_edge.specs.Fault.{IsInTime, next_count}
+use Rattle.roam_edge.specs.Fault.{Rose, IsInTime, next_count}
 use Rattle.roam_edge.specs.Shelf.{NamedFile, bytes_of}
 use Rattle.pgm_grid.specs.Progress.{grid_of}
 use Rattle.run_laws.specs.declared.status.Status.{Status}
@@ -12,6 +12,7 @@ use Rattle.run_laws.specs.Act.{Act, ReportText, Told}
 use Rattle.run_laws.specs.Cause.{StatusHasCause, StatusWritesHaveCause}
 use Rattle.run_laws.specs.Outcome.{Outcome, EngineEnd, IsCommandOutcome, plain_outcome}
 use Rattle.run_laws.specs.Promise.{Seen, EndsAs, HasEnded, HasReadHeader, is_complete, may_end}
+use Rattle.run_laws.specs.FileStop.{StopsReading}
 use Rattle.run_laws.specs.Maker.{DoesAs}
 use Rattle.run_laws.specs.Moment.{Moment, OnlyReads}
 use Rattle.run_laws.specs.Statement.{EndsByStatus, LeavesOutside}
@@ -38,6 +39,16 @@ pub record HasOpened (before now : Moment) (files : ℕ) : Type 0 where
   pub opens : now.shelf.opens ≡ before.shelf.opens + files
   pub faults : now.shelf_faults ≡ before.shelf_faults
   pub in_time : IsInTime before.shelf_late before.shelf_faults now.shelf_late
+
+-- So many files were opened, and a read of the last one failed, or its opening. It has this name, and of what was read of it this
+-- holds, where the shelf tells its files.
+pub record HasFailed (before now : Moment) (files : ℕ) (name : List ℕ) (holds : List ℕ → Type 0) : Type 0 where
+  pub only : OnlyReads before now
+  pub opens : now.shelf.opens ≡ before.shelf.opens + files
+  pub failed : Rose before.shelf_faults now.shelf_faults
+  pub in_time : IsInTime before.shelf_late before.shelf_faults now.shelf_late
+  pub stops : (all : List NamedFile) → before.shelf.files ≡ Some all
+      → StopsReading holds (bytes_of all name) now.shelf.rest now.shelf.ended
 
 -- the grid of this name was read to its end, and it is this grid, where the shelf tells its files
 pub record ReadsGrid (before now : Moment) (name : List ℕ) (grid : HeightField) : Type 0 where

@@ -4,7 +4,7 @@ use Rattle.least_laws.proofs.FlagLemmas.{end-high}
 use Rattle.roam_edge.specs.Shelf.{bytes_of}
 use Rattle.run_laws.specs.Fit.{fit_text}
 use Rattle.run_words.specs.FitView.{fit_checking_seen}
-use Rattle.run_fit_check.proofs.FitJudgingLemmas.{same-judged, differs-judged, stops-fit}
+use Rattle.run_fit_check.proofs.FitJudgingLemmas.{same-judged, differs-judged, fails-behind}
 use Rattle.run_fit_check.proofs.checking.judge_mesh.Goals as goal
 
 pub difference-requires-clause-few : goal.difference-requires-clause-few
@@ -21,9 +21,10 @@ returns-in-Ok-None-clause-ok g c files told =
     let bytes : List ℕ = bytes_of files words.mesh.now in
     let text : List ℕ = fit_text words.spacing c.args.wedges.now c.deref.result.now in
     let made = rw c.grid-2.ensures.value at c.in-Ok.ensures.mesh in
-    let same : text ≡ bytes = (c.difference_laws.ensures.none text bytes).0 (sym (c.in-Ok-None.ensures.ok files told) ∙ c.in-Ok-None.field-0-is) in
-    same-judged (fit_checking_seen words) c.args.wedges.now c.args.cert.now c.args.numbers.0 c.args.numbers.1 c.deref.result.now c.requires.sound
-    (λ target mesh is. c.deref.ensures.value ∙ made target mesh is) bytes same
+    let same : text ≡ bytes =
+    (c.difference_laws.ensures.none text bytes).0 (sym (c.in-Ok-None.ensures.ok files told) ∙ c.in-Ok-None.field-0-is) in
+    same-judged (fit_checking_seen words) c.args.wedges.now c.args.cert.now c.args.numbers.0 c.args.numbers.1
+    c.deref.result.now c.requires.sound (λ target mesh is. c.deref.ensures.value ∙ made target mesh is) bytes same
 
 pub returns-in-Ok-Some-clause-ok : goal.returns-in-Ok-Some-clause-ok
 returns-in-Ok-Some-clause-ok g c files told =
@@ -32,14 +33,13 @@ returns-in-Ok-Some-clause-ok g c files told =
     let text : List ℕ = fit_text words.spacing c.args.wedges.now c.deref.result.now in
     let made = rw c.grid-2.ensures.value at c.in-Ok.ensures.mesh in
     let found = sym (c.in-Ok-Some.ensures.ok files told) ∙ c.in-Ok-Some.field-0-is in
-    differs-judged (fit_checking_seen words) c.args.wedges.now c.args.cert.now c.args.numbers.0 c.args.numbers.1 c.deref.result.now c.requires.sound
-    (λ target mesh is. c.deref.ensures.value ∙ made target mesh is) bytes c.in-Ok-Some.at
+    differs-judged (fit_checking_seen words) c.args.wedges.now c.args.cert.now c.args.numbers.0 c.args.numbers.1
+    c.deref.result.now c.requires.sound (λ target mesh is. c.deref.ensures.value ∙ made target mesh is) bytes c.in-Ok-Some.at
     (c.difference_laws.ensures.before text bytes _ found) (c.difference_laws.ensures.differs text bytes _ found)
 
-pub returns-clause-stopped : goal.returns-clause-stopped
-returns-clause-stopped g c is =
+pub returns-clause-failed : goal.returns-clause-failed
+returns-clause-failed g c is =
     let words = c.args.words.now in
     let made = rw c.grid-2.ensures.value at c.in-Ok.ensures.mesh in
-    stops-fit (fit_checking_seen words) c.args.wedges.now c.args.cert.now c.args.numbers.0 c.args.numbers.1 c.deref.result.now c.requires.sound
-    (λ target mesh is. c.deref.ensures.value ∙ made target mesh is) (g.F.Shelf.files c.args.shelf.now) _ _
-    (c.in-Err.ensures.stopped (cc is))
+    fails-behind (fit_checking_seen words) c.args.wedges.now c.args.cert.now c.args.numbers.0 c.args.numbers.1
+    c.deref.result.now c.requires.sound (λ target mesh is. c.deref.ensures.value ∙ made target mesh is) _ _ (c.in-Err.ensures.failed (cc is))

@@ -19,7 +19,8 @@ pieces-init g c = record {
   level = c.new-stage.ensures.n;
   counted = c.new-stage.ensures.counted;
   open_file = search rules;
-  files = search rules;
+  same = search rules;
+  only = search rules;
   opens = search rules;
   faults = search rules;
   in_time = search rules;
@@ -51,7 +52,8 @@ pieces-preserved g c = record {
   level = c.in_ok-take_piece.ensures.n ∙ c.pieces.invariant.level;
   counted = c.in_ok-take_piece.ensures.counted;
   open_file = search rules;
-  files = search rules;
+  same = g.met.O.Outside.is_same_then _ _ _ c.pieces.invariant.same c.in-Ok-read.ensures.same;
+  only = search rules;
   opens = search rules;
   faults = search rules;
   in_time = search rules;
@@ -65,3 +67,9 @@ returns-in_err-take_piece-clause-bad_line g c line e all told =
     let takes = rw c.pieces.invariant.level at (c.in_err-take_piece.ensures.taken reading.bytes) in
     cert-refused c.args.n _ _ _ c.pieces.stage reading (take c.in-Ok-read.count c.read.new.buf) c.in-Ok-read.count c.take_piece.new.self c.in_err-take_piece.field-0.0 line (takes reading.come) is
     (piece-read _ c.in-Ok-read.count _ _ c.in-Ok-read.ensures.bytes.within c.in-Ok-read.ensures.bytes.gives) all told
+
+pub returns-then-count-eq0-clause-same : goal.returns-then-count-eq0-clause-same
+returns-then-count-eq0-clause-same g c = g.met.O.Outside.is_same_then _ _ _ c.pieces.invariant.same c.in-Ok-read.ensures.same
+
+pub returns-in_err-take_piece-clause-same : goal.returns-in_err-take_piece-clause-same
+returns-in_err-take_piece-clause-same g c = g.met.O.Outside.is_same_then _ _ _ c.pieces.invariant.same c.in-Ok-read.ensures.same

@@ -2,6 +2,7 @@ use Rattle.std.proofs.Common.{◌≡◌, ◌+◌, ◌-◌, ◌*◌, false, lengt
 use Rattle.roam_edge.specs.Fault.{next_count, IsInTime}
 use Rattle.roam_script.specs.declared.limits.TheConstants.{MOST_LINE_BYTES}
 use Rattle.fit_certificate_laws.specs.declared.limits.TheConstants.{MOST_REASONS}
+use Rattle.run_laws.specs.Moment.{OnlyReads}
 use Rattle.run_fit_check.specs.FitCertStage.{IsCounted}
 use Rattle.run_fit_check.proofs.FitCertStageLemmas.{IsReadingCert}
 use Rattle.run_fit_check.proofs.fit_cert_file.read_fit_cert.Given as goal
@@ -9,14 +10,15 @@ use Rattle.run_fit_check.proofs.fit_cert_file.read_fit_cert.Given as goal
 -- the bytes that were read were taken, and the shelf has not failed
 abbrev pub invariant-pieces : goal.invariant-pieces
 invariant-pieces g l = record {
-  reading : IsReadingCert l.n (g.F.Shelf.files l.fn.shelf) (g.F.Shelf.rest l.shelf) l.name l.stage;
+  reading : IsReadingCert l.n (g.O.Outside.moment l.fn.outside).shelf.files (g.O.Outside.moment l.outside).shelf.rest l.name l.stage;
   level : l.stage.reader.n ≡ l.n;
   counted : IsCounted l.stage;
-  open_file : g.F.Shelf.ended l.shelf ≡ false;
-  files : g.F.Shelf.files l.shelf ≡ g.F.Shelf.files l.fn.shelf;
-  opens : g.F.Shelf.opens l.shelf ≡ next_count (g.F.Shelf.opens l.fn.shelf);
-  faults : g.F.Shelf.faults l.shelf ≡ g.F.Shelf.faults l.fn.shelf;
-  in_time : IsInTime (g.F.Shelf.late l.fn.shelf) (g.F.Shelf.faults l.fn.shelf) (g.F.Shelf.late l.shelf);
+  open_file : (g.O.Outside.moment l.outside).shelf.ended ≡ false;
+  same : g.O.Outside.is_same l.fn.outside l.outside;
+  only : OnlyReads (g.O.Outside.moment l.fn.outside) (g.O.Outside.moment l.outside);
+  opens : (g.O.Outside.moment l.outside).shelf.opens ≡ next_count (g.O.Outside.moment l.fn.outside).shelf.opens;
+  faults : (g.O.Outside.moment l.outside).shelf_faults ≡ (g.O.Outside.moment l.fn.outside).shelf_faults;
+  in_time : IsInTime (g.O.Outside.moment l.fn.outside).shelf_late (g.O.Outside.moment l.fn.outside).shelf_faults (g.O.Outside.moment l.outside).shelf_late;
 }
 
 -- each byte makes a line longer, or is the last of an accepted line
