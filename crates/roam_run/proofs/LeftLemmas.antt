@@ -1,6 +1,9 @@
 -- The engine that a run leaves is the one that its outcome tells of.
 use Rattle.std.proofs.Common.{◌≡◌, ◌⊎◌, ◌↔◌, ◌&&◌, inl, inr, ℕ, Bool, true, IsTrue, IsSome, if◌then◌else◌, List, [], length, sum_by, Option, option_map, Some, None, refl, sym, ◌∙◌, ap, subst}
 use Rattle.mesh_defs.specs.State.{State}
+use Rattle.roam_edge.specs.declared.shelf.Shelf as reading
+use Rattle.roam_edge.specs.declared.mesh_sink.MeshSink as showing
+use Rattle.roam_edge.specs.declared.sink.Sink as reporting
 use Rattle.triangle_pool.specs.Slots.{PoolState}
 use Rattle.roam_mesh.specs.Mesh.{pool_members}
 use Rattle.frame_loop.specs.Engine.{EngineState}
@@ -10,6 +13,7 @@ use Rattle.run_laws.specs.Walk.{Walk}
 use Rattle.run_laws.specs.Picture.{Picture, last_members}
 use Rattle.run_laws.specs.Outcome.{Outcome, EngineEnd, sum_acts, engine_for, engine_end}
 use Rattle.run_laws.specs.Promise.{is_complete, ends_script, leaves_engine}
+use Rattle.run_laws.specs.Moment.{Moment, moment}
 use Rattle.run_laws.specs.Maker.{Leaves, IsScriptEnd}
 use Rattle.run_laws.proofs.GridLemmas.{not-complete}
 use Rattle.word_laws.specs.Words.{Scripted, OnGrid, Frames, is_of_engine}
@@ -76,3 +80,11 @@ left-of-engine showing name s status engine shown left =
     let made : is_of_engine s.show ≡ true = ap is_of_engine shown ∙ engine-makes showing in
     let P : Bool → Type 0 = λ b. IsSome (option_map engine_seen engine) ↔ IsTrue (b && ends_script status) in
     subst P (sym made) (left-seen engine (IsTrue (ends_script status)) left)
+
+-- what holds of the moment of objects that are lent holds of that of the objects, once the loan has ended
+pub loan-ended : {F M R : Type 0} (f : reading.Ghosts F) (m : showing.Ghosts M) (r : reporting.Ghosts R) (P : Moment → Type 0)
+    (shelf shelf' : F) (meshes meshes' : M) (report report' : R) → shelf ≡ shelf' → meshes ≡ meshes' → report ≡ report'
+    → P (moment f m r shelf meshes report) → P (moment f m r shelf' meshes' report')
+loan-ended f m r P shelf shelf' meshes meshes' report report' one two three holds =
+    subst (λ s. P (moment f m r s meshes' report')) one
+    (subst (λ n. P (moment f m r shelf n report')) two (subst (λ o. P (moment f m r shelf meshes o)) three holds))

@@ -41,4 +41,4 @@ returns-in_default-clause-runs g c =
 
 pub returns-in-Err-clause-runs : goal.returns-in-Err-clause-runs
 returns-in-Err-clause-runs g c =
-    rw (c.without_engine.ensures.status, c.without_engine.ensures.engine) (c.in-Err.ensures.err (Frames (scripted_seen c.args.command.now)))
+    rw (c.without_engine-in-Err.ensures.status, c.without_engine-in-Err.ensures.engine) (c.in-Err.ensures.err (Frames (scripted_seen c.args.command.now)))
