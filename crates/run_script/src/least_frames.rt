@@ -3,12 +3,13 @@
 ghost use Rattle.std.specs.Prelude.{◌≡◌, ◌≢◌, ◌+◌, ◌<◌, ◌≤◌, IfOk, false, [], length, OnOk, OnErr};
 ghost use Rattle.roam_edge.specs.Fault.{IsInTime};
 ghost use Rattle.mesh_defs.specs.Priority.{worst_of};
-ghost use Rattle.mesh_defs.specs.State.{start_state, priority_in};
+ghost use Rattle.mesh_defs.specs.State.{start_state, priority_in, text_in};
 ghost use Rattle.roam_edge.specs.declared.mesh_sink.TheConstants.{LONGEST_PREFIX, GREATEST_NUMBER};
 ghost use Rattle.roam_script.specs.Laws.{LiesInRange};
 ghost use Rattle.roam_script.specs.declared.limits.Limits.{Limits as LimitsSeen};
 ghost use Rattle.roam_script.specs.declared.limits.TheConstants.{MOST_FRAMES};
 ghost use Rattle.wedgie_tree.specs.declared.wedges.TheConstants.{GREATEST_SPACING};
+ghost use Rattle.obj_write.specs.MeshView.{view_text, IsView};
 ghost use Rattle.least_laws.specs.Least.{IsLeastList};
 ghost use Rattle.run_laws.specs.Act.{sinks_tell, Stands, IsCutShort};
 ghost use Rattle.run_laws.specs.Cause.{WritesHaveCause};
@@ -18,7 +19,7 @@ ghost use Rattle.run_words.specs.ShowView.{IsPrefixLength};
 ghost use Rattle.run_script.specs.LeastSeen.{state_seen, IsUnderLeast, LeastFollows, IsLeastReady, IsLeastNoted, least_numbers, least_acts};
 
 use arrayvec::ArrayVec;
-use cull_marks::{Plane, Planes};
+use cull_marks::Plane;
 use height_edit::raise_area;
 use least_mesh::{Least, LeastNote};
 use obj_write::{MeshView, write_mesh};
@@ -29,18 +30,14 @@ use roam_script::{Limits, Line};
 use run_files::{Text, push_placed};
 use run_laws::FrameMaker;
 use std::alloc::Global;
-use view_priority::{Camera, Meter};
+use view_priority::{Camera, Meter, Outlook};
 use wedgie_tree::Wedges;
 
 /// Terrain, a view of it, and the least mesh of a tolerance. No mesh depends on the one before it.
 #[derive(Drop)]
 pub(crate) struct LeastFrames<'a> {
-    /// The heights as they are.
-    pub(crate) wedges: Wedges,
-    pub(crate) camera: Camera,
-    /// The world units of a grid step.
-    pub(crate) spacing: u32,
-    pub(crate) planes: Planes,
+    /// The heights as they are, and the view.
+    pub(crate) outlook: Outlook,
     /// The budget that a script has put in force, on which no mesh depends.
     pub(crate) budget: u32,
     /// The greatest budget that it may put in force.
@@ -74,10 +71,7 @@ impl<'a> LeastFrames<'a> {
         let wedges = Wedges::build(alloc, grid)?;
         let least = Least::make(alloc, n)?;
         Ok(LeastFrames {
-            wedges,
-            camera: Camera::new(0, 0, 0).unwrap(),
-            spacing,
-            planes: Planes::none(),
+            outlook: Outlook::start(wedges, spacing),
             budget,
             most: budget,
             least,
@@ -100,26 +94,24 @@ impl<'a> LeastFrames<'a> {
     {
         match line {
             Line::Blank | Line::Frame => {}
-            Line::Camera { x, y, z } => self.camera = Camera::new(x, y, z).unwrap(),
-            Line::Set { x, y, h } => self.wedges.set(x, y, h),
-            Line::Plane { a, b, c, d } => self.planes.add(Plane::new(a, b, c, d).unwrap()),
-            Line::NoPlanes => self.planes.clear(),
+            Line::Camera { x, y, z } => self.outlook.camera = Camera::new(x, y, z).unwrap(),
+            Line::Set { x, y, h } => self.outlook.wedges.set(x, y, h),
+            Line::Plane { a, b, c, d } => self.outlook.add_plane(Plane::new(a, b, c, d).unwrap()),
+            Line::NoPlanes => self.outlook.clear_planes(),
             Line::Budget { n } => self.budget = n,
             Line::Raise { x0, y0, x1, y1, dz } => {
-                raise_area(&mut self.wedges, x0, y0, x1, y1, dz)
+                raise_area(&mut self.outlook.wedges, x0, y0, x1, y1, dz)
             }
         }
     }
 
     /// Makes the least mesh of what is seen.
     fn make_mesh(&mut self) -> LeastNote
-        requires level { self.old.least.n ≡ self.old.wedges.n }
-        requires spacing_low { 1 ≤ self.old.spacing }
-        requires spacing_high { self.old.spacing ≤ GREATEST_SPACING }
+        requires level { self.old.least.n ≡ self.old.outlook.grid.n }
         requires few { self.old.frames < MOST_FRAMES }
         ensures state { state_seen self.new ≡ state_seen self.old }
         ensures level { self.new.least.n ≡ self.old.least.n }
-        ensures list { IsLeastList self.old.wedges.n self.old.tolerance (priority_in (state_seen self.old)) self.new.least.leaves }
+        ensures list { IsLeastList self.old.outlook.grid.n self.old.tolerance (priority_in (state_seen self.old)) self.new.least.leaves }
         ensures worst { result.worst ≡ worst_of (priority_in (state_seen self.old)) self.new.least.leaves }
         ensures noted { IsLeastNoted self.new result }
         ensures most { self.new.most ≡ self.old.most }
@@ -128,14 +120,24 @@ impl<'a> LeastFrames<'a> {
         ensures frames { self.new.frames ≡ self.old.frames + 1 }
     {
         self.frames += 1;
-        self.least.frame(
-            &self.wedges,
-            &self.camera,
-            self.spacing,
-            &self.planes,
-            self.tolerance,
-            &mut Meter::new(),
-        )
+        self.least
+            .frame_of(&self.outlook.scene(), self.tolerance, &mut Meter::new())
+    }
+
+    /// The mesh, as it is to be written.
+    fn view(&self) -> MeshView<'_>
+        requires level { self.now.least.n ≡ self.now.outlook.grid.n }
+        ensures valid { IsView result }
+        ensures text { view_text result ≡ text_in (state_seen self.now) self.now.least.leaves }
+    {
+        let scene = self.outlook.scene();
+        MeshView {
+            wedges: scene.wedges,
+            leaves: self.least.leaves(),
+            numbers: self.least.numbers(),
+            spacing: scene.spacing,
+            planes: scene.planes,
+        }
     }
 
     /// Writes the mesh, and then the line of its frame, of which this is the note. The line comes only after the mesh was finished.
@@ -150,9 +152,7 @@ impl<'a> LeastFrames<'a> {
         requires prefix_short { length self.now.prefix.now ≤ LONGEST_PREFIX }
         requires number_low { 1 ≤ self.now.frames }
         requires number_high { self.now.frames ≤ GREATEST_NUMBER }
-        requires level { self.now.least.n ≡ self.now.wedges.n }
-        requires spacing_low { 1 ≤ self.now.spacing }
-        requires spacing_high { self.now.spacing ≤ GREATEST_SPACING }
+        requires level { self.now.least.n ≡ self.now.outlook.grid.n }
         ensures ok { OnOk result (Stands (sinks_tell M.MeshSink R.Sink meshes.old report.old)
             (sinks_tell M.MeshSink R.Sink meshes.new report.new) (least_acts self.now note.now)) }
         ensures idle { OnOk result (M.under_way meshes.new ≡ false) }
@@ -163,14 +163,7 @@ impl<'a> LeastFrames<'a> {
         ensures meshes_in_time { IsInTime (M.late meshes.old) (M.faults meshes.old) (M.late meshes.new) }
         ensures report_in_time { IsInTime (R.late report.old) (R.faults report.old) (R.late report.new) }
     {
-        let view = MeshView {
-            wedges: &self.wedges,
-            leaves: self.least.leaves(),
-            numbers: self.least.numbers(),
-            spacing: self.spacing,
-            planes: &self.planes,
-        };
-        write_mesh(&view, self.prefix, self.frames, meshes)?;
+        write_mesh(&self.view(), self.prefix, self.frames, meshes)?;
         report.write(least_report(self.frames, note).as_slice())
     }
 }
@@ -183,11 +176,11 @@ impl<'a> FrameMaker for LeastFrames<'a> {
     ghost is_under = { λ f. IsUnderLeast f };
 
     fn limits(&self, lines: u32) -> Limits {
-        let grid = self.wedges.grid();
+        let grid = self.outlook.wedges.grid();
         Limits {
             n: grid.n(),
             maxval: grid.maxval(),
-            planes: self.planes.len(),
+            planes: self.outlook.planes.len(),
             line: lines + 1,
             frames: self.frames,
             budget: self.most,

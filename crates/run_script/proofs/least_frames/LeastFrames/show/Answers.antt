@@ -1,18 +1,11 @@
-use Rattle.std.proofs.Common.{ℕ, ◌*◌, ◌≤◌, List, All, refl, sym, ◌∙◌, ap, subst}
+use Rattle.std.proofs.Common.{ℕ, List, refl, ◌∙◌}
 use Rattle.std.proofs.lemmas.Result.{err_from_is_err_and}
 use Rattle.run_laws.proofs.ActLemmas.{both-ok, both-err}
-use Rattle.mesh_defs.specs.Triangle.{level_of}
 use Rattle.mesh_defs.specs.State.{text_in}
+use Rattle.obj_write.specs.MeshView.{view_text}
 use Rattle.run_script.specs.LeastSeen.{state_seen, least_numbers}
-use Rattle.run_laws.proofs.OrderLemmas.{conforming-levels}
 use Rattle.run_laws.proofs.ShownLemmas.{cut-acts-mesh, cut-acts-line, stands-acts}
 use Rattle.run_script.proofs.least_frames.LeastFrames.show.Goals as goal
-
-pub write_mesh-requires-clause-levels : goal.write_mesh-requires-clause-levels
-write_mesh-requires-clause-levels g c =
-    let f = c.args.self.now in
-    let P : List ℕ → Type 0 = λ l. All (λ a. level_of a ≤ 2 * f.wedges.n) l in
-    subst P (sym c.leaves.ensures.value) (conforming-levels f.least.n f.wedges.n f.least.leaves c.requires.level c.leaves.ensures.conforming)
 
 pub returns-in_err-write_mesh-clause-err : goal.returns-in_err-write_mesh-clause-err
 returns-in_err-write_mesh-clause-err g c =
@@ -20,7 +13,7 @@ returns-in_err-write_mesh-clause-err g c =
     let p = err_from_is_err_and c.from_residual.result c.from_residual.ensures.1 in
     let line : List ℕ = least_numbers f.frames c.args.note.now.triangles c.args.note.now.vertices c.args.note.now.worst in
     rw p.1 (cut-acts-mesh _ _ _ (g.R.Sink.contents c.args.report.now) f.prefix.now f.frames f.frames (text_in (state_seen f) f.least.leaves) line
-    (text_in (state_seen f) c.leaves.result.now) line refl (ap (text_in (state_seen f)) c.leaves.ensures.value) refl
+    (view_text c.view.result) line refl c.view.ensures.text refl
     c.in_err-write_mesh.ensures.err c.in_err-write_mesh.ensures.faults.failed)
 
 pub returns-clause-err : goal.returns-clause-err
@@ -29,7 +22,7 @@ returns-clause-err g c =
     let line : List ℕ = least_numbers f.frames c.args.note.now.triangles c.args.note.now.vertices c.args.note.now.worst in
     both-err c.write.result
     (cut-acts-line _ _ _ _ f.prefix.now f.frames f.frames (text_in (state_seen f) f.least.leaves) line
-    (text_in (state_seen f) c.leaves.result.now) c.as_slice.result.now refl (ap (text_in (state_seen f)) c.leaves.ensures.value)
+    (view_text c.view.result) c.as_slice.result.now refl c.view.ensures.text
     (c.as_slice.ensures.value ∙ c.least_report.ensures) c.in_ok-write_mesh.ensures.ok c.in_ok-write_mesh.ensures.faults.ok)
     c.write.ensures.bytes.failed c.write.ensures.faults.failed
 
@@ -39,6 +32,6 @@ returns-clause-ok g c =
     let line : List ℕ = least_numbers f.frames c.args.note.now.triangles c.args.note.now.vertices c.args.note.now.worst in
     both-ok c.write.result
     (stands-acts _ _ _ _ f.prefix.now f.frames f.frames (text_in (state_seen f) f.least.leaves) line
-    (text_in (state_seen f) c.leaves.result.now) c.as_slice.result.now refl (ap (text_in (state_seen f)) c.leaves.ensures.value)
+    (view_text c.view.result) c.as_slice.result.now refl c.view.ensures.text
     (c.as_slice.ensures.value ∙ c.least_report.ensures) c.in_ok-write_mesh.ensures.ok c.in_ok-write_mesh.ensures.faults.ok)
     c.write.ensures.bytes.ok c.write.ensures.faults.ok
