@@ -16,7 +16,8 @@ use Rattle.frame_loop.proofs.TurnLemmas.{IsPassedOn}
 -- ---- lists
 
 -- two lists together
-pub marks_seen-append : (o : SceneState) (k : Mark) (xs ys all : List ℕ) → all ≡ xs ++ ys → marks_seen o k all ≡ marks_seen o k xs + marks_seen o k ys
+pub marks_seen-append : (o : SceneState) (k : Mark) (xs ys all : List ℕ) → all ≡ xs ++ ys →
+    marks_seen o k all ≡ marks_seen o k xs + marks_seen o k ys
 marks_seen-append o k xs ys all is =
     ap (marks_seen o k) is ∙ sum_by-append (λ t. cond {A = ℕ} (is_same_mark k (mark_under o o.view.planes t)) 1 0) xs ys
 
@@ -57,14 +58,17 @@ same_all mark k m (x ∷ xs) all = All-cons (λ a. is_same_mark k (mark a) ≡ i
     (ap (is_same_mark k) (All-head (λ a. mark a ≡ m) x xs all)) (same_all mark k m xs (All-tail (λ a. mark a ≡ m) x xs all))
 
 -- so where all have one mark, it is counted for each, and no other
-pub marks_seen-all : (o : SceneState) (k m : Mark) (xs : List ℕ) → All (λ a. mark_under o o.view.planes a ≡ m) xs → marks_seen o k xs ≡ cond (is_same_mark k m) (length xs) 0
+pub marks_seen-all : (o : SceneState) (k m : Mark) (xs : List ℕ) → All (λ a. mark_under o o.view.planes a ≡ m) xs →
+    marks_seen o k xs ≡ cond (is_same_mark k m) (length xs) 0
 marks_seen-all o k m xs all = count-same (λ a. is_same_mark k (mark_under o o.view.planes a)) (is_same_mark k m) xs (same_all (mark_under o o.view.planes) k m xs all)
 
-counted : (o : SceneState) (k m : Mark) (xs : List ℕ) (count : ℕ) → All (λ a. mark_under o o.view.planes a ≡ m) xs → count ≡ length xs → cond (is_same_mark k m) count 0 ≡ marks_seen o k xs
+counted : (o : SceneState) (k m : Mark) (xs : List ℕ) (count : ℕ) → All (λ a. mark_under o o.view.planes a ≡ m) xs → count ≡ length xs →
+    cond (is_same_mark k m) count 0 ≡ marks_seen o k xs
 counted o k m xs count all size = ap (λ z. cond {A = ℕ} (is_same_mark k m) z 0) size ∙ sym (marks_seen-all o k m xs all)
 
 -- the counts of a list with one mark
-pub HasMarks-all : (o : SceneState) (m : Mark) (xs : List ℕ) (count : ℕ) → All (λ a. mark_under o o.view.planes a ≡ m) xs → count ≡ length xs →
+pub HasMarks-all : (o : SceneState) (m : Mark) (xs : List ℕ) (count : ℕ) → All (λ a. mark_under o o.view.planes a ≡ m) xs →
+    count ≡ length xs →
     HasMarks o xs (cond (is_same_mark Inside m) count 0) (cond (is_same_mark Cut m) count 0) (cond (is_same_mark Outside m) count 0)
 HasMarks-all o m xs count all size = record {
   inside = counted o Inside m xs count all size;
@@ -104,7 +108,8 @@ leaves_marked n mark m passes has levels a down is =
     (λ deeper t d ends q. q) levels a down is
 
 -- and so their counts are known
-pub HasMarks-below : (o : SceneState) (m : Mark) → IsPassedOn o.grid.n (mark_under o o.view.planes) m → (has : ℕ → Bool) (levels a count : ℕ) →
+pub HasMarks-below : (o : SceneState) (m : Mark) → IsPassedOn o.grid.n (mark_under o o.view.planes) m →
+    (has : ℕ → Bool) (levels a count : ℕ) →
     IsDown o.grid.n levels a → mark_under o o.view.planes a ≡ m → count ≡ length (leaves_under levels has a) →
     HasMarks o (leaves_under levels has a) (cond (is_same_mark Inside m) count 0) (cond (is_same_mark Cut m) count 0) (cond (is_same_mark Outside m) count 0)
 HasMarks-below o m passes has levels a count down is size =

@@ -80,7 +80,8 @@ seen_same Outside Cut e d none = absurd (true≢false none)
 seen_same Outside Outside e d none = refl
 
 -- what is not turned keeps its priority, from every place
-pub IsSamePriority-unturned : (o : SceneState) (planes : List ViewPlane) (a : ℕ) → is_turned o planes a ≡ false → IsSamePriority o (seen_within planes o) a
+pub IsSamePriority-unturned : (o : SceneState) (planes : List ViewPlane) (a : ℕ) → is_turned o planes a ≡ false →
+    IsSamePriority o (seen_within planes o) a
 unfolding priority_of
 IsSamePriority-unturned o planes a none to =
     seen_same (mark_under o o.view.planes a) (mark_under o planes a) (thickness_of o.grid.n o.grid.heights a) (distance_of (box_of o.grid.n o.grid.heights o.view.spacing a) to) none
@@ -88,11 +89,14 @@ IsSamePriority-unturned o planes a none to =
 -- ---- engines
 
 -- Other planes, where the stamps are expired of all triangles that are turned.
-pub planes_engine : (o other : SceneState) (planes : List ViewPlane) (budget most : ℕ) (before after : MeshState) (odometer frames evaluations : ℕ) (changes : LeafChanges) →
+pub planes_engine : (o other : SceneState) (planes : List ViewPlane) (budget most : ℕ) (before after : MeshState)
+    (odometer frames evaluations : ℕ) (changes : LeafChanges) →
     other ≡ seen_within planes o → IsExpired before after (is_turned o planes) →
     IsEngine (engine_of o budget most before odometer frames evaluations changes) → IsEngine (engine_of other budget most after odometer frames evaluations changes)
 planes_engine o other planes budget most before after odometer frames evaluations changes same is engine =
     subst (λ (z : SceneState). IsEngine (engine_of z budget most after odometer frames evaluations changes)) (sym same)
-    (edited_engine (engine_of o budget most before odometer frames evaluations changes) (record { grid = o.grid; view = (seen_within planes o).view; budget = budget }) after engine is.pool refl refl refl
-    (bracketed-edited o (seen_within planes o) odometer before after (is_turned o planes) refl engine.n engine.only is (λ a address out. IsSamePriority-unturned o planes a out) engine.kept)
+    (edited_engine (engine_of o budget most before odometer frames evaluations changes)
+    (record { grid = o.grid; view = (seen_within planes o).view; budget = budget }) after engine is.pool refl refl refl
+    (bracketed-edited o (seen_within planes o) odometer before after (is_turned o planes) refl engine.n engine.only is
+    (λ a address out. IsSamePriority-unturned o planes a out) engine.kept)
     (OnlyEntriesStamped-expired before after (is_turned o planes) is engine.only))

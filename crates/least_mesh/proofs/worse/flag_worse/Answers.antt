@@ -25,7 +25,8 @@ loop-number-preserved c =
     let no_less = c.is_worse.ensures.count in
     let count = c.loop-number.invariant.count in
     let grid : c.n.result ≡ c.args.scene.now.grid.n = c.n.ensures.value in
-    let end : c.end-number-end.result ≡ 2 ^ (2 * c.args.scene.now.grid.n + 1) = c.end-number-end.ensures.value ∙ ap (λ k. 2 ^ (2 * k + 1)) grid in
+    let end : c.end-number-end.result ≡ 2 ^ (2 * c.args.scene.now.grid.n + 1) = c.end-number-end.ensures.value
+    ∙ ap (λ k. 2 ^ (2 * k + 1)) grid in
     let test = c.loop-number-test.true in
     let long = c.loop-number.auto.flags in
     let room = c.requires.room in
@@ -52,4 +53,5 @@ returns-clause-worse c =
     let value : c.end-number-end.result ≡ 2 ^ (2 * c.args.scene.now.grid.n + 1) = end.value ∙ ap (λ k. 2 ^ (2 * k + 1)) grid in
     let most = c.loop-number.auto.number-end end.low in
     let last = c.loop-number-test.false in
-    asked-all c.args.scene.now.grid.n c.args.tolerance c.loop-number.number p c.loop-number.flags (omega arith) c.loop-number.invariant.flagged
+    asked-all c.args.scene.now.grid.n c.args.tolerance c.loop-number.number p c.loop-number.flags (omega arith)
+    c.loop-number.invariant.flagged

@@ -18,7 +18,8 @@ is_reason-requires c = record {
   in_grid = c.requires.in_grid;
   room = c.loop-index.invariant.room ∙ c.requires.room;
   grid = c.requires.grid;
-  addresses = λ a h. named-splittable c.args.n (priority_seen c.args.scene.now) c.args.worst (take c.loop-index.index c.args.reasons.now) a c.loop-index.invariant.good
+  addresses = λ a h. named-splittable c.args.n (priority_seen c.args.scene.now) c.args.worst (take c.loop-index.index c.args.reasons.now)
+      a c.loop-index.invariant.good
       (sym (c.loop-index.invariant.same a) ∙ h);
 }
 
@@ -34,14 +35,17 @@ loop-index-preserved c =
     let is : read ≡ get_or c.args.reasons.now c.loop-index.index read =
     get_or_default c.args.reasons.now c.loop-index.index c.index-reasons-index-in-loop-index.result read c.loop-index-test.true in
     let reason : IsReason c.args.n (priority_seen c.args.scene.now) c.args.worst (is_flagged c.loop-index.flags) read =
-    subst (λ (x : Reason). IsReason c.args.n (priority_seen c.args.scene.now) c.args.worst (is_flagged c.loop-index.flags) (record { kind = x.kind; triangle = read.triangle }))
+    subst (λ (x : Reason). IsReason c.args.n (priority_seen c.args.scene.now) c.args.worst (is_flagged c.loop-index.flags)
+    (record { kind = x.kind; triangle = read.triangle }))
     (get_or_default c.args.reasons.now c.loop-index.index c.index-reasons-index.result c.index-reasons-index-in-loop-index.result c.loop-index-test.true)
     (c.is_reason.ensures.value.0 c.if-not-is_reason.false) in
     record {
       room = c.flag.ensures.room ∙ c.loop-index.invariant.room;
-      good = good-next c.args.n (priority_seen c.args.scene.now) c.args.worst c.args.reasons.now c.loop-index.index read c.loop-index-test.true is
+      good = good-next c.args.n (priority_seen c.args.scene.now) c.args.worst c.args.reasons.now c.loop-index.index read
+          c.loop-index-test.true is
           (is_flagged c.loop-index.flags) c.loop-index.invariant.same c.loop-index.invariant.good reason;
-      same = same-next c.args.n (priority_seen c.args.scene.now) c.args.worst c.args.reasons.now c.loop-index.index read c.loop-index-test.true is
+      same = same-next c.args.n (priority_seen c.args.scene.now) c.args.worst c.args.reasons.now c.loop-index.index read
+          c.loop-index-test.true is
           (is_flagged c.loop-index.flags) c.loop-index.invariant.same c.loop-index.invariant.good (is_flagged c.flag.new.flags) c.flag.ensures.added;
     }
 
@@ -53,11 +57,13 @@ returns-then-not-is_reason-clause-bad c =
     bad-first c.args.n (priority_seen c.args.scene.now) c.args.worst c.args.reasons.now c.loop-index.index read c.loop-index-test.true is
     (is_flagged c.loop-index.flags) c.loop-index.invariant.same c.loop-index.invariant.good
     (λ reason. both_ways c.is_reason.result c.if-not-is_reason.true (c.is_reason.ensures.value.1
-    (subst (λ (x : Reason). IsReason c.args.n (priority_seen c.args.scene.now) c.args.worst (is_flagged c.loop-index.flags) (record { kind = x.kind; triangle = read.triangle }))
+    (subst (λ (x : Reason). IsReason c.args.n (priority_seen c.args.scene.now) c.args.worst (is_flagged c.loop-index.flags)
+    (record { kind = x.kind; triangle = read.triangle }))
     (get_or_default c.args.reasons.now c.loop-index.index c.index-reasons-index-in-loop-index.result c.index-reasons-index.result c.loop-index-test.true)
     reason)))
 
 pub returns-clause-good : goal.returns-clause-good
 returns-clause-good c =
     let done = c.loop-index-test.false in
-    subst (λ l. AreReasons c.args.n (priority_seen c.args.scene.now) c.args.worst [] l) (take_all c.loop-index.index c.args.reasons.now (omega arith)) c.loop-index.invariant.good
+    subst (λ l. AreReasons c.args.n (priority_seen c.args.scene.now) c.args.worst [] l)
+    (take_all c.loop-index.index c.args.reasons.now (omega arith)) c.loop-index.invariant.good

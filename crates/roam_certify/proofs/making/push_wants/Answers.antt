@@ -22,7 +22,8 @@ push_wanted-requires c =
       listed = c.loop-number.invariant.listed;
       reasoned = c.loop-number.invariant.reasoned;
       splittable = subst (λ t. IsSplittable c.args.n t) (sym visited) splittable;
-      before = subst (λ t. AreWanted c.args.limit (priority_seen c.args.scene.now) c.args.worst t c.loop-number.reasons.items) (sym visited) c.loop-number.invariant.wanted;
+      before = subst (λ t. AreWanted c.args.limit (priority_seen c.args.scene.now) c.args.worst t c.loop-number.reasons.items)
+          (sym visited) c.loop-number.invariant.wanted;
     }
 
 pub loop-number-preserved : goal.loop-number-preserved
@@ -31,7 +32,8 @@ loop-number-preserved c =
     record {
       listed = c.in_ok-push_wanted.ensures.listed;
       reasoned = c.in_ok-push_wanted.ensures.reasoned;
-      wanted = wanted-next c.args.limit (priority_seen c.args.scene.now) c.args.worst c.loop-number.number c.loop-number.reasons.items c.push_wanted.new.reasons.items
+      wanted = wanted-next c.args.limit (priority_seen c.args.scene.now) c.args.worst c.loop-number.number c.loop-number.reasons.items
+          c.push_wanted.new.reasons.items
           c.in_ok-push_wanted.ensures.grown c.loop-number.invariant.wanted
           (subst (λ t. length c.push_wanted.new.reasons.items < c.args.limit → c.args.worst ≤ priority_seen c.args.scene.now t →
           IsTrue (named_in c.push_wanted.new.reasons.items t)) visited c.in_ok-push_wanted.ensures.wanted);

@@ -27,4 +27,5 @@ invariant_of-self c =
 
 pub returns-clause-mesh : goal.returns-clause-mesh
 returns-clause-mesh c =
-    subst (λ (e : EngineState). IsExpired e.mesh c.expire_by_turn.new.mesh (is_turned (scene_of e.state) c.args.planes.now)) c.self.view_is c.expire_by_turn.ensures
+    subst (λ (e : EngineState). IsExpired e.mesh c.expire_by_turn.new.mesh (is_turned (scene_of e.state) c.args.planes.now))
+    c.self.view_is c.expire_by_turn.ensures

@@ -63,7 +63,8 @@ returns-clause-list c =
     let read = c.deref.ensures.value ∙ with_items_is asked c.sweep.new.flags (c.sweep.auto.flags ∙ c.deref_mut-2.ensures.len) in
     let room = with_items_is c.self.inside.room list (c.list_leaves-self-inside.auto.list ∙ c.deref_mut-3.ensures.len) in
     subst (λ (l : List ℕ). IsLeastList c.args.scene.now.grid.n c.args.tolerance p (take count l)) (sym room)
-    (listed c.args.scene.now.grid.n c.self.inside.n c.args.tolerance count p c.flag_worse.new.flags c.deref_mut-2.result.now c.sweep.new.flags c.deref.result.now list
+    (listed c.args.scene.now.grid.n c.self.inside.n c.args.tolerance count p c.flag_worse.new.flags c.deref_mut-2.result.now
+    c.sweep.new.flags c.deref.result.now list
     grid before read c.flag_worse.ensures.worse c.sweep.ensures.least c.list_leaves-self-inside.ensures.listed)
 
 pub returns-clause-least : goal.returns-clause-least

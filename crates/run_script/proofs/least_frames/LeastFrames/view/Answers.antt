@@ -15,7 +15,8 @@ returns-clause-valid c =
     record {
       levels = subst (λ (l : List ℕ). All (λ a. level_of a ≤ 2 * n) l) (sym c.leaves.ensures.value)
           (conforming-levels f.least.n n f.least.leaves level c.leaves.ensures.conforming);
-      vertex_numbers = c.numbers.ensures.value ∙ ap (λ (k : ℕ). numbers_of k f.least.leaves) level ∙ ap (numbers_of n) (sym c.leaves.ensures.value);
+      vertex_numbers = c.numbers.ensures.value ∙ ap (λ (k : ℕ). numbers_of k f.least.leaves) level ∙ ap (numbers_of n)
+          (sym c.leaves.ensures.value);
       spacing_low = c.scene.invariant.0;
       spacing_high = c.scene.invariant.1;
     }
@@ -24,4 +25,5 @@ pub returns-clause-text : goal.returns-clause-text
 returns-clause-text c =
     let f = c.args.self.now in
     let text : SceneState → List ℕ → List ℕ = λ s l. mesh_text s.grid.n s.grid.heights s.view.spacing s.view.planes l in
-    ap (λ (s : SceneState). text s c.leaves.result.now) (c.scene.view_is ∙ c.scene-scene.ensures) ∙ ap (text f.outlook) c.leaves.ensures.value
+    ap (λ (s : SceneState). text s c.leaves.result.now) (c.scene.view_is ∙ c.scene-scene.ensures) ∙ ap (text f.outlook)
+    c.leaves.ensures.value

@@ -14,7 +14,8 @@ returns-then-level-n-clause-value c =
     let i = c.self.inside in
     let view : View = view_from i.camera.now i.spacing i.planes.now in
     subst (λ (s : SceneState). 0 ≡ priority_seen s c.args.t) c.self.view_is
-    (sym (priority_of-none i.wedges.now.n i.wedges.now.heights view c.args.t (c.wedge_laws.ensures.finest_thickness i.wedges.now.n i.wedges.now.heights c.args.t
+    (sym (priority_of-none i.wedges.now.n i.wedges.now.heights view c.args.t
+    (c.wedge_laws.ensures.finest_thickness i.wedges.now.n i.wedges.now.heights c.args.t
     (omega (arith, ap (λ (g : HeightField). g.n) c.grid.ensures.value)))))
 
 pub returns-then-thickness-eq0-clause-value : goal.returns-then-thickness-eq0-clause-value
@@ -22,15 +23,18 @@ returns-then-thickness-eq0-clause-value c =
     let i = c.self.inside in
     let view : View = view_from i.camera.now i.spacing i.planes.now in
     subst (λ (s : SceneState). 0 ≡ priority_seen s c.args.t) c.self.view_is
-    (sym (priority_of-none i.wedges.now.n i.wedges.now.heights view c.args.t (sym c.thickness_and_cuboid-thickness.ensures.thickness ∙ c.if-thickness-eq0.true)))
+    (sym (priority_of-none i.wedges.now.n i.wedges.now.heights view c.args.t
+    (sym c.thickness_and_cuboid-thickness.ensures.thickness ∙ c.if-thickness-eq0.true)))
 
 pub distance-requires : goal.distance-requires
 distance-requires c =
     let i = c.self.inside in
     let is = c.thickness_and_cuboid-thickness.ensures in
     record {
-      reach = as_box-within_reach c.thickness_and_cuboid-thickness.result.1 _ (as_box-is c.thickness_and_cuboid-thickness.result.1 _ is.x0 is.x1 is.y0 is.y1 is.z0 is.z1)
-          (box_of-ordered i.wedges.now.n i.wedges.now.heights i.spacing c.args.t) is.x_from_0 is.y_from_0 is.z_from_0 is.x_small is.y_small is.z_small;
+      reach = as_box-within_reach c.thickness_and_cuboid-thickness.result.1 _
+          (as_box-is c.thickness_and_cuboid-thickness.result.1 _ is.x0 is.x1 is.y0 is.y1 is.z0 is.z1)
+          (box_of-ordered i.wedges.now.n i.wedges.now.heights i.spacing c.args.t) is.x_from_0 is.y_from_0 is.z_from_0 is.x_small
+          is.y_small is.z_small;
     }
 
 pub returns-clause-value : goal.returns-clause-value
@@ -42,7 +46,8 @@ returns-clause-value c =
     as_box-is look.result.1 _ look.ensures.x0 look.ensures.x1 look.ensures.y0 look.ensures.y1 look.ensures.z0 look.ensures.z1 in
     subst (λ (s : SceneState). c.seen_priority.result ≡ priority_seen s c.args.t) c.self.view_is
     (priority_seen-by_parts scene c.args.t c.seen_priority.result _ _ _ c.seen_priority.ensures
-    (c.mark.ensures ∙ ap (mark_of i.planes.now) box) look.ensures.thickness (c.distance.ensures.value ∙ ap (λ b. distance_of b i.camera.now) box))
+    (c.mark.ensures ∙ ap (mark_of i.planes.now) box) look.ensures.thickness
+    (c.distance.ensures.value ∙ ap (λ b. distance_of b i.camera.now) box))
 
 pub returns-clause-parent : goal.returns-clause-parent
 returns-clause-parent c = λ four.
