@@ -8,7 +8,7 @@ use Rattle.mesh_defs.specs.declared.mark.Mark.TheVariants.{Inside, Cut, Outside}
 use Rattle.mesh_defs.specs.ClosedSet.{leaves_under}
 use Rattle.mesh_defs.specs.MeshText.{is_same_mark}
 use Rattle.tiling_laws.proofs.DescentLemmas.{IsDown, IsSplittable-down, All-leaves_under}
-use Rattle.frame_loop.specs.Outlook.{OutlookState}
+use Rattle.mesh_defs.specs.State.{SceneState}
 use Rattle.frame_loop.specs.Marks.{marks_seen, HasMarks}
 use Rattle.frame_loop.specs.Turn.{mark_under}
 use Rattle.frame_loop.proofs.TurnLemmas.{IsPassedOn}
@@ -16,7 +16,8 @@ use Rattle.frame_loop.proofs.TurnLemmas.{IsPassedOn}
 -- ---- lists
 
 -- two lists together
-pub marks_seen-append : (o : OutlookState) (k : Mark) (xs ys all : List ℕ) → all ≡ xs ++ ys → marks_seen o k all ≡ marks_seen o k xs + marks_seen o k ys
+pub marks_seen-append : (o : SceneState) (k : Mark) (xs ys all : List ℕ) → all ≡ xs ++ ys →
+    marks_seen o k all ≡ marks_seen o k xs + marks_seen o k ys
 marks_seen-append o k xs ys all is =
     ap (marks_seen o k) is ∙ sum_by-append (λ t. cond {A = ℕ} (is_same_mark k (mark_under o o.view.planes t)) 1 0) xs ys
 
@@ -57,14 +58,17 @@ same_all mark k m (x ∷ xs) all = All-cons (λ a. is_same_mark k (mark a) ≡ i
     (ap (is_same_mark k) (All-head (λ a. mark a ≡ m) x xs all)) (same_all mark k m xs (All-tail (λ a. mark a ≡ m) x xs all))
 
 -- so where all have one mark, it is counted for each, and no other
-pub marks_seen-all : (o : OutlookState) (k m : Mark) (xs : List ℕ) → All (λ a. mark_under o o.view.planes a ≡ m) xs → marks_seen o k xs ≡ cond (is_same_mark k m) (length xs) 0
+pub marks_seen-all : (o : SceneState) (k m : Mark) (xs : List ℕ) → All (λ a. mark_under o o.view.planes a ≡ m) xs →
+    marks_seen o k xs ≡ cond (is_same_mark k m) (length xs) 0
 marks_seen-all o k m xs all = count-same (λ a. is_same_mark k (mark_under o o.view.planes a)) (is_same_mark k m) xs (same_all (mark_under o o.view.planes) k m xs all)
 
-counted : (o : OutlookState) (k m : Mark) (xs : List ℕ) (count : ℕ) → All (λ a. mark_under o o.view.planes a ≡ m) xs → count ≡ length xs → cond (is_same_mark k m) count 0 ≡ marks_seen o k xs
+counted : (o : SceneState) (k m : Mark) (xs : List ℕ) (count : ℕ) → All (λ a. mark_under o o.view.planes a ≡ m) xs → count ≡ length xs →
+    cond (is_same_mark k m) count 0 ≡ marks_seen o k xs
 counted o k m xs count all size = ap (λ z. cond {A = ℕ} (is_same_mark k m) z 0) size ∙ sym (marks_seen-all o k m xs all)
 
 -- the counts of a list with one mark
-pub HasMarks-all : (o : OutlookState) (m : Mark) (xs : List ℕ) (count : ℕ) → All (λ a. mark_under o o.view.planes a ≡ m) xs → count ≡ length xs →
+pub HasMarks-all : (o : SceneState) (m : Mark) (xs : List ℕ) (count : ℕ) → All (λ a. mark_under o o.view.planes a ≡ m) xs →
+    count ≡ length xs →
     HasMarks o xs (cond (is_same_mark Inside m) count 0) (cond (is_same_mark Cut m) count 0) (cond (is_same_mark Outside m) count 0)
 HasMarks-all o m xs count all size = record {
   inside = counted o Inside m xs count all size;
@@ -73,7 +77,7 @@ HasMarks-all o m xs count all size = record {
 }
 
 -- and those of two lists together
-pub HasMarks-append : (o : OutlookState) (xs ys all : List ℕ) (within across without more_within more_across more_without : ℕ) →
+pub HasMarks-append : (o : SceneState) (xs ys all : List ℕ) (within across without more_within more_across more_without : ℕ) →
     HasMarks o xs within across without → HasMarks o ys more_within more_across more_without → all ≡ xs ++ ys →
     HasMarks o all (within + more_within) (across + more_across) (without + more_without)
 HasMarks-append o xs ys all within across without more_within more_across more_without first second is =
@@ -85,7 +89,7 @@ HasMarks-append o xs ys all within across without more_within more_across more_w
     record { inside = omega arith; cut = omega arith; outside = omega arith }
 
 -- no count is above the number of triangles
-pub HasMarks-few : (o : OutlookState) (xs : List ℕ) (within across without : ℕ) → HasMarks o xs within across without →
+pub HasMarks-few : (o : SceneState) (xs : List ℕ) (within across without : ℕ) → HasMarks o xs within across without →
     (within ≤ length xs) × ((across ≤ length xs) × (without ≤ length xs))
 HasMarks-few o xs within across without is =
     let i = subst (λ z. z ≤ length xs) (sym is.inside) (count-few (λ a. is_same_mark Inside (mark_under o o.view.planes a)) xs) in
@@ -104,14 +108,15 @@ leaves_marked n mark m passes has levels a down is =
     (λ deeper t d ends q. q) levels a down is
 
 -- and so their counts are known
-pub HasMarks-below : (o : OutlookState) (m : Mark) → IsPassedOn o.grid.n (mark_under o o.view.planes) m → (has : ℕ → Bool) (levels a count : ℕ) →
+pub HasMarks-below : (o : SceneState) (m : Mark) → IsPassedOn o.grid.n (mark_under o o.view.planes) m →
+    (has : ℕ → Bool) (levels a count : ℕ) →
     IsDown o.grid.n levels a → mark_under o o.view.planes a ≡ m → count ≡ length (leaves_under levels has a) →
     HasMarks o (leaves_under levels has a) (cond (is_same_mark Inside m) count 0) (cond (is_same_mark Cut m) count 0) (cond (is_same_mark Outside m) count 0)
 HasMarks-below o m passes has levels a count down is size =
     HasMarks-all o m (leaves_under levels has a) count (leaves_marked o.grid.n (mark_under o o.view.planes) m passes has levels a down is) size
 
 -- those of a leaf too, whatever its mark
-pub HasMarks-leaf : (o : OutlookState) (m : Mark) (leaves : List ℕ) (a : ℕ) → leaves ≡ a ∷ [] → mark_under o o.view.planes a ≡ m →
+pub HasMarks-leaf : (o : SceneState) (m : Mark) (leaves : List ℕ) (a : ℕ) → leaves ≡ a ∷ [] → mark_under o o.view.planes a ≡ m →
     HasMarks o leaves (cond (is_same_mark Inside m) 1 0) (cond (is_same_mark Cut m) 1 0) (cond (is_same_mark Outside m) 1 0)
 HasMarks-leaf o m leaves a alone is =
     subst (λ (xs : List ℕ). HasMarks o xs (cond (is_same_mark Inside m) 1 0) (cond (is_same_mark Cut m) 1 0) (cond (is_same_mark Outside m) 1 0)) (sym alone)

@@ -13,10 +13,12 @@ use Rattle.tiling_laws.proofs.ConformityLemmas.{IsUnder, self, below}
 use Rattle.closure_laws.proofs.SizeLemmas.{under-true}
 use Rattle.roam_mesh.specs.Mesh.{MeshState}
 use Rattle.leaf_list.specs.Below.{is_at_or_below}
-use Rattle.frame_loop.specs.Outlook.{OutlookState, IsSamePriority}
+use Rattle.mesh_defs.specs.State.{SceneState}
+use Rattle.frame_loop.specs.Outlook.{IsSamePriority}
 use Rattle.frame_loop.specs.Changes.{LeafChanges}
 use Rattle.frame_loop.specs.Engine.{IsEngine, IsExpired, engine_of}
-use Rattle.frame_loop.specs.Turn.{looking, mark_under, is_turn, is_settled, is_turned}
+use Rattle.view_priority.specs.Scene.{seen_within}
+use Rattle.frame_loop.specs.Turn.{mark_under, is_turn, is_settled, is_turned}
 use Rattle.frame_loop.proofs.EditLemmas.{edited_engine}
 use Rattle.frame_loop.proofs.ExpiryLemmas.{OnlyEntriesStamped-expired}
 use Rattle.frame_loop.proofs.KeepLemmas.{bracketed-edited}
@@ -78,7 +80,8 @@ seen_same Outside Cut e d none = absurd (true≢false none)
 seen_same Outside Outside e d none = refl
 
 -- what is not turned keeps its priority, from every place
-pub IsSamePriority-unturned : (o : OutlookState) (planes : List ViewPlane) (a : ℕ) → is_turned o planes a ≡ false → IsSamePriority o (looking planes o) a
+pub IsSamePriority-unturned : (o : SceneState) (planes : List ViewPlane) (a : ℕ) → is_turned o planes a ≡ false →
+    IsSamePriority o (seen_within planes o) a
 unfolding priority_of
 IsSamePriority-unturned o planes a none to =
     seen_same (mark_under o o.view.planes a) (mark_under o planes a) (thickness_of o.grid.n o.grid.heights a) (distance_of (box_of o.grid.n o.grid.heights o.view.spacing a) to) none
@@ -86,11 +89,14 @@ IsSamePriority-unturned o planes a none to =
 -- ---- engines
 
 -- Other planes, where the stamps are expired of all triangles that are turned.
-pub planes_engine : (o other : OutlookState) (planes : List ViewPlane) (budget most : ℕ) (before after : MeshState) (odometer frames evaluations : ℕ) (changes : LeafChanges) →
-    other ≡ looking planes o → IsExpired before after (is_turned o planes) →
+pub planes_engine : (o other : SceneState) (planes : List ViewPlane) (budget most : ℕ) (before after : MeshState)
+    (odometer frames evaluations : ℕ) (changes : LeafChanges) →
+    other ≡ seen_within planes o → IsExpired before after (is_turned o planes) →
     IsEngine (engine_of o budget most before odometer frames evaluations changes) → IsEngine (engine_of other budget most after odometer frames evaluations changes)
 planes_engine o other planes budget most before after odometer frames evaluations changes same is engine =
-    subst (λ (z : OutlookState). IsEngine (engine_of z budget most after odometer frames evaluations changes)) (sym same)
-    (edited_engine (engine_of o budget most before odometer frames evaluations changes) (record { grid = o.grid; view = (looking planes o).view; budget = budget }) after engine is.pool refl refl refl
-    (bracketed-edited o (looking planes o) odometer before after (is_turned o planes) refl engine.n engine.only is (λ a address out. IsSamePriority-unturned o planes a out) engine.kept)
+    subst (λ (z : SceneState). IsEngine (engine_of z budget most after odometer frames evaluations changes)) (sym same)
+    (edited_engine (engine_of o budget most before odometer frames evaluations changes)
+    (record { grid = o.grid; view = (seen_within planes o).view; budget = budget }) after engine is.pool refl refl refl
+    (bracketed-edited o (seen_within planes o) odometer before after (is_turned o planes) refl engine.n engine.only is
+    (λ a address out. IsSamePriority-unturned o planes a out) engine.kept)
     (OnlyEntriesStamped-expired before after (is_turned o planes) is engine.only))

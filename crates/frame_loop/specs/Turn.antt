@@ -1,24 +1,19 @@
 -- Planes that are put in force in the place of others, and the triangles whose priorities that may change.
 -- All of it is this project's own.
--- Words: with_planes, looking, mark_under, is_turn, is_settled, is_turned.
+-- Words: with_planes, mark_under, is_turn, is_settled, is_turned.
 use Rattle.std.specs.Prelude.{ℕ, Bool, true, false, List}
 use Rattle.mesh_defs.specs.declared.mark.Mark.{Mark}
 use Rattle.mesh_defs.specs.declared.mark.Mark.TheVariants.{Inside, Outside}
 use Rattle.mesh_defs.specs.View.{ViewPlane}
 use Rattle.mesh_defs.specs.MeshText.{triangle_mark}
-use Rattle.mesh_defs.specs.State.{State}
-use Rattle.frame_loop.specs.Outlook.{OutlookState}
+use Rattle.mesh_defs.specs.State.{SceneState, State}
 
 -- these planes are in force, and no others
 abbrev pub with_planes : List ViewPlane → State → State
 with_planes planes state = record state { view = record state.view { planes = planes } }
 
--- the same of an outlook
-abbrev pub looking : List ViewPlane → OutlookState → OutlookState
-looking planes o = record o { view = record o.view { planes = planes } }
-
 -- the mark of a triangle under these planes
-abbrev pub mark_under : OutlookState → List ViewPlane → ℕ → Mark
+abbrev pub mark_under : SceneState → List ViewPlane → ℕ → Mark
 mark_under o planes a = triangle_mark o.grid.n o.grid.heights o.view.spacing planes a
 
 -- one of the two marks is Outside, and not both
@@ -35,5 +30,5 @@ is_settled Outside Outside = true
 is_settled _ _ = false
 
 -- the triangle is Outside under the planes in force or under these ones, and not under both
-abbrev pub is_turned : OutlookState → List ViewPlane → ℕ → Bool
+abbrev pub is_turned : SceneState → List ViewPlane → ℕ → Bool
 is_turned o planes a = is_turn (mark_under o o.view.planes a) (mark_under o planes a)

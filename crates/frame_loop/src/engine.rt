@@ -1,8 +1,7 @@
 //! The engine.
 
 ghost use Rattle.std.specs.Prelude.{◌≡◌, ℕ, ◌+◌, ◌-◌, ◌*◌, ◌<◌, ◌≤◌, ◌^◌, min, [], All, None, IfOk, length};
-ghost use Rattle.mesh_defs.specs.View.{start_view};
-ghost use Rattle.mesh_defs.specs.State.{start_state, with_camera, with_budget, move_length};
+ghost use Rattle.mesh_defs.specs.State.{scene_of, start_state, with_camera, with_budget, move_length};
 ghost use Rattle.mesh_defs.specs.Triangle.{level_of};
 ghost use Rattle.mesh_defs.specs.ClosedSet.{IsClosed};
 ghost use Rattle.triangle_pool.specs.declared.pool.TheConstants.{MOST_LEAVES};
@@ -12,7 +11,7 @@ ghost use Rattle.mesh_defs.specs.declared.level.TheConstants.{GREATEST_LEVEL};
 ghost use Rattle.wedgie_tree.specs.declared.wedges.TheConstants.{GREATEST_SPACING};
 ghost use Rattle.roam_mesh.specs.Mesh.{stamp_of, pool_members, OnlyEntriesStamped};
 ghost use Rattle.frame_loop.specs.declared.limits.TheConstants.{LONGEST_WAY};
-ghost use Rattle.frame_loop.specs.Outlook.{outlook_of, AreBracketed};
+ghost use Rattle.frame_loop.specs.Outlook.{AreBracketed};
 ghost use Rattle.frame_loop.specs.Changes.{no_changes};
 ghost use Rattle.frame_loop.specs.Engine.{is_split, mesh_seen};
 
@@ -20,8 +19,6 @@ use crate::laws::outlook_laws;
 use crate::listing::number_leaves;
 use crate::lists::Lists;
 use crate::note::FrameNote;
-use crate::outlook::Outlook;
-use cull_marks::Planes;
 use leaf_list::LeafList;
 use obj_write::{MeshView, VertexChange, VertexTable};
 use pgm_grid::Grid;
@@ -30,7 +27,7 @@ use roam_mesh::Mesh;
 use std::alloc::Global;
 use std::marker::Model;
 use triangle_pool::Pool;
-use view_priority::{Camera, Meter};
+use view_priority::{Camera, Meter, Outlook};
 use wedgie_tree::Wedges;
 
 /// Terrain, a view of it, and the mesh that follows the view.
@@ -115,7 +112,7 @@ impl Engine {
         } = lists;
         let vertices = number_leaves(mesh.pool(), &list, &mut numbers);
         Ok(Engine {
-            outlook: start_outlook(wedges, spacing),
+            outlook: Outlook::start(wedges, spacing),
             mesh,
             meter: Meter::new(),
             most: budget,
@@ -226,7 +223,7 @@ impl Engine {
         ensures pool { result.now ≡ self.now.mesh.pool }
         ensures n { result.now.n ≡ self.now.state.grid.n }
         ensures room { result.now.most ≡ min self.now.most (2 * 4 ^ self.now.state.grid.n) }
-        ensures kept { AreBracketed (outlook_of self.now.state) self.now.odometer self.now.mesh }
+        ensures kept { AreBracketed (scene_of self.now.state) self.now.odometer self.now.mesh }
         ensures only { OnlyEntriesStamped self.now.mesh }
     {
         self.mesh.pool()
@@ -254,20 +251,6 @@ impl Engine {
             spacing: self.outlook.spacing,
             planes: &self.outlook.planes,
         }
-    }
-}
-
-/// What is seen of the wedges from (0, 0, 0), without a plane.
-fn start_outlook(wedges: Wedges, spacing: u32) -> Outlook
-    requires spacing_low { 1 ≤ spacing }
-    requires spacing_high { spacing ≤ GREATEST_SPACING }
-    ensures { result ≡ record { grid = wedges; view = start_view spacing } }
-{
-    Outlook {
-        wedges,
-        camera: Camera::new(0, 0, 0).unwrap(),
-        spacing,
-        planes: Planes::none(),
     }
 }
 

@@ -3,17 +3,16 @@
 ghost use Rattle.std.specs.Prelude.{◌≡◌, ℕ, ◌*◌, ◌≤◌, ◌&&◌, not, true, false, nat_eq};
 ghost use Rattle.mesh_defs.specs.Triangle.{level_of};
 ghost use Rattle.edge_laws.specs.Slots.{address_at, IsLive};
-ghost use Rattle.frame_loop.specs.Outlook.{outlook_of};
+ghost use Rattle.mesh_defs.specs.State.{scene_of};
 ghost use Rattle.frame_loop.specs.Engine.{IsExpired, AreAllExpired};
 ghost use Rattle.leaf_list.specs.Below.{is_at_or_below};
 ghost use Rattle.frame_loop.specs.Turn.{with_planes, mark_under, is_turn, is_settled, is_turned};
 
 use crate::engine::Engine;
-use crate::outlook::Outlook;
 use bintree_addr::{Slot, Tri};
 use cull_marks::{Mark, Planes};
 use roam_mesh::Mesh;
-use view_priority::view_laws;
+use view_priority::{Outlook, view_laws};
 
 impl Engine {
     /// Puts a whole set of planes in force in the place of those before, and expires the stamps of those triangles alone that
@@ -29,7 +28,7 @@ impl Engine {
           mesh = self.new.mesh;
         } }
         ensures mesh { IsExpired self.old.mesh self.new.mesh
-            (is_turned (outlook_of self.old.state) planes.now) }
+            (is_turned (scene_of self.old.state) planes.now) }
     {
         self.still = None;
         expire_by_turn(&mut self.mesh, self.all_expired, &self.outlook, planes);

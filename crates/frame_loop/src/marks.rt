@@ -8,11 +8,10 @@ ghost use Rattle.mesh_defs.specs.MeshText.{triangle_mark, is_same_mark};
 ghost use Rattle.edge_laws.specs.Slots.{address_at, split_set, IsLive};
 ghost use Rattle.frame_loop.specs.Marks.{HasMarks};
 
-use crate::outlook::Outlook;
 use bintree_addr::{Slot, Tri};
 use mesh_defs::Mark;
 use triangle_pool::Pool;
-use view_priority::view_laws;
+use view_priority::{Outlook, view_laws};
 
 /// How many triangles are inside all planes, cut by one, and outside of one.
 #[derive(Clone, Copy, Debug)]

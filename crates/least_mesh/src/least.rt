@@ -4,6 +4,7 @@ ghost use Rattle.std.specs.Prelude.{◌≡◌, ◌+◌, ◌*◌, ◌^◌, ◌≤
 ghost use Rattle.mesh_defs.specs.Tiling.{IsConforming};
 ghost use Rattle.mesh_defs.specs.MeshText.{vertices_of};
 ghost use Rattle.mesh_defs.specs.Priority.{priority_of, worst_of};
+ghost use Rattle.mesh_defs.specs.State.{priority_seen};
 ghost use Rattle.mesh_defs.specs.declared.level.TheConstants.{GREATEST_LEVEL};
 ghost use Rattle.wedgie_tree.specs.declared.wedges.TheConstants.{GREATEST_SPACING};
 ghost use Rattle.view_priority.specs.Camera.{view_from};
@@ -23,7 +24,7 @@ use plain_mesh::falling_laws;
 use roam_errors::NoMemory;
 use std::alloc::Global;
 use std::marker::Model;
-use view_priority::{Camera, Meter};
+use view_priority::{Camera, Meter, Scene};
 use wedgie_tree::Wedges;
 
 /// The least mesh of the last frame, in room for every mesh of its grid.
@@ -86,10 +87,7 @@ impl Least {
         })
     }
 
-    /// The least mesh for a tolerance becomes the mesh. Takes no memory.
-    ///
-    /// Cost (not proved): two passes over the splittable addresses; a priority for each child of what is worse
-    /// than the tolerance, and one for each triangle of the mesh; the cost of `VertexTable::number`.
+    /// The least mesh for a tolerance becomes the mesh: `frame_of`, for a caller that makes no scene.
     pub fn frame(
         &mut self,
         w: &Wedges,
@@ -121,23 +119,46 @@ impl Least {
         ensures asked { meter.new + 2 ≤ meter.old + 2 ^ (2 * w.now.n + 1) + length self.new.leaves }
         ensures count { meter.old ≤ meter.new }
     {
-        level_laws();
-        falling_laws();
-        least_laws();
-        flag_worse(
-            &mut self.flags,
-            w,
+        let scene = Scene {
+            wedges: w,
             camera,
             spacing,
             planes,
-            tolerance,
-            meter,
-        );
+        };
+        self.frame_of(&scene, tolerance, meter)
+    }
+
+    /// The least mesh for a tolerance becomes the mesh. Takes no memory.
+    ///
+    /// Cost (not proved): two passes over the splittable addresses; a priority for each child of what is worse
+    /// than the tolerance, and one for each triangle of the mesh; the cost of `VertexTable::number`.
+    pub fn frame_of(&mut self, scene: &Scene<'_>, tolerance: u64, meter: &mut Meter) -> LeastNote
+        requires grid { scene.now.grid.n ≡ self.old.n }
+        ensures n { self.new.n ≡ self.old.n }
+
+        // The leaves of the least closed set of all triangles with a priority above the tolerance.
+        ensures list { IsLeastList scene.now.grid.n tolerance (priority_seen scene.now) self.new.leaves }
+
+        // Conforming, no triangle above the tolerance; each such list splits all that is split here, has at
+        // least as many triangles, and each of them lies in one of these.
+        ensures least { IsLeastMesh scene.now.grid.n tolerance (priority_seen scene.now) self.new.leaves }
+        ensures triangles { result.triangles ≡ length self.new.leaves }
+        ensures vertices { result.vertices ≡ length (vertices_of scene.now.grid.n self.new.leaves) }
+        ensures worst { result.worst ≡ worst_of (priority_seen scene.now) self.new.leaves }
+
+        // At most one priority for each splittable triangle, and one for each leaf.
+        ensures asked { meter.new + 2 ≤ meter.old + 2 ^ (2 * scene.now.grid.n + 1) + length self.new.leaves }
+        ensures count { meter.old ≤ meter.new }
+    {
+        level_laws();
+        falling_laws();
+        least_laws();
+        flag_worse(&mut self.flags, scene, tolerance, meter);
         sweep(&mut self.flags, self.n);
         self.count = list_leaves(&self.flags, self.n, &mut self.room);
         let leaves = &self.room[..self.count];
         let vertices = self.numbers.number(leaves, self.n);
-        let worst = worst_leaf(leaves, w, camera, spacing, planes, meter);
+        let worst = worst_leaf(leaves, scene, meter);
         LeastNote {
             triangles: self.count as u32,
             vertices,

@@ -2,36 +2,23 @@
 
 ghost use Rattle.std.specs.Prelude.{◌≡◌, ◌+◌, ◌*◌, ◌≤◌, All, length, max};
 ghost use Rattle.mesh_defs.specs.Triangle.{level_of};
-ghost use Rattle.mesh_defs.specs.Priority.{priority_of, worst_of};
-ghost use Rattle.wedgie_tree.specs.declared.wedges.TheConstants.{GREATEST_SPACING};
-ghost use Rattle.view_priority.specs.Camera.{view_from};
+ghost use Rattle.mesh_defs.specs.Priority.{worst_of};
+ghost use Rattle.mesh_defs.specs.State.{priority_seen};
 
 use bintree_addr::Tri;
-use cull_marks::Planes;
-use view_priority::{Camera, Meter, rank};
-use wedgie_tree::Wedges;
+use view_priority::{Meter, Scene};
 
 /// The greatest priority of a triangle of the list.
-pub fn worst_leaf(
-    leaves: &[Tri],
-    w: &Wedges,
-    camera: &Camera,
-    spacing: u32,
-    planes: &Planes,
-    meter: &mut Meter,
-) -> u64
-    requires levels { All (λ a. level_of a ≤ 2 * w.now.n) leaves.now }
-    requires spacing_low { 1 ≤ spacing }
-    requires spacing_high { spacing ≤ GREATEST_SPACING }
-    ensures value { let p = priority_of w.now.n w.now.heights (view_from camera.now spacing planes.now) in
-        result ≡ worst_of p leaves.now }
+pub fn worst_leaf(leaves: &[Tri], scene: &Scene<'_>, meter: &mut Meter) -> u64
+    requires levels { All (λ a. level_of a ≤ 2 * scene.now.grid.n) leaves.now }
+    ensures value { result ≡ worst_of (priority_seen scene.now) leaves.now }
     ensures asked { meter.new ≤ meter.old + length leaves.now }
     ensures count { meter.old ≤ meter.new }
 {
     let _count = meter.count();
     let mut worst = 0;
     for leaf in leaves {
-        worst = greater(worst, rank(w, camera, spacing, planes, *leaf, meter).p);
+        worst = greater(worst, scene.rank(*leaf, meter).p);
     }
     worst
 }

@@ -1,8 +1,9 @@
 -- The state of a script after some of its lines, on which the next frame depends: the heights as they are,
 -- the view, and the budget in force. Each kind of line that changes it has one function here.
 -- This project's own words.
--- Words: State, start_state, with_camera, with_heights, with_height, with_plane, without_planes, with_budget,
--- Area, is_in_area, clamped, raised_at, raised_heights, with_raised, priority_in, text_in, move_length.
+-- Words: State, SceneState, scene_of, start_state, with_camera, with_heights, with_height, with_plane, without_planes,
+-- with_budget, Area, is_in_area, clamped, raised_at, raised_heights, with_raised, priority_seen, priority_in, text_in,
+-- move_length.
 use Rattle.std.specs.Prelude.{ℕ, ◌+◌, ◌-◌, ◌^◌, ◌/◌, ◌%◌, min, Bool, ◌&&◌, nat_le, if◌then◌else◌, List, [], ◌∷◌, ◌++◌, map, slice_set, ℤ, pos, ◌+ℤ◌, ◌-ℤ◌, int_lt, unsigned_abs}
 use Rattle.std.specs.List.{enumerate_from}
 use Rattle.mesh_defs.specs.HeightField.{HeightField, side_of, place_of}
@@ -16,6 +17,15 @@ pub record State : Type 0 where
   pub grid : HeightField
   pub view : View
   pub budget : ℕ
+
+-- a state without its budget, on which no priority depends: the heights as they are, and the view
+pub record SceneState : Type 0 where
+  pub grid : HeightField
+  pub view : View
+
+-- the scene of a state
+abbrev pub scene_of : State → SceneState
+scene_of state = record { grid = state.grid; view = state.view }
 
 -- the state before the first line: the heights of the grid, the camera at the origin, no plane
 abbrev pub start_state : HeightField → ℕ → ℕ → State
@@ -73,6 +83,10 @@ raised_heights field area dz = map (raised_at field area dz) (enumerate_from 0 f
 -- each height of the area is raised
 abbrev pub with_raised : Area → ℤ → State → State
 with_raised area dz state = with_heights (raised_heights state.grid area dz) state
+
+-- the priority of a triangle in this scene
+abbrev pub priority_seen : SceneState → ℕ → ℕ
+priority_seen scene = priority_of scene.grid.n scene.grid.heights scene.view
 
 -- the priority of a triangle in this state
 abbrev pub priority_in : State → ℕ → ℕ

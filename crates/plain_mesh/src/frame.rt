@@ -17,7 +17,7 @@ use cull_marks::Planes;
 use diamond_rel::Split;
 use roam_errors::NoMemory;
 use std::alloc::Global;
-use view_priority::Camera;
+use view_priority::{Camera, Scene};
 use wedgie_tree::Wedges;
 
 /// The mesh of a frame, and why it is no finer.
@@ -73,7 +73,13 @@ pub fn plain_frame(
 {
     frame_laws();
     falling_laws();
-    let ranking = ranking_of(alloc, w, camera, spacing, planes)?;
-    let frame = refined(alloc, w.grid().n(), &ranking, budget)?;
+    let scene = Scene {
+        wedges: w,
+        camera,
+        spacing,
+        planes,
+    };
+    let ranking = ranking_of(alloc, &scene)?;
+    let frame = refined(alloc, scene.n(), &ranking, budget)?;
     Ok(frame)
 }

@@ -1,36 +1,24 @@
 //! The ranking: which triangles are worth a split, and in which order.
 
 ghost use Rattle.std.specs.Prelude.{◌≡◌, ◌<◌, ◌≤◌, ◌+◌, ◌*◌, ◌^◌, ◌↔◌, IsTrue, IfOk};
-ghost use Rattle.mesh_defs.specs.Priority.{priority_of};
-ghost use Rattle.wedgie_tree.specs.declared.wedges.TheConstants.{GREATEST_SPACING};
-ghost use Rattle.view_priority.specs.Camera.{view_from};
+ghost use Rattle.mesh_defs.specs.State.{priority_seen};
 ghost use Rattle.plain_mesh.specs.Ranks.{IsPicked, IsRanked, positives_below};
 
 use bintree_addr::{Rank, Tri, level_laws, rank_laws};
-use cull_marks::Planes;
 use roam_errors::NoMemory;
 use std::alloc::Global;
-use view_priority::{Camera, Meter, rank};
-use wedgie_tree::Wedges;
+use view_priority::{Meter, Scene};
 
 /// The splittable triangles of positive priority, in rank order.
 ///
 /// Cost (not proved): that of `picked`, and a sort in place.
-pub fn ranking_of(
-    alloc: Global,
-    w: &Wedges,
-    camera: &Camera,
-    spacing: u32,
-    planes: &Planes,
-) -> Result<Vec<Rank>, NoMemory>
-    requires spacing_low { 1 ≤ spacing }
-    requires spacing_high { spacing ≤ GREATEST_SPACING }
+pub fn ranking_of(alloc: Global, scene: &Scene<'_>) -> Result<Vec<Rank>, NoMemory>
     ensures { IfOk result (λ v.
-        IsRanked w.now.n (priority_of w.now.n w.now.heights (view_from camera.now spacing planes.now)) v.items) }
+        IsRanked scene.now.grid.n (priority_seen scene.now) v.items) }
 {
     level_laws();
     rank_laws();
-    let mut ranking = picked(alloc, w, camera, spacing, planes)?;
+    let mut ranking = picked(alloc, scene)?;
     ranking.sort_unstable();
     Ok(ranking)
 }
@@ -39,24 +27,14 @@ pub fn ranking_of(
 ///
 /// Cost (not proved): two evaluations of each splittable triangle, and 16 bytes for each that is picked,
 /// which are taken at once.
-fn picked(
-    alloc: Global,
-    w: &Wedges,
-    camera: &Camera,
-    spacing: u32,
-    planes: &Planes,
-) -> Result<Vec<Rank>, NoMemory>
-    requires spacing_low { 1 ≤ spacing }
-    requires spacing_high { spacing ≤ GREATEST_SPACING }
-    ensures { IfOk result (λ v. IsPicked
-        (priority_of w.now.n w.now.heights (view_from camera.now spacing planes.now))
-        (2 ^ (2 * w.now.n + 1)) v.items) }
+fn picked(alloc: Global, scene: &Scene<'_>) -> Result<Vec<Rank>, NoMemory>
+    ensures { IfOk result (λ v. IsPicked (priority_seen scene.now) (2 ^ (2 * scene.now.grid.n + 1)) v.items) }
 {
-    let room = count_positive(w, camera, spacing, planes);
+    let room = count_positive(scene);
     let mut meter = Meter::new();
     let mut ranks = Vec::with_capacity(alloc, room as usize)?;
-    for number in 2..end(w) {
-        let entry = rank_at(w, camera, spacing, planes, number, &mut meter);
+    for number in 2..end(scene) {
+        let entry = rank_at(scene, number, &mut meter);
         if is_positive(&entry) {
             ranks.push(entry)?;
         }
@@ -65,17 +43,13 @@ fn picked(
 }
 
 /// How many splittable triangles have a positive priority.
-fn count_positive(w: &Wedges, camera: &Camera, spacing: u32, planes: &Planes) -> u32
-    requires spacing_low { 1 ≤ spacing }
-    requires spacing_high { spacing ≤ GREATEST_SPACING }
-    ensures { result ≡ positives_below
-        (priority_of w.now.n w.now.heights (view_from camera.now spacing planes.now))
-        (2 ^ (2 * w.now.n + 1)) }
+fn count_positive(scene: &Scene<'_>) -> u32
+    ensures { result ≡ positives_below (priority_seen scene.now) (2 ^ (2 * scene.now.grid.n + 1)) }
 {
     let mut meter = Meter::new();
     let mut count = 0;
-    for number in 2..end(w) {
-        let entry = rank_at(w, camera, spacing, planes, number, &mut meter);
+    for number in 2..end(scene) {
+        let entry = rank_at(scene, number, &mut meter);
         if is_positive(&entry) {
             count += 1;
         }
@@ -91,31 +65,21 @@ fn is_positive(entry: &Rank) -> bool
 }
 
 /// The first address past the splittable ones.
-fn end(w: &Wedges) -> u32
-    ensures value { result ≡ 2 ^ (2 * w.now.n + 1) }
+fn end(scene: &Scene<'_>) -> u32
+    ensures value { result ≡ 2 ^ (2 * scene.now.grid.n + 1) }
     ensures low { 2 ≤ result }
 {
-    1 << (2 * w.grid().n() + 1)
+    1 << (2 * scene.n() + 1)
 }
 
 /// The rank of the splittable triangle with this address.
-fn rank_at(
-    w: &Wedges,
-    camera: &Camera,
-    spacing: u32,
-    planes: &Planes,
-    number: u32,
-    meter: &mut Meter,
-) -> Rank
+fn rank_at(scene: &Scene<'_>, number: u32, meter: &mut Meter) -> Rank
     requires low { 2 ≤ number }
-    requires splittable { number < 2 ^ (2 * w.now.n + 1) }
-    requires spacing_low { 1 ≤ spacing }
-    requires spacing_high { spacing ≤ GREATEST_SPACING }
+    requires splittable { number < 2 ^ (2 * scene.now.grid.n + 1) }
     ensures tri { result.tri ≡ number }
-    ensures value { result.p
-        ≡ priority_of w.now.n w.now.heights (view_from camera.now spacing planes.now) number }
+    ensures value { result.p ≡ priority_seen scene.now number }
 {
     level_laws();
-    let _valid = w.grid();
-    rank(w, camera, spacing, planes, Tri::new(number).unwrap(), meter)
+    let _valid = scene.n();
+    scene.rank(Tri::new(number).unwrap(), meter)
 }

@@ -9,7 +9,6 @@ ghost use Rattle.certificate_laws.specs.Certificate.{IsSound, IsOptimal};
 ghost use Rattle.cert_text.specs.declared.limits.TheConstants.{MOST_LEAVES, MOST_REASONS};
 
 use crate::making::make_reasons;
-use crate::sight::Sight;
 use address_flags::end;
 use bintree_addr::Tri;
 use cert_text::Cert;
@@ -18,7 +17,7 @@ use cull_marks::Planes;
 use plain_mesh::{falling_laws, plain_frame};
 use roam_errors::NoMemory;
 use std::alloc::Global;
-use view_priority::Camera;
+use view_priority::{Camera, Scene};
 use wedgie_tree::Wedges;
 
 /// A sound certificate of the greedy mesh of a budget, seen from the camera without view planes.
@@ -88,12 +87,12 @@ pub fn certify_mesh(
     let n = w.grid().n();
     let planes = Planes::none();
     let mut named = vec![in alloc; false; end(n) as usize]?;
-    let view = Sight {
+    let scene = Scene {
         wedges: w,
         camera,
         spacing,
         planes: &planes,
     };
-    let reasons = make_reasons(alloc, n, &mut named, &view, worst, budget)?;
+    let reasons = make_reasons(alloc, n, &mut named, &scene, worst, budget)?;
     Ok(Cert::new(*camera, leaves, reasons))
 }

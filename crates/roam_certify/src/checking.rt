@@ -2,16 +2,16 @@
 
 ghost use Rattle.std.specs.Prelude.{◌≡◌, ℕ, ◌+◌, ◌*◌, ◌^◌, ◌≤◌, ◌↔◌, IsTrue, IfSome, IfNone, false, [], length};
 ghost use Rattle.mesh_defs.specs.Triangle.{IsSplittable};
+ghost use Rattle.mesh_defs.specs.State.{priority_seen};
 ghost use Rattle.mesh_defs.specs.declared.level.TheConstants.{GREATEST_LEVEL};
 ghost use Rattle.least_laws.specs.Sweep.{is_flagged};
 ghost use Rattle.certificate_laws.specs.Certificate.{IsReason, AreReasons, IsFirstBad};
 ghost use Rattle.cert_text.specs.declared.limits.TheConstants.{MOST_REASONS};
-ghost use Rattle.roam_certify.specs.Sight.{seen_by, IsSeen};
 
-use crate::sight::{Sight, told};
 use address_flags::{flag, is_set};
 use bintree_addr::Tri;
 use certificate_laws::{Kind, Reason};
+use view_priority::Scene;
 
 /// The number of the first reason that is none, counted from 1, if there is one.
 ///
@@ -19,21 +19,21 @@ use certificate_laws::{Kind, Reason};
 pub fn first_bad(
     n: u32,
     flags: &mut [bool],
-    view: &Sight<'_>,
+    scene: &Scene<'_>,
     worst: u64,
     reasons: &[Reason],
 ) -> Option<u32>
     requires in_grid { (1 ≤ n) × (n ≤ GREATEST_LEVEL) }
     requires room { length flags.old ≡ 2 ^ (2 * n + 1) }
-    requires seen { IsSeen n view.now }
+    requires grid { scene.now.grid.n ≡ n }
     requires empty { (a : ℕ) → is_flagged flags.old a ≡ false }
     requires few { length reasons.now ≤ MOST_REASONS }
-    ensures good { IfNone result (AreReasons n (seen_by view.now) worst [] reasons.now) }
-    ensures bad { IfSome result (λ k. IsFirstBad n (seen_by view.now) worst reasons.now k) }
+    ensures good { IfNone result (AreReasons n (priority_seen scene.now) worst [] reasons.now) }
+    ensures bad { IfSome result (λ k. IsFirstBad n (priority_seen scene.now) worst reasons.now k) }
 {
     for index in 0..reasons.len() {
         let Reason { kind, triangle } = reasons[index];
-        if !is_reason(n, flags, view, worst, kind, triangle) {
+        if !is_reason(n, flags, scene, worst, kind, triangle) {
             return Some(index as u32 + 1);
         }
         flag(flags, triangle);
@@ -42,36 +42,36 @@ pub fn first_bad(
 }
 
 /// Whether this is a reason behind those of the flagged triangles.
-fn is_reason(n: u32, flags: &[bool], view: &Sight<'_>, worst: u64, kind: Kind, t: Tri) -> bool
+fn is_reason(n: u32, flags: &[bool], scene: &Scene<'_>, worst: u64, kind: Kind, t: Tri) -> bool
     requires in_grid { (1 ≤ n) × (n ≤ GREATEST_LEVEL) }
     requires room { length flags.now ≡ 2 ^ (2 * n + 1) }
-    requires seen { IsSeen n view.now }
+    requires grid { scene.now.grid.n ≡ n }
     requires addresses { (a : ℕ) → IsTrue (is_flagged flags.now a) → IsSplittable n a }
     ensures value { IsTrue result ↔
-        IsReason n (seen_by view.now) worst (is_flagged flags.now) (record { kind = kind; triangle = t }) }
+        IsReason n (priority_seen scene.now) worst (is_flagged flags.now) (record { kind = kind; triangle = t }) }
 {
     if t.level() < 2 * n {
-        has_cause(n, flags, view, worst, kind, t)
+        has_cause(n, flags, scene, worst, kind, t)
     } else {
         false
     }
 }
 
 /// The same, for a triangle that may be split.
-fn has_cause(n: u32, flags: &[bool], view: &Sight<'_>, worst: u64, kind: Kind, t: Tri) -> bool
+fn has_cause(n: u32, flags: &[bool], scene: &Scene<'_>, worst: u64, kind: Kind, t: Tri) -> bool
     requires in_grid { (1 ≤ n) × (n ≤ GREATEST_LEVEL) }
     requires room { length flags.now ≡ 2 ^ (2 * n + 1) }
-    requires seen { IsSeen n view.now }
+    requires grid { scene.now.grid.n ≡ n }
     requires addresses { (a : ℕ) → IsTrue (is_flagged flags.now a) → IsSplittable n a }
     requires splittable { IsSplittable n t }
     ensures value { IsTrue result ↔
-        IsReason n (seen_by view.now) worst (is_flagged flags.now) (record { kind = kind; triangle = t }) }
+        IsReason n (priority_seen scene.now) worst (is_flagged flags.now) (record { kind = kind; triangle = t }) }
 {
     if is_set(flags, t) {
         return false;
     }
     match kind {
-        Kind::Want => told(view, n, t) >= worst,
+        Kind::Want => scene.priority(t) >= worst,
         Kind::Parent => is_set(flags, t.left()) || is_set(flags, t.right()),
         Kind::Mate => match t.mate(n) {
             None => false,

@@ -10,7 +10,6 @@ mod cert;
 mod checking;
 mod conforming;
 mod making;
-mod sight;
 mod verdict;
 
 pub use cert::{certify_mesh, make_cert};

@@ -2,20 +2,20 @@
 
 ghost use Rattle.std.specs.Prelude.{◌≡◌, ℕ, ◌+◌, ◌*◌, ◌/◌, ◌^◌, ◌<◌, ◌≤◌, ◌⊎◌, ◌↔◌, Bool, List, IsTrue, IfOk, IfSome, OnOk, false, [], length};
 ghost use Rattle.mesh_defs.specs.Triangle.{IsSplittable, IsMate};
+ghost use Rattle.mesh_defs.specs.State.{priority_seen};
 ghost use Rattle.mesh_defs.specs.declared.level.TheConstants.{GREATEST_LEVEL};
 ghost use Rattle.least_laws.specs.Sweep.{is_flagged};
 ghost use Rattle.certificate_laws.specs.declared.reason.Reason.{Reason};
 ghost use Rattle.certificate_laws.specs.Certificate.{named_in, AreReasons, AreAllReasons};
-ghost use Rattle.roam_certify.specs.Sight.{seen_by, IsSeen};
 ghost use Rattle.roam_certify.specs.Making.{IsListed, IsPushed, IsCause, HasCauses, IsGrown, KeepsReasons, AreWanted, IsQueue};
 
-use crate::sight::{Sight, told};
 use address_flags::{end, flag, is_set};
 use bintree_addr::Tri;
 use certificate_laws::{Kind, Reason};
 use plain_mesh::falling_laws;
 use roam_errors::NoMemory;
 use std::alloc::Global;
+use view_priority::Scene;
 
 /// Reasons for a mesh with this worst: one fewer than the budget, or all that there are.
 ///
@@ -24,23 +24,23 @@ pub fn make_reasons(
     alloc: Global,
     n: u32,
     flags: &mut [bool],
-    view: &Sight<'_>,
+    scene: &Scene<'_>,
     worst: u64,
     budget: u32,
 ) -> Result<Vec<Reason>, NoMemory>
     requires in_grid { (1 ≤ n) × (n ≤ GREATEST_LEVEL) }
     requires room { length flags.old ≡ 2 ^ (2 * n + 1) }
-    requires seen { IsSeen n view.now }
+    requires grid { scene.now.grid.n ≡ n }
     requires empty { (a : ℕ) → is_flagged flags.old a ≡ false }
     requires budget { 2 ≤ budget }
-    ensures reasoned { IfOk result (λ v. AreReasons n (seen_by view.now) worst [] v.items) }
+    ensures reasoned { IfOk result (λ v. AreReasons n (priority_seen scene.now) worst [] v.items) }
     ensures few { IfOk result (λ v. length v.items + 1 ≤ budget) }
     ensures enough { IfOk result (λ v. (budget ≤ length v.items + 1)
-        ⊎ AreAllReasons n (seen_by view.now) worst v.items) }
+        ⊎ AreAllReasons n (priority_seen scene.now) worst v.items) }
 {
     let limit = budget as usize - 1;
     let mut reasons = Vec::new(alloc);
-    push_wants(&mut reasons, flags, limit, n, view, worst)?;
+    push_wants(&mut reasons, flags, limit, n, scene, worst)?;
     follow(&mut reasons, flags, limit, n)?;
     Ok(reasons)
 }
@@ -53,23 +53,23 @@ fn push_wants(
     flags: &mut [bool],
     limit: usize,
     n: u32,
-    view: &Sight<'_>,
+    scene: &Scene<'_>,
     worst: u64,
 ) -> Result<(), NoMemory>
     requires in_grid { (1 ≤ n) × (n ≤ GREATEST_LEVEL) }
-    requires seen { IsSeen n view.now }
+    requires grid { scene.now.grid.n ≡ n }
     requires listed { IsListed n limit flags.old reasons.old.items }
-    requires reasoned { AreReasons n (seen_by view.now) worst [] reasons.old.items }
+    requires reasoned { AreReasons n (priority_seen scene.now) worst [] reasons.old.items }
     ensures listed { OnOk result (IsListed n limit flags.new reasons.new.items) }
-    ensures reasoned { OnOk result (AreReasons n (seen_by view.now) worst [] reasons.new.items) }
-    ensures wanted { OnOk result (AreWanted limit (seen_by view.now) worst (2 ^ (2 * n + 1)) reasons.new.items) }
+    ensures reasoned { OnOk result (AreReasons n (priority_seen scene.now) worst [] reasons.new.items) }
+    ensures wanted { OnOk result (AreWanted limit (priority_seen scene.now) worst (2 ^ (2 * n + 1)) reasons.new.items) }
 {
     for number in 2..end(n) {
         if reasons.len() >= limit {
             return Ok(());
         }
         let t = Tri::new(number).unwrap();
-        push_wanted(reasons, flags, limit, n, view, worst, t)?;
+        push_wanted(reasons, flags, limit, n, scene, worst, t)?;
     }
     Ok(())
 }
@@ -80,27 +80,27 @@ fn push_wanted(
     flags: &mut [bool],
     limit: usize,
     n: u32,
-    view: &Sight<'_>,
+    scene: &Scene<'_>,
     worst: u64,
     t: Tri,
 ) -> Result<(), NoMemory>
     requires in_grid { (1 ≤ n) × (n ≤ GREATEST_LEVEL) }
-    requires seen { IsSeen n view.now }
+    requires grid { scene.now.grid.n ≡ n }
     requires listed { IsListed n limit flags.old reasons.old.items }
-    requires reasoned { AreReasons n (seen_by view.now) worst [] reasons.old.items }
+    requires reasoned { AreReasons n (priority_seen scene.now) worst [] reasons.old.items }
     requires splittable { IsSplittable n t }
-    requires before { AreWanted limit (seen_by view.now) worst t reasons.old.items }
+    requires before { AreWanted limit (priority_seen scene.now) worst t reasons.old.items }
     ensures listed { OnOk result (IsListed n limit flags.new reasons.new.items) }
-    ensures reasoned { OnOk result (AreReasons n (seen_by view.now) worst [] reasons.new.items) }
+    ensures reasoned { OnOk result (AreReasons n (priority_seen scene.now) worst [] reasons.new.items) }
     ensures grown { OnOk result (IsGrown reasons.old.items reasons.new.items) }
-    ensures wanted { OnOk result (length reasons.new.items < limit → worst ≤ seen_by view.now t →
+    ensures wanted { OnOk result (length reasons.new.items < limit → worst ≤ priority_seen scene.now t →
         IsTrue (named_in reasons.new.items t)) }
 {
     falling_laws();
     if !may_be_wanted(flags, t) {
         return Ok(());
     }
-    let priority = told(view, n, t);
+    let priority = scene.priority(t);
     if priority < worst {
         return Ok(());
     }

@@ -3,6 +3,7 @@
 ghost use Rattle.std.specs.Prelude.{◌≡◌, ℕ, ◌+◌, ◌*◌, ◌^◌, ◌<◌, ◌≤◌, false, [], All, IfOk, length, max};
 ghost use Rattle.mesh_defs.specs.Triangle.{level_of, IsAddress};
 ghost use Rattle.mesh_defs.specs.Priority.{priority_of, worst_of};
+ghost use Rattle.mesh_defs.specs.State.{priority_seen};
 ghost use Rattle.mesh_defs.specs.declared.level.TheConstants.{GREATEST_LEVEL};
 ghost use Rattle.wedgie_tree.specs.declared.wedges.TheConstants.{GREATEST_SPACING};
 ghost use Rattle.view_priority.specs.Camera.{view_from};
@@ -10,11 +11,9 @@ ghost use Rattle.least_laws.specs.Sweep.{is_flagged};
 ghost use Rattle.certificate_laws.specs.declared.reason.Verdict.{Verdict};
 ghost use Rattle.certificate_laws.specs.Certificate.{IsVerdict};
 ghost use Rattle.cert_text.specs.declared.limits.TheConstants.{MOST_REASONS};
-ghost use Rattle.roam_certify.specs.Sight.{seen_by, IsSeen};
 
 use crate::checking::first_bad;
 use crate::conforming::is_conforming;
-use crate::sight::{Sight, told};
 use address_flags::end;
 use bintree_addr::Tri;
 use cert_text::Cert;
@@ -22,6 +21,7 @@ use certificate_laws::{Reason, Reject, Verdict};
 use cull_marks::Planes;
 use roam_errors::NoMemory;
 use std::alloc::Global;
+use view_priority::Scene;
 use wedgie_tree::Wedges;
 
 /// The verdict on a certificate: that it is sound, or the first part that fails.
@@ -48,7 +48,7 @@ pub fn check(
     let mut named = vec![in alloc; false; end(n) as usize]?;
     let planes = Planes::none();
     let camera = cert.camera();
-    let view = Sight {
+    let scene = Scene {
         wedges: w,
         camera: &camera,
         spacing,
@@ -56,7 +56,7 @@ pub fn check(
     };
     Ok(verdict(
         n,
-        &view,
+        &scene,
         &mut splits,
         &mut seen,
         &mut named,
@@ -71,7 +71,7 @@ pub fn check(
 /// At first none of the three tables of flags has one set. Takes no memory.
 fn verdict(
     n: u32,
-    view: &Sight<'_>,
+    scene: &Scene<'_>,
     splits: &mut [bool],
     seen: &mut [bool],
     named: &mut [bool],
@@ -80,7 +80,7 @@ fn verdict(
     budget: u32,
 ) -> Verdict
     requires in_grid { (1 ≤ n) × (n ≤ GREATEST_LEVEL) }
-    requires seen { IsSeen n view.now }
+    requires grid { scene.now.grid.n ≡ n }
     requires splits_room { length splits.old ≡ 2 ^ (2 * n + 1) }
     requires seen_room { All (λ t. t < length seen.old) leaves.now }
     requires named_room { length named.old ≡ 2 ^ (2 * n + 1) }
@@ -89,7 +89,7 @@ fn verdict(
     requires named_empty { (a : ℕ) → is_flagged named.old a ≡ false }
     requires addresses { All (IsAddress n) leaves.now }
     requires few { length reasons.now ≤ MOST_REASONS }
-    ensures verdict { IsVerdict n budget (seen_by view.now) leaves.now reasons.now result }
+    ensures verdict { IsVerdict n budget (priority_seen scene.now) leaves.now reasons.now result }
 {
     if !is_conforming(n, splits, seen, leaves) {
         return rejected(Reject::NotConforming);
@@ -97,8 +97,8 @@ fn verdict(
     if leaves.len() > budget as usize {
         return rejected(Reject::OverBudget);
     }
-    let worst = worst_leaf(n, view, leaves);
-    if let Some(index) = first_bad(n, named, view, worst, reasons) {
+    let worst = worst_leaf(n, scene, leaves);
+    if let Some(index) = first_bad(n, named, scene, worst, reasons) {
         return rejected(Reject::BadReason { index });
     }
     if worst > 0 && reasons.len() + 1 < budget as usize {
@@ -118,14 +118,14 @@ fn rejected(why: Reject) -> Verdict
 }
 
 /// The greatest priority of a leaf.
-fn worst_leaf(n: u32, view: &Sight<'_>, leaves: &[Tri]) -> u64
-    requires seen { IsSeen n view.now }
+fn worst_leaf(n: u32, scene: &Scene<'_>, leaves: &[Tri]) -> u64
+    requires grid { scene.now.grid.n ≡ n }
     requires addresses { All (IsAddress n) leaves.now }
-    ensures value { result ≡ worst_of (seen_by view.now) leaves.now }
+    ensures value { result ≡ worst_of (priority_seen scene.now) leaves.now }
 {
     let mut worst = 0;
     for leaf in leaves {
-        worst = greater(worst, told(view, n, *leaf));
+        worst = greater(worst, scene.priority(*leaf));
     }
     worst
 }

@@ -3,7 +3,7 @@
 use Rattle.std.specs.Prelude.{◌≡◌, ◌<◌, ◌≤◌, ◌↔◌, List, map, length, All}
 use Rattle.mesh_defs.specs.View.{ViewPlane}
 use Rattle.cull_marks.specs.Plane.{IsPlane}
-use Rattle.frame_loop.specs.Outlook.{outlook_of}
+use Rattle.mesh_defs.specs.State.{scene_of}
 use Rattle.frame_loop.specs.Turn.{with_planes, is_turned}
 use Rattle.frame_loop.specs.Engine.{EngineState, IsExpired}
 use Rattle.roam_embed.specs.declared.answer.Answer.{Answer}
@@ -25,5 +25,5 @@ pub record ArePlanesPut (before after : EngineState) (planes : List PlaneNumbers
   pub bad_plane : (answer ≡ BadPlane) ↔ (All (λ p. IsPlane (plane_of p)) planes → ⊥)
   pub too_many : (answer ≡ TooManyPlanes) ↔ (All (λ p. IsPlane (plane_of p)) planes × (MOST_PLANES < length planes))
   pub put : answer ≡ Done → after ≡ record before { state = with_planes (planes_of planes) before.state; mesh = after.mesh }
-  pub expired : answer ≡ Done → IsExpired before.mesh after.mesh (is_turned (outlook_of before.state) (planes_of planes))
+  pub expired : answer ≡ Done → IsExpired before.mesh after.mesh (is_turned (scene_of before.state) (planes_of planes))
   pub kept : (answer ≡ Done → ⊥) → after ≡ before

@@ -25,12 +25,12 @@ module _ (old new : LeastFrames) (prefix : new.prefix.now ≡ old.prefix.now) (t
   module _ (state : state_seen new ≡ state_seen old) (most : new.most ≡ old.most) (frames : new.frames ≡ old.frames + 1) where
     -- the least mesh was made, and is shown or cut short, as the picture of the walk's state
     pub least-takes : {T E : Type 0} (before now : Told) (note : LeastNote) (answer : Result T E)
-        → IsLeastList old.wedges.n old.tolerance (priority_in (state_seen old)) new.least.leaves
+        → IsLeastList old.outlook.grid.n old.tolerance (priority_in (state_seen old)) new.least.leaves
         → note.worst ≡ worst_of (priority_in (state_seen old)) new.least.leaves → IsLeastNoted new note
         → OnOk answer (Stands before now (least_acts new note)) → OnErr answer (IsCutShort before now (least_acts new note))
         → (show : Show) (walk : Walk) (pictures : List Picture) → LeastFollows old show walk pictures → TakesFrame before now show walk pictures (LeastFollows new) answer
     least-takes before now note answer list worst noted ok err show walk pictures follows =
-        let n : ℕ = old.wedges.n in
+        let n : ℕ = old.outlook.grid.n in
         let here : State = state_seen old in
         let leaves : List ℕ = new.least.leaves in
         let members : List ℕ = list_of n list.has in
@@ -48,7 +48,7 @@ module _ (old new : LeastFrames) (prefix : new.prefix.now ≡ old.prefix.now) (t
           change = record { no_splits = refl; no_merges = refl };
         } in
         let number : new.frames ≡ 1 + length walk.frames = (let e = follows.made in omega (arith, e, frames)) in
-        let level : new.wedges.n ≡ n = ap (λ (s : State). s.grid.n) state in
+        let level : new.outlook.grid.n ≡ n = ap (λ (s : State). s.grid.n) state in
         let acts : List ℕ → ℕ → State → List ℕ → ℕ → ℕ → List Act = λ prefix_now k s l t v.
         WholeMesh prefix_now k (text_in s l) ∷ (ReportText (least_numbers k t v note.worst) ∷ []) in
         let is_acts : least_acts new note ≡ picture_acts (as_least old.prefix.now old.tolerance) (1 + length walk.frames) p =

@@ -3,8 +3,6 @@
 use Rattle.std.specs.Prelude.{◌≡◌, ℕ, ◌≤◌, List, [], ◌∷◌, ◌++◌, length, codes, decimal}
 use Rattle.mesh_defs.specs.MeshText.{vertices_of}
 use Rattle.mesh_defs.specs.State.{State, text_in}
-use Rattle.view_priority.specs.Camera.{view_from}
-use Rattle.wedgie_tree.specs.declared.wedges.TheConstants.{GREATEST_SPACING}
 use Rattle.least_mesh.specs.declared.least.LeastNote.{LeastNote}
 use Rattle.roam_script.specs.declared.limits.Limits.{Limits}
 use Rattle.roam_script.specs.declared.limits.TheConstants.{MOST_FRAMES}
@@ -17,7 +15,7 @@ use Rattle.run_words.specs.ShowView.{IsPrefixLength}
 
 -- what is seen, and the budget in force
 abbrev pub state_seen : LeastFrames → State
-state_seen f = record { grid = f.wedges; view = view_from f.camera f.spacing f.planes; budget = f.budget }
+state_seen f = record { grid = f.outlook.grid; view = f.outlook.view; budget = f.budget }
 
 -- the least meshes of this tolerance are shown, and a walk was followed
 pub record LeastFollows (f : LeastFrames) (show : Show) (walk : Walk) (pictures : List Picture) : Type 0 where
@@ -28,23 +26,21 @@ pub record LeastFollows (f : LeastFrames) (show : Show) (walk : Walk) (pictures 
 
 -- the limits are of this grid, these planes and so many frames
 pub record IsUnderLeast (f : LeastFrames) (limits : Limits) : Type 0 where
-  pub level : limits.n ≡ f.wedges.n
-  pub heights : limits.maxval ≡ f.wedges.maxval
-  pub in_force : limits.planes ≡ length f.planes
+  pub level : limits.n ≡ f.outlook.grid.n
+  pub heights : limits.maxval ≡ f.outlook.grid.maxval
+  pub in_force : limits.planes ≡ length f.outlook.view.planes
   pub made : limits.frames ≡ f.frames
 
--- a prefix of an accepted length, room for meshes of the grid, no more frames than may be, and a spacing in its bounds
+-- a prefix of an accepted length, room for meshes of the grid, and no more frames than may be
 pub record IsLeastReady (f : LeastFrames) : Type 0 where
   pub shown : IsPrefixLength f.prefix.now
-  pub level : f.least.n ≡ f.wedges.n
+  pub level : f.least.n ≡ f.outlook.grid.n
   pub few_frames : f.frames ≤ MOST_FRAMES
-  pub spacing_low : 1 ≤ f.spacing
-  pub spacing_high : f.spacing ≤ GREATEST_SPACING
 
 -- the counts of the note are those of the mesh
 pub record IsLeastNoted (f : LeastFrames) (note : LeastNote) : Type 0 where
   pub triangle_count : note.triangles ≡ length f.least.leaves
-  pub vertex_count : note.vertices ≡ length (vertices_of f.wedges.n f.least.leaves)
+  pub vertex_count : note.vertices ≡ length (vertices_of f.outlook.grid.n f.least.leaves)
 
 -- the line of the least mesh of this number: how many triangles and vertices, and the worst
 abbrev pub least_numbers : (number triangles vertices worst : ℕ) → List ℕ

@@ -2,12 +2,13 @@
 
 ghost use Rattle.std.specs.Prelude.{◌≡◌, ◌≢◌, ◌+◌, ◌<◌, ◌≤◌, IfOk, false, [], length};
 ghost use Rattle.mesh_defs.specs.Priority.{worst_of};
-ghost use Rattle.mesh_defs.specs.State.{start_state, priority_in};
+ghost use Rattle.mesh_defs.specs.State.{start_state, priority_in, text_in};
 ghost use Rattle.roam_edge.specs.declared.mesh_sink.TheConstants.{LONGEST_PREFIX, GREATEST_NUMBER};
 ghost use Rattle.roam_script.specs.Laws.{LiesInRange};
 ghost use Rattle.roam_script.specs.declared.limits.Limits.{Limits as LimitsSeen};
 ghost use Rattle.roam_script.specs.declared.limits.TheConstants.{MOST_FRAMES};
 ghost use Rattle.wedgie_tree.specs.declared.wedges.TheConstants.{GREATEST_SPACING};
+ghost use Rattle.obj_write.specs.MeshView.{view_text, IsView};
 ghost use Rattle.least_laws.specs.Least.{IsLeastList};
 ghost use Rattle.run_laws.specs.Moment.{Does};
 ghost use Rattle.run_laws.specs.Walk.{start_walk, state_after};
@@ -16,7 +17,7 @@ ghost use Rattle.run_words.specs.ShowView.{IsPrefixLength};
 ghost use Rattle.run_script.specs.LeastSeen.{state_seen, IsUnderLeast, LeastFollows, IsLeastReady, IsLeastNoted, least_numbers, least_acts};
 
 use arrayvec::ArrayVec;
-use cull_marks::{Plane, Planes};
+use cull_marks::Plane;
 use height_edit::raise_area;
 use least_mesh::{Least, LeastNote};
 use obj_write::MeshView;
@@ -26,18 +27,14 @@ use roam_num::push_bytes;
 use roam_script::{Limits, Line};
 use run_files::{FrameMaker, Outside, Text, push_placed, show_mesh};
 use std::alloc::Global;
-use view_priority::{Camera, Meter};
+use view_priority::{Camera, Meter, Outlook};
 use wedgie_tree::Wedges;
 
 /// Terrain, a view of it, and the least mesh of a tolerance. No mesh depends on the one before it.
 #[derive(Drop)]
 pub(crate) struct LeastFrames<'a> {
-    /// The heights as they are.
-    pub(crate) wedges: Wedges,
-    pub(crate) camera: Camera,
-    /// The world units of a grid step.
-    pub(crate) spacing: u32,
-    pub(crate) planes: Planes,
+    /// The heights as they are, and the view.
+    pub(crate) outlook: Outlook,
     /// The budget that a script has put in force, on which no mesh depends.
     pub(crate) budget: u32,
     /// The greatest budget that it may put in force.
@@ -71,10 +68,7 @@ impl<'a> LeastFrames<'a> {
         let wedges = Wedges::build(alloc, grid)?;
         let least = Least::make(alloc, n)?;
         Ok(LeastFrames {
-            wedges,
-            camera: Camera::new(0, 0, 0).unwrap(),
-            spacing,
-            planes: Planes::none(),
+            outlook: Outlook::start(wedges, spacing),
             budget,
             most: budget,
             least,
@@ -97,26 +91,24 @@ impl<'a> LeastFrames<'a> {
     {
         match line {
             Line::Blank | Line::Frame => {}
-            Line::Camera { x, y, z } => self.camera = Camera::new(x, y, z).unwrap(),
-            Line::Set { x, y, h } => self.wedges.set(x, y, h),
-            Line::Plane { a, b, c, d } => self.planes.add(Plane::new(a, b, c, d).unwrap()),
-            Line::NoPlanes => self.planes.clear(),
+            Line::Camera { x, y, z } => self.outlook.camera = Camera::new(x, y, z).unwrap(),
+            Line::Set { x, y, h } => self.outlook.wedges.set(x, y, h),
+            Line::Plane { a, b, c, d } => self.outlook.add_plane(Plane::new(a, b, c, d).unwrap()),
+            Line::NoPlanes => self.outlook.clear_planes(),
             Line::Budget { n } => self.budget = n,
             Line::Raise { x0, y0, x1, y1, dz } => {
-                raise_area(&mut self.wedges, x0, y0, x1, y1, dz)
+                raise_area(&mut self.outlook.wedges, x0, y0, x1, y1, dz)
             }
         }
     }
 
     /// Makes the least mesh of what is seen.
     fn make_mesh(&mut self) -> LeastNote
-        requires level { self.old.least.n ≡ self.old.wedges.n }
-        requires spacing_low { 1 ≤ self.old.spacing }
-        requires spacing_high { self.old.spacing ≤ GREATEST_SPACING }
+        requires level { self.old.least.n ≡ self.old.outlook.grid.n }
         requires few { self.old.frames < MOST_FRAMES }
         ensures state { state_seen self.new ≡ state_seen self.old }
         ensures level { self.new.least.n ≡ self.old.least.n }
-        ensures list { IsLeastList self.old.wedges.n self.old.tolerance (priority_in (state_seen self.old)) self.new.least.leaves }
+        ensures list { IsLeastList self.old.outlook.grid.n self.old.tolerance (priority_in (state_seen self.old)) self.new.least.leaves }
         ensures worst { result.worst ≡ worst_of (priority_in (state_seen self.old)) self.new.least.leaves }
         ensures noted { IsLeastNoted self.new result }
         ensures most { self.new.most ≡ self.old.most }
@@ -125,14 +117,24 @@ impl<'a> LeastFrames<'a> {
         ensures frames { self.new.frames ≡ self.old.frames + 1 }
     {
         self.frames += 1;
-        self.least.frame(
-            &self.wedges,
-            &self.camera,
-            self.spacing,
-            &self.planes,
-            self.tolerance,
-            &mut Meter::new(),
-        )
+        self.least
+            .frame_of(&self.outlook.scene(), self.tolerance, &mut Meter::new())
+    }
+
+    /// The mesh, as it is to be written.
+    fn view(&self) -> MeshView<'_>
+        requires level { self.now.least.n ≡ self.now.outlook.grid.n }
+        ensures valid { IsView result }
+        ensures text { view_text result ≡ text_in (state_seen self.now) self.now.least.leaves }
+    {
+        let scene = self.outlook.scene();
+        MeshView {
+            wedges: scene.wedges,
+            leaves: self.least.leaves(),
+            numbers: self.least.numbers(),
+            spacing: scene.spacing,
+            planes: scene.planes,
+        }
     }
 
     /// Writes the mesh, and then the line of its frame, of which this is the note. The line comes only after the mesh was finished.
@@ -142,21 +144,12 @@ impl<'a> LeastFrames<'a> {
         requires prefix_short { length self.now.prefix.now ≤ LONGEST_PREFIX }
         requires number_low { 1 ≤ self.now.frames }
         requires number_high { self.now.frames ≤ GREATEST_NUMBER }
-        requires level { self.now.least.n ≡ self.now.wedges.n }
-        requires spacing_low { 1 ≤ self.now.spacing }
-        requires spacing_high { self.now.spacing ≤ GREATEST_SPACING }
+        requires level { self.now.least.n ≡ self.now.outlook.grid.n }
         ensures same { O.is_same outside.old outside.new }
         ensures does { Does (O.moment outside.old) (O.moment outside.new) (least_acts self.now note.now) result }
     {
-        let view = MeshView {
-            wedges: &self.wedges,
-            leaves: self.least.leaves(),
-            numbers: self.least.numbers(),
-            spacing: self.spacing,
-            planes: &self.planes,
-        };
         let line = least_report(self.frames, note);
-        show_mesh(&view, self.prefix, self.frames, line.as_slice(), outside)
+        show_mesh(&self.view(), self.prefix, self.frames, line.as_slice(), outside)
     }
 }
 
@@ -168,11 +161,11 @@ impl<'a> FrameMaker for LeastFrames<'a> {
     ghost is_under = { λ f. IsUnderLeast f };
 
     fn limits(&self, lines: u32) -> Limits {
-        let grid = self.wedges.grid();
+        let grid = self.outlook.wedges.grid();
         Limits {
             n: grid.n(),
             maxval: grid.maxval(),
-            planes: self.planes.len(),
+            planes: self.outlook.planes.len(),
             line: lines + 1,
             frames: self.frames,
             budget: self.most,

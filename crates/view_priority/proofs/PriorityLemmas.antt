@@ -1,5 +1,5 @@
 -- Priorities of children and parents, and of one triangle from two cameras.
-use Rattle.std.proofs.Common.{◌≡◌, ◌⊎◌, inl, inr, ℕ, ◌+◌, ◌-◌, ◌*◌, ◌/◌, ◌%◌, ◌<◌, ◌≤◌, List, subst, ℤ, ◌-ℤ◌, unsigned_abs, refl, sym, ◌∙◌, arith}
+use Rattle.std.proofs.Common.{◌≡◌, ◌⊎◌, inl, inr, ℕ, ◌+◌, ◌-◌, ◌*◌, ◌/◌, ◌%◌, ◌<◌, ◌≤◌, ◌^◌, List, subst, ℤ, pos, ◌≤ℤ◌, ◌-ℤ◌, unsigned_abs, refl, sym, ◌∙◌, arith}
 use Rattle.std.proofs.lemmas.Bool.{cases_lt}
 use Rattle.std.proofs.lemmas.Int.{ints}
 use Rattle.mesh_defs.specs.declared.mark.Mark.{Mark}
@@ -8,13 +8,13 @@ use Rattle.mesh_defs.specs.Triangle.{IsSplittable}
 use Rattle.mesh_defs.specs.Ranking.{RanksBefore}
 use Rattle.mesh_defs.specs.Thickness.{thickness_of}
 use Rattle.mesh_defs.specs.BoundingBox.{BoundingBox, CameraAt, IsRoot, root_of, distance_of, box_of}
-use Rattle.mesh_defs.specs.View.{View, ViewPlane, mark_of}
+use Rattle.mesh_defs.specs.View.{View, mark_of}
 use Rattle.mesh_defs.specs.Priority.{seen_ratio, priority_of}
-use Rattle.cull_marks.specs.Cuboid.{as_box}
+use Rattle.cull_marks.specs.Cuboid.{as_box, IsWithinReach}
 use Rattle.cull_marks.specs.Nesting.{IsInside, IsOrdered}
 use Rattle.bintree_addr.specs.declared.cuboid.Cuboid.{Cuboid}
-use Rattle.mesh_defs.specs.State.{move_length}
-use Rattle.view_priority.specs.Camera.{view_from}
+use Rattle.mesh_defs.specs.State.{SceneState, priority_seen, move_length}
+use Rattle.view_priority.specs.Scene.{distance_seen, seen_from}
 use Rattle.view_priority.specs.Bounds.{priority_at}
 use Rattle.view_priority.proofs.RatioLemmas.{seen_ratio-order, seen_ratio-inherited}
 use Rattle.view_priority.proofs.NestLemmas.{distance_of-inside}
@@ -70,22 +70,36 @@ pub as_box-is : (c : Cuboid) (b : BoundingBox) → c.x0 ≡ b.x0 → c.x1 ≡ b.
     c.z1 ≡ b.z1 → as_box c ≡ b
 as_box-is c b x0 x1 y0 y1 z0 z1 = rw (x0, x1, y0, y1, z0, z1) refl
 
+-- a cuboid from 0 to 2^21, whose ends are in order, lies within reach
+pub as_box-within_reach : (c : Cuboid) (b : BoundingBox) → as_box c ≡ b → IsOrdered b → pos 0 ≤ℤ c.x0 → pos 0 ≤ℤ c.y0 → pos 0 ≤ℤ c.z0 →
+    c.x1 ≤ℤ pos (2 ^ 21) → c.y1 ≤ℤ pos (2 ^ 21) → c.z1 ≤ℤ pos (2 ^ 21) → IsWithinReach (2 ^ 21) (as_box c)
+as_box-within_reach c b is ordered x_from y_from z_from x_small y_small z_small =
+    let order : IsOrdered (as_box c) = subst IsOrdered (sym is) ordered in
+    let x = order.x in
+    let y = order.y in
+    let z = order.z in
+    record {
+      x_low = omega (arith, ints);
+      x_high = omega (arith, ints);
+      y_low = omega (arith, ints);
+      y_high = omega (arith, ints);
+      z_low = omega (arith, ints);
+      z_high = omega (arith, ints);
+    }
+
 -- the priority from the parts that the code finds
-pub priority_of-by_parts : (n : ℕ) (heights : List ℕ) (camera : CameraAt) (spacing : ℕ) (planes : List ViewPlane)
-    (t p e d : ℕ) (mark : Mark) → p ≡ seen_ratio mark e d → mark ≡ mark_of planes (box_of n heights spacing t) →
-    e ≡ thickness_of n heights t → d ≡ distance_of (box_of n heights spacing t) camera →
-    p ≡ priority_of n heights (view_from camera spacing planes) t
+pub priority_seen-by_parts : (s : SceneState) (t p e d : ℕ) (mark : Mark) → p ≡ seen_ratio mark e d →
+    mark ≡ mark_of s.view.planes (box_of s.grid.n s.grid.heights s.view.spacing t) →
+    e ≡ thickness_of s.grid.n s.grid.heights t → d ≡ distance_seen s t → p ≡ priority_seen s t
 unfolding priority_of
-priority_of-by_parts n heights camera spacing planes t p e d mark p_is mark_is e_is d_is =
-    p_is ∙ rw (mark_is, e_is, d_is) refl
+priority_seen-by_parts s t p e d mark p_is mark_is e_is d_is = p_is ∙ rw (mark_is, e_is, d_is) refl
 
 -- likewise at a distance of one's own
-pub priority_at-by_parts : (n : ℕ) (heights : List ℕ) (camera : CameraAt) (spacing : ℕ) (planes : List ViewPlane)
-    (t p e d k : ℕ) (mark : Mark) → p ≡ seen_ratio mark e d → mark ≡ mark_of planes (box_of n heights spacing t) →
-    e ≡ thickness_of n heights t → d ≡ k → p ≡ priority_at n heights (view_from camera spacing planes) t k
+pub priority_at-by_parts : (s : SceneState) (t p e d k : ℕ) (mark : Mark) → p ≡ seen_ratio mark e d →
+    mark ≡ mark_of s.view.planes (box_of s.grid.n s.grid.heights s.view.spacing t) →
+    e ≡ thickness_of s.grid.n s.grid.heights t → d ≡ k → p ≡ priority_at s.grid.n s.grid.heights s.view t k
 unfolding priority_at
-priority_at-by_parts n heights camera spacing planes t p e d k mark p_is mark_is e_is d_is =
-    p_is ∙ rw (mark_is, e_is, d_is) refl
+priority_at-by_parts s t p e d k mark p_is mark_is e_is d_is = p_is ∙ rw (mark_is, e_is, d_is) refl
 
 -- ---- another camera
 
@@ -96,27 +110,23 @@ back i j = omega (arith, ints)
 move_length-swapped : (from to : CameraAt) → move_length from to ≡ move_length to from
 move_length-swapped from to = rw (back from.x to.x, back from.y to.y, back from.z to.z) refl
 
-module _ (n : ℕ) (heights : List ℕ) (from to : CameraAt) (spacing : ℕ) (planes : List ViewPlane) (t slack : ℕ)
+module _ (s : SceneState) (to : CameraAt) (t slack : ℕ)
     (farther : (box : BoundingBox) (from to : CameraAt) → IsOrdered box →
     distance_of box to ≤ distance_of box from + move_length from to)
-    (ordered : IsOrdered (box_of n heights spacing t)) where
+    (ordered : IsOrdered (box_of s.grid.n s.grid.heights s.view.spacing t)) where
   -- within the slack the priority is at most that at the distance less the slack
-  pub priority_of-below_hi : move_length from to ≤ slack →
-      priority_of n heights (view_from to spacing planes) t ≤
-      priority_at n heights (view_from from spacing planes) t
-      (distance_of (box_of n heights spacing t) from - slack)
+  pub priority_seen-below_hi : move_length s.view.camera to ≤ slack →
+      priority_seen (seen_from to s) t ≤ priority_at s.grid.n s.grid.heights s.view t (distance_seen s t - slack)
   unfolding priority_of priority_at
-  priority_of-below_hi within =
-      let back = farther (box_of n heights spacing t) to from ordered in
-      let same = move_length-swapped from to in
-      seen_ratio-order (mark_of planes (box_of n heights spacing t)) _ _ _ _ (omega arith) (omega arith)
+  priority_seen-below_hi within =
+      let back = farther (box_of s.grid.n s.grid.heights s.view.spacing t) to s.view.camera ordered in
+      let same = move_length-swapped s.view.camera to in
+      seen_ratio-order (mark_of s.view.planes (box_of s.grid.n s.grid.heights s.view.spacing t)) _ _ _ _ (omega arith) (omega arith)
 
   -- and at least that at the distance and the slack
-  pub priority_of-above_lo : move_length from to ≤ slack →
-      priority_at n heights (view_from from spacing planes) t
-      (distance_of (box_of n heights spacing t) from + slack) ≤
-      priority_of n heights (view_from to spacing planes) t
+  pub priority_seen-above_lo : move_length s.view.camera to ≤ slack →
+      priority_at s.grid.n s.grid.heights s.view t (distance_seen s t + slack) ≤ priority_seen (seen_from to s) t
   unfolding priority_of priority_at
-  priority_of-above_lo within =
-      let there = farther (box_of n heights spacing t) from to ordered in
-      seen_ratio-order (mark_of planes (box_of n heights spacing t)) _ _ _ _ (omega arith) (omega arith)
+  priority_seen-above_lo within =
+      let there = farther (box_of s.grid.n s.grid.heights s.view.spacing t) s.view.camera to ordered in
+      seen_ratio-order (mark_of s.view.planes (box_of s.grid.n s.grid.heights s.view.spacing t)) _ _ _ _ (omega arith) (omega arith)

@@ -1,3 +1,4 @@
 pub mod Camera
 pub mod Meter
 pub mod Bounds
+pub mod Scene

@@ -1,14 +1,14 @@
 -- One leaf more, and one question.
 use Rattle.std.proofs.Common.{◌<◌, ◌++◌, ◌∷◌, [], max, length, take, ap, ap₂, sym, ◌∙◌, arith}
 use Rattle.std.proofs.lemmas.List.{take_more}
-use Rattle.mesh_defs.specs.Priority.{priority_of, worst_of}
-use Rattle.view_priority.specs.Camera.{view_from}
+use Rattle.mesh_defs.specs.Priority.{worst_of}
+use Rattle.mesh_defs.specs.State.{priority_seen}
 use Rattle.least_laws.proofs.LeastLemmas.{worst_of-next}
 use Rattle.least_mesh.proofs.list.worst_leaf.Goals as goal
 
 pub loop-leaf-preserved : goal.loop-leaf-preserved
 loop-leaf-preserved c =
-    let p = priority_of c.args.w.now.n c.args.w.now.heights (view_from c.args.camera.now c.args.spacing c.args.planes.now) in
+    let p = priority_seen c.args.scene.now in
     let before = take c.loop-leaf.leaf-index c.args.leaves.now in
     let below : c.loop-leaf.leaf-index < length c.args.leaves.now = omega arith in
     let count = c.rank.ensures.count in

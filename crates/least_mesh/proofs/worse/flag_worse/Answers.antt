@@ -1,8 +1,6 @@
 -- One address a turn.
 use Rattle.std.proofs.Common.{◌≡◌, ◌+◌, ◌*◌, ◌^◌, length, ap, subst, sym, ◌∙◌, arith}
-use Rattle.mesh_defs.specs.HeightField.{HeightField}
-use Rattle.mesh_defs.specs.Priority.{priority_of}
-use Rattle.view_priority.specs.Camera.{view_from}
+use Rattle.mesh_defs.specs.State.{priority_seen}
 use Rattle.least_laws.specs.Least.{is_worse}
 use Rattle.least_mesh.specs.Asked.{AreFlagged}
 use Rattle.least_mesh.proofs.AskedLemmas.{asked-none, asked-yes, asked-no, asked-all}
@@ -11,23 +9,24 @@ use Rattle.least_mesh.proofs.worse.flag_worse.Goals as goal
 
 pub loop-number-init : goal.loop-number-init
 loop-number-init c =
-    let p = priority_of c.args.w.now.n c.args.w.now.heights (view_from c.args.camera.now c.args.spacing c.args.planes.now) in
+    let p = priority_seen c.args.scene.now in
     record {
-      flagged = asked-none c.args.w.now.n c.args.tolerance (length c.args.flags.now) p c.clear.new.flags c.clear.ensures;
+      flagged = asked-none c.args.scene.now.grid.n c.args.tolerance (length c.args.flags.now) p c.clear.new.flags c.clear.ensures;
       asked = omega arith;
       count = omega arith;
     }
 
 pub loop-number-preserved : goal.loop-number-preserved
 loop-number-preserved c =
-    let p = priority_of c.args.w.now.n c.args.w.now.heights (view_from c.args.camera.now c.args.spacing c.args.planes.now) in
-    let wanted = is_worse c.args.w.now.n c.args.tolerance p in
+    let p = priority_seen c.args.scene.now in
+    let wanted = is_worse c.args.scene.now.grid.n c.args.tolerance p in
     let more = c.is_worse.ensures.asked in
     let asked = c.loop-number.invariant.asked in
     let no_less = c.is_worse.ensures.count in
     let count = c.loop-number.invariant.count in
-    let grid : c.n.result ≡ c.args.w.now.n = c.n.ensures.value ∙ ap (λ (g : HeightField). g.n) c.grid.ensures.value in
-    let end : c.end-number-end.result ≡ 2 ^ (2 * c.args.w.now.n + 1) = c.end-number-end.ensures.value ∙ ap (λ k. 2 ^ (2 * k + 1)) grid in
+    let grid : c.n.result ≡ c.args.scene.now.grid.n = c.n.ensures.value in
+    let end : c.end-number-end.result ≡ 2 ^ (2 * c.args.scene.now.grid.n + 1) = c.end-number-end.ensures.value
+    ∙ ap (λ k. 2 ^ (2 * k + 1)) grid in
     let test = c.loop-number-test.true in
     let long = c.loop-number.auto.flags in
     let room = c.requires.room in
@@ -48,10 +47,11 @@ loop-number-preserved c =
 
 pub returns-clause-worse : goal.returns-clause-worse
 returns-clause-worse c =
-    let p = priority_of c.args.w.now.n c.args.w.now.heights (view_from c.args.camera.now c.args.spacing c.args.planes.now) in
+    let p = priority_seen c.args.scene.now in
     let end = c.end-number-end.ensures in
-    let grid : c.n.result ≡ c.args.w.now.n = c.n.ensures.value ∙ ap (λ (g : HeightField). g.n) c.grid.ensures.value in
-    let value : c.end-number-end.result ≡ 2 ^ (2 * c.args.w.now.n + 1) = end.value ∙ ap (λ k. 2 ^ (2 * k + 1)) grid in
+    let grid : c.n.result ≡ c.args.scene.now.grid.n = c.n.ensures.value in
+    let value : c.end-number-end.result ≡ 2 ^ (2 * c.args.scene.now.grid.n + 1) = end.value ∙ ap (λ k. 2 ^ (2 * k + 1)) grid in
     let most = c.loop-number.auto.number-end end.low in
     let last = c.loop-number-test.false in
-    asked-all c.args.w.now.n c.args.tolerance c.loop-number.number p c.loop-number.flags (omega arith) c.loop-number.invariant.flagged
+    asked-all c.args.scene.now.grid.n c.args.tolerance c.loop-number.number p c.loop-number.flags (omega arith)
+    c.loop-number.invariant.flagged

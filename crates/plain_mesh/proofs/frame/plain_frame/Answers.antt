@@ -1,6 +1,5 @@
 -- Where forced splits along the ranking stop is the frame; the laws say the rest.
 use Rattle.std.proofs.Common.{◌≡◌, List, All, ap, subst, sym, ◌∙◌}
-use Rattle.mesh_defs.specs.HeightField.{HeightField}
 use Rattle.mesh_defs.specs.Triangle.{IsSplittable}
 use Rattle.mesh_defs.specs.Priority.{priority_of}
 use Rattle.bintree_addr.specs.declared.rank.Rank.{Rank}
@@ -12,7 +11,7 @@ use Rattle.plain_mesh.proofs.frame.plain_frame.Goals as goal
 pub refined-requires-clause-splittable : goal.refined-requires-clause-splittable
 refined-requires-clause-splittable c =
     let view = view_from c.args.camera.now c.args.spacing c.args.planes.now in
-    let grid : c.n.result ≡ c.args.w.now.n = c.n.ensures.value ∙ ap (λ (g : HeightField). g.n) c.grid.ensures.value in
+    let grid : c.n.result ≡ c.args.w.now.n = c.n.ensures.value in
     subst (λ (l : List Rank). All (λ (r : Rank). IsSplittable c.n.result r.tri) l) (sym c.deref.ensures.value)
     (subst (λ n. All (λ (r : Rank). IsSplittable n r.tri) c.in_ok-ranking.ranking.items) (sym grid)
     (All-splittable c.args.w.now.n (priority_of c.args.w.now.n c.args.w.now.heights view) c.in_ok-ranking.ranking.items c.in_ok-ranking.ensures))
@@ -21,7 +20,7 @@ pub returns-clause-frame : goal.returns-clause-frame
 returns-clause-frame c =
     let view = view_from c.args.camera.now c.args.spacing c.args.planes.now in
     let frame = c.in_ok-frame.frame in
-    let grid : c.n.result ≡ c.args.w.now.n = c.n.ensures.value ∙ ap (λ (g : HeightField). g.n) c.grid.ensures.value in
+    let grid : c.n.result ≡ c.args.w.now.n = c.n.ensures.value in
     let stop : IsStop c.args.w.now.n c.args.budget c.in_ok-ranking.ranking.items frame.split.members frame.worst frame.blocked =
     subst (λ (l : List Rank). IsStop c.args.w.now.n c.args.budget l frame.split.members frame.worst frame.blocked) c.deref.ensures.value
     (subst (λ n. IsStop n c.args.budget c.deref.result.now frame.split.members frame.worst frame.blocked) grid c.in_ok-frame.ensures.stop) in

@@ -1,7 +1,6 @@
 -- Each address counts where its priority is positive, up to the last splittable one.
 use Rattle.std.proofs.Common.{◌≡◌, ◌<◌, ◌≤◌, ◌+◌, ◌*◌, ◌^◌, refl, subst, ◌∙◌, arith}
-use Rattle.mesh_defs.specs.Priority.{priority_of}
-use Rattle.view_priority.specs.Camera.{view_from}
+use Rattle.mesh_defs.specs.State.{priority_seen}
 use Rattle.plain_mesh.specs.Ranks.{positives_below}
 use Rattle.plain_mesh.proofs.PickLemmas.{not_positive, positives-yes, positives-no}
 use Rattle.plain_mesh.proofs.ranking.count_positive.Goals.{then-is_positive, else-is_positive}
@@ -9,7 +8,7 @@ use Rattle.plain_mesh.proofs.ranking.count_positive.Goals as goal
 
 pub loop-number-preserved : goal.loop-number-preserved
 loop-number-preserved c =
-    let p = priority_of c.args.w.now.n c.args.w.now.heights (view_from c.args.camera.now c.args.spacing c.args.planes.now) in
+    let p = priority_seen c.args.scene.now in
     let value = c.rank_at-entry.ensures.value in
     elim c.if-is_positive.branch [
       | then-is_positive w ↦
@@ -28,9 +27,9 @@ loop-number-preserved c =
 
 pub returns : goal.returns
 returns c =
-    let p = priority_of c.args.w.now.n c.args.w.now.heights (view_from c.args.camera.now c.args.spacing c.args.planes.now) in
+    let p = priority_seen c.args.scene.now in
     let bound = c.end-number-end.ensures in
     let most = c.loop-number.auto.number-end bound.low in
     let least = c.loop-number-test.false in
-    let last : c.loop-number.number ≡ 2 ^ (2 * c.args.w.now.n + 1) = (let value = bound.value in omega arith) in
+    let last : c.loop-number.number ≡ 2 ^ (2 * c.args.scene.now.grid.n + 1) = (let value = bound.value in omega arith) in
     subst (λ k. c.loop-number.count ≡ positives_below p k) last c.loop-number.invariant.counted

@@ -5,7 +5,7 @@ use Rattle.plain_mesh.proofs.ranking.end.Goals as goal
 
 pub returns-clause-low : goal.returns-clause-low
 returns-clause-low c =
-    let high = c.n.ensures.high in
+    let high = c.n.ensures.in_grid.1 in
     let few : 2 * c.n.result + 1 ≤ 23 = omega arith in
     let most : 2 ^ (2 * c.n.result + 1) ≤ 2 ^ 23 = pow_mono few in
     let some : 1 ≤ 2 * c.n.result + 1 = omega arith in

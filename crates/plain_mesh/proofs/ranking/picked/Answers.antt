@@ -1,8 +1,7 @@
 -- Each address is taken where its priority is positive, up to the last splittable one.
 use Rattle.std.proofs.Common.{◌≡◌, ◌+◌, ◌*◌, ◌^◌, List, ap, refl, subst, sym, ◌∙◌, arith}
-use Rattle.mesh_defs.specs.Priority.{priority_of}
+use Rattle.mesh_defs.specs.State.{priority_seen}
 use Rattle.bintree_addr.specs.declared.rank.Rank.{Rank}
-use Rattle.view_priority.specs.Camera.{view_from}
 use Rattle.plain_mesh.specs.Ranks.{IsPicked}
 use Rattle.plain_mesh.proofs.PickLemmas.{not_positive, IsPicked-push, IsPicked-skip}
 use Rattle.plain_mesh.proofs.ranking.picked.Goals.{then-is_positive+in_ok-push, else-is_positive}
@@ -10,7 +9,7 @@ use Rattle.plain_mesh.proofs.ranking.picked.Goals as goal
 
 pub loop-number-preserved : goal.loop-number-preserved
 loop-number-preserved c =
-    let p = priority_of c.args.w.now.n c.args.w.now.heights (view_from c.args.camera.now c.args.spacing c.args.planes.now) in
+    let p = priority_seen c.args.scene.now in
     elim c.if-is_positive.branch [
       | then-is_positive+in_ok-push w ↦
           subst (λ (l : List Rank). IsPicked p (c.loop-number.number + 1) l)
@@ -28,5 +27,5 @@ returns c =
     let bound = c.end-number-end.ensures in
     let most = c.loop-number.auto.number-end bound.low in
     let least = c.loop-number-test.false in
-    let last : c.loop-number.number ≡ 2 ^ (2 * c.args.w.now.n + 1) = (let value = bound.value in omega arith) in
-    subst (λ k. IsPicked (priority_of c.args.w.now.n c.args.w.now.heights (view_from c.args.camera.now c.args.spacing c.args.planes.now)) k c.loop-number.ranks.items) last c.loop-number.invariant
+    let last : c.loop-number.number ≡ 2 ^ (2 * c.args.scene.now.grid.n + 1) = (let value = bound.value in omega arith) in
+    subst (λ k. IsPicked (priority_seen c.args.scene.now) k c.loop-number.ranks.items) last c.loop-number.invariant

@@ -2,12 +2,12 @@
 use Rattle.std.proofs.Common.{◌≡◌, ℕ, [], length, take}
 use Rattle.least_laws.specs.Sweep.{is_flagged}
 use Rattle.certificate_laws.specs.Certificate.{named_in, AreReasons}
-use Rattle.roam_certify.specs.Sight.{seen_by}
+use Rattle.mesh_defs.specs.State.{priority_seen}
 use Rattle.roam_certify.proofs.checking.first_bad.Given as goal
 
 abbrev pub invariant-loop-index : goal.invariant-loop-index
 invariant-loop-index l = record {
   room : length l.flags ≡ length l.fn.flags;
-  good : AreReasons l.n (seen_by l.view) l.worst [] (take l.index l.reasons);
+  good : AreReasons l.n (priority_seen l.scene) l.worst [] (take l.index l.reasons);
   same : (a : ℕ) → is_flagged l.flags a ≡ named_in (take l.index l.reasons) a;
 }

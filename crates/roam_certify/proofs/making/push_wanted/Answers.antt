@@ -5,7 +5,7 @@ use Rattle.mesh_defs.specs.Triangle.{IsAddress}
 use Rattle.tiling_laws.proofs.DescentLemmas.{IsAddress-splittable}
 use Rattle.least_laws.proofs.SweepLemmas.{splittable-lt}
 use Rattle.certificate_laws.specs.declared.reason.Kind.TheVariants.{Want}
-use Rattle.roam_certify.specs.Sight.{seen_by}
+use Rattle.mesh_defs.specs.State.{priority_seen}
 use Rattle.roam_certify.proofs.MakingLemmas.{pushed-list, pushed-reasoned, pushed-grown, pushed-listed}
 use Rattle.roam_certify.proofs.making.push_wanted.Goals as goal
 
@@ -16,9 +16,10 @@ pub returns-then-not-may_be_wanted-clause-wanted : goal.returns-then-not-may_be_
 returns-then-not-may_be_wanted-clause-wanted c less high =
     let none = c.may_be_wanted.ensures.value.0 c.if-not-may_be_wanted.true in
     let big : 4 ≤ c.args.t = none.0 in
-    let address : IsAddress c.args.view.now.wedges.now.n c.args.t =
-    subst (λ k. IsAddress k c.args.t) (sym c.requires.seen.grid) (IsAddress-splittable c.args.n c.args.t c.requires.splittable) in
-    let falls : seen_by c.args.view.now c.args.t ≤ seen_by c.args.view.now (c.args.t / 2) = (c.falling_laws.ensures _ _ _).child c.args.t address big in
+    let address : IsAddress c.args.scene.now.grid.n c.args.t =
+    subst (λ k. IsAddress k c.args.t) (sym c.requires.grid) (IsAddress-splittable c.args.n c.args.t c.requires.splittable) in
+    let falls : priority_seen c.args.scene.now c.args.t ≤ priority_seen c.args.scene.now (c.args.t / 2) =
+    (c.falling_laws.ensures _ _ _).child c.args.t address big in
     let named = c.requires.before less (c.args.t / 2) (omega arith) (omega arith) (omega arith) in
     absurd (false≢true (sym none.1 ∙ c.requires.listed.same (c.args.t / 2) ∙ named))
 
@@ -39,7 +40,9 @@ returns-clause-wanted c less high =
 
 pub returns-clause-reasoned : goal.returns-clause-reasoned
 returns-clause-reasoned c =
-    let high : c.args.worst ≤ c.told-priority.result = c.if-priority-worst.false in
-    pushed-reasoned c.args.n c.args.limit Want c.args.t c.args.flags.now c.args.reasons.now.items (seen_by c.args.view.now) c.args.worst
-    c.push_new.new.flags c.push_new.new.reasons.items c.requires.listed c.requires.splittable (subst (λ k. c.args.worst ≤ k) c.told-priority.ensures.value high)
+    let high : c.args.worst ≤ c.priority-priority.result = c.if-priority-worst.false in
+    pushed-reasoned c.args.n c.args.limit Want c.args.t c.args.flags.now c.args.reasons.now.items (priority_seen c.args.scene.now)
+    c.args.worst
+    c.push_new.new.flags c.push_new.new.reasons.items c.requires.listed c.requires.splittable
+    (subst (λ k. c.args.worst ≤ k) c.priority-priority.ensures.value high)
     c.requires.reasoned c.in_ok-push_new.ensures.pushed

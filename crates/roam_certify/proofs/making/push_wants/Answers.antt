@@ -3,7 +3,7 @@ use Rattle.std.proofs.Common.{◌≡◌, ◌*◌, ◌<◌, ◌≤◌, IfSome, Is
 use Rattle.mesh_defs.specs.Triangle.{IsSplittable}
 use Rattle.bintree_laws.proofs.LevelLemmas.{level_of-below}
 use Rattle.certificate_laws.specs.Certificate.{named_in}
-use Rattle.roam_certify.specs.Sight.{seen_by}
+use Rattle.mesh_defs.specs.State.{priority_seen}
 use Rattle.roam_certify.specs.Making.{AreWanted}
 use Rattle.roam_certify.proofs.MakingLemmas.{wanted-next}
 use Rattle.roam_certify.proofs.making.push_wants.Goals as goal
@@ -18,11 +18,12 @@ push_wanted-requires c =
     record { low = low; coarse = (level_of-below c.loop-number.number (2 * c.args.n) low).1 (omega arith) } in
     record {
       in_grid = c.requires.in_grid;
-      seen = c.requires.seen;
+      grid = c.requires.grid;
       listed = c.loop-number.invariant.listed;
       reasoned = c.loop-number.invariant.reasoned;
       splittable = subst (λ t. IsSplittable c.args.n t) (sym visited) splittable;
-      before = subst (λ t. AreWanted c.args.limit (seen_by c.args.view.now) c.args.worst t c.loop-number.reasons.items) (sym visited) c.loop-number.invariant.wanted;
+      before = subst (λ t. AreWanted c.args.limit (priority_seen c.args.scene.now) c.args.worst t c.loop-number.reasons.items)
+          (sym visited) c.loop-number.invariant.wanted;
     }
 
 pub loop-number-preserved : goal.loop-number-preserved
@@ -31,8 +32,9 @@ loop-number-preserved c =
     record {
       listed = c.in_ok-push_wanted.ensures.listed;
       reasoned = c.in_ok-push_wanted.ensures.reasoned;
-      wanted = wanted-next c.args.limit (seen_by c.args.view.now) c.args.worst c.loop-number.number c.loop-number.reasons.items c.push_wanted.new.reasons.items
+      wanted = wanted-next c.args.limit (priority_seen c.args.scene.now) c.args.worst c.loop-number.number c.loop-number.reasons.items
+          c.push_wanted.new.reasons.items
           c.in_ok-push_wanted.ensures.grown c.loop-number.invariant.wanted
-          (subst (λ t. length c.push_wanted.new.reasons.items < c.args.limit → c.args.worst ≤ seen_by c.args.view.now t →
+          (subst (λ t. length c.push_wanted.new.reasons.items < c.args.limit → c.args.worst ≤ priority_seen c.args.scene.now t →
           IsTrue (named_in c.push_wanted.new.reasons.items t)) visited c.in_ok-push_wanted.ensures.wanted);
     }

@@ -1,8 +1,8 @@
 -- The worst of the first ones.
 use Rattle.std.proofs.Common.{◌≡◌, take}
 use Rattle.mesh_defs.specs.Priority.{worst_of}
-use Rattle.roam_certify.specs.Sight.{seen_by}
+use Rattle.mesh_defs.specs.State.{priority_seen}
 use Rattle.roam_certify.proofs.verdict.worst_leaf.Given as goal
 
 abbrev pub invariant-loop-leaf : goal.invariant-loop-leaf
-invariant-loop-leaf l = l.worst ≡ worst_of (seen_by l.view) (take l.leaf-index l.leaves)
+invariant-loop-leaf l = l.worst ≡ worst_of (priority_seen l.scene) (take l.leaf-index l.leaves)

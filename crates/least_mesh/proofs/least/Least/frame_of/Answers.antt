@@ -4,15 +4,14 @@ use Rattle.std.proofs.lemmas.List.{with_items_is}
 use Rattle.std.specs.Vec.{with_items}
 use Rattle.mesh_defs.specs.Triangle.{level_of}
 use Rattle.mesh_defs.specs.ClosedSet.{leaves_of}
-use Rattle.mesh_defs.specs.Priority.{priority_of}
-use Rattle.view_priority.specs.Camera.{view_from}
+use Rattle.mesh_defs.specs.State.{priority_seen}
 use Rattle.least_laws.specs.Least.{IsLeastList}
 use Rattle.least_laws.specs.Sweep.{is_flagged}
 use Rattle.least_laws.proofs.LeastLemmas.{least_list-mesh}
 use Rattle.obj_write.specs.Numbers.{numbers_of}
 use Rattle.least_mesh.specs.Kept.{GridMesh}
 use Rattle.least_mesh.proofs.FrameLemmas.{listed, levels-listed, conforming-listed}
-use Rattle.least_mesh.proofs.least.Least.frame.Goals as goal
+use Rattle.least_mesh.proofs.least.Least.frame_of.Goals as goal
 
 pub number-vertices-requires-clause-levels : goal.number-vertices-requires-clause-levels
 number-vertices-requires-clause-levels c =
@@ -20,13 +19,15 @@ number-vertices-requires-clause-levels c =
     levels-listed c.self.inside.n (is_flagged c.deref.result.now) (take c.list_leaves-self-inside.result c.deref-2.result.now)
     (ap (take c.list_leaves-self-inside.result) room ∙ c.list_leaves-self-inside.ensures.listed)
 
-pub worst_leaf-worst-requires-clause-levels : goal.worst_leaf-worst-requires-clause-levels
-worst_leaf-worst-requires-clause-levels c =
+pub worst_leaf-worst-requires : goal.worst_leaf-worst-requires
+worst_leaf-worst-requires c =
     let room = c.deref-2.ensures.value ∙ with_items_is c.self.inside.room c.list_leaves-self-inside.new.list (c.list_leaves-self-inside.auto.list ∙ c.deref_mut-3.ensures.len) in
-    let grid : c.self.inside.n ≡ c.args.w.now.n = ap (λ (z : GridMesh). z.n) c.self.view_is ∙ sym c.requires.grid in
-    subst (λ n. All (λ a. level_of a ≤ 2 * n) (take c.list_leaves-self-inside.result c.deref-2.result.now)) grid
-    (levels-listed c.self.inside.n (is_flagged c.deref.result.now) (take c.list_leaves-self-inside.result c.deref-2.result.now)
-    (ap (take c.list_leaves-self-inside.result) room ∙ c.list_leaves-self-inside.ensures.listed))
+    let grid : c.self.inside.n ≡ c.args.scene.now.grid.n = ap (λ (z : GridMesh). z.n) c.self.view_is ∙ sym c.requires.grid in
+    record {
+      levels = subst (λ n. All (λ a. level_of a ≤ 2 * n) (take c.list_leaves-self-inside.result c.deref-2.result.now)) grid
+          (levels-listed c.self.inside.n (is_flagged c.deref.result.now) (take c.list_leaves-self-inside.result c.deref-2.result.now)
+          (ap (take c.list_leaves-self-inside.result) room ∙ c.list_leaves-self-inside.ensures.listed));
+    }
 
 pub invariant_of-self : goal.invariant_of-self
 invariant_of-self c =
@@ -53,16 +54,17 @@ invariant_of-self c =
 
 pub returns-clause-list : goal.returns-clause-list
 returns-clause-list c =
-    let p = priority_of c.args.w.now.n c.args.w.now.heights (view_from c.args.camera.now c.args.spacing c.args.planes.now) in
+    let p = priority_seen c.args.scene.now in
     let count = c.list_leaves-self-inside.result in
     let list = c.list_leaves-self-inside.new.list in
-    let grid : c.self.inside.n ≡ c.args.w.now.n = ap (λ (z : GridMesh). z.n) c.self.view_is ∙ sym c.requires.grid in
+    let grid : c.self.inside.n ≡ c.args.scene.now.grid.n = ap (λ (z : GridMesh). z.n) c.self.view_is ∙ sym c.requires.grid in
     let asked = with_items c.self.inside.flags c.flag_worse.new.flags in
     let before = c.deref_mut-2.ensures.value ∙ with_items_is c.self.inside.flags c.flag_worse.new.flags (c.flag_worse.auto.flags ∙ c.deref_mut.ensures.len) in
     let read = c.deref.ensures.value ∙ with_items_is asked c.sweep.new.flags (c.sweep.auto.flags ∙ c.deref_mut-2.ensures.len) in
     let room = with_items_is c.self.inside.room list (c.list_leaves-self-inside.auto.list ∙ c.deref_mut-3.ensures.len) in
-    subst (λ (l : List ℕ). IsLeastList c.args.w.now.n c.args.tolerance p (take count l)) (sym room)
-    (listed c.args.w.now.n c.self.inside.n c.args.tolerance count p c.flag_worse.new.flags c.deref_mut-2.result.now c.sweep.new.flags c.deref.result.now list
+    subst (λ (l : List ℕ). IsLeastList c.args.scene.now.grid.n c.args.tolerance p (take count l)) (sym room)
+    (listed c.args.scene.now.grid.n c.self.inside.n c.args.tolerance count p c.flag_worse.new.flags c.deref_mut-2.result.now
+    c.sweep.new.flags c.deref.result.now list
     grid before read c.flag_worse.ensures.worse c.sweep.ensures.least c.list_leaves-self-inside.ensures.listed)
 
 pub returns-clause-least : goal.returns-clause-least

@@ -1,0 +1,121 @@
+//! A scene that its owner changes.
+
+ghost use Rattle.std.specs.Prelude.{◌≡◌, ◌<◌, ◌≤◌, ◌^◌, ◌-ℤ◌, [], ◌∷◌, ◌++◌, length, unsigned_abs};
+ghost use Rattle.mesh_defs.specs.View.{start_view};
+ghost use Rattle.mesh_defs.specs.State.{move_length};
+ghost use Rattle.cull_marks.specs.declared.planes.TheConstants.{MOST_PLANES};
+ghost use Rattle.wedgie_tree.specs.declared.wedges.TheConstants.{GREATEST_SPACING};
+ghost use Rattle.view_priority.specs.Scene.{seen_from, seen_within};
+
+use crate::{Camera, Scene};
+use cull_marks::{Plane, Planes};
+use std::marker::Model;
+use wedgie_tree::Wedges;
+
+/// Heights and a view of them, whose owner changes them from frame to frame.
+#[derive(Drop)]
+pub struct Outlook {
+    /// The heights as they are, with the thicknesses and boxes of their triangles.
+    pub wedges: Wedges,
+    /// Where the viewer is.
+    pub camera: Camera,
+    /// The world units of a grid step.
+    pub spacing: u32,
+    /// The view planes in force.
+    pub planes: Planes,
+}
+
+impl Model for Outlook {
+    ghost use Rattle.std.specs.Prelude.{◌≤◌};
+    ghost use Rattle.mesh_defs.specs.State.{SceneState};
+    ghost use Rattle.wedgie_tree.specs.declared.wedges.TheConstants.{GREATEST_SPACING};
+    ghost use Rattle.view_priority.specs.Camera.{view_from};
+
+    ghost Value = { SceneState };
+
+    ghost view = { λ o. record { grid = o.wedges; view = view_from o.camera o.spacing o.planes } };
+
+    ghost invariant = { λ o. (1 ≤ o.spacing) × (o.spacing ≤ GREATEST_SPACING) };
+}
+
+impl Outlook {
+    /// What is seen of the wedges from (0, 0, 0), without a plane.
+    pub fn start(wedges: Wedges, spacing: u32) -> Outlook
+        requires spacing_low { 1 ≤ spacing }
+        requires spacing_high { spacing ≤ GREATEST_SPACING }
+        ensures { result ≡ record { grid = wedges; view = start_view spacing } }
+    {
+        Outlook {
+            wedges,
+            camera: Camera::new(0, 0, 0).unwrap(),
+            spacing,
+            planes: Planes::none(),
+        }
+    }
+
+    /// The scene as it is.
+    pub fn scene(&self) -> Scene<'_>
+        ensures { result ≡ self.now }
+    {
+        Scene {
+            wedges: &self.wedges,
+            camera: &self.camera,
+            spacing: self.spacing,
+            planes: &self.planes,
+        }
+    }
+
+    /// How long the way of the camera to a place is: the sum of its lengths along the three axes.
+    pub fn way_to(&self, camera: Camera) -> u64
+        ensures value { result ≡ move_length self.now.view.camera camera }
+        ensures small { result ≤ 2 ^ 33 }
+    {
+        let x = length_along(self.camera.x(), camera.x());
+        let y = length_along(self.camera.y(), camera.y());
+        let z = length_along(self.camera.z(), camera.z());
+        x + y + z
+    }
+
+    /// Puts the camera to a place, and answers how long the way there was.
+    pub fn move_to(&mut self, camera: Camera) -> u64
+        ensures value { self.new ≡ seen_from camera self.old }
+        ensures way { result ≡ move_length self.old.view.camera camera }
+        ensures small { result ≤ 2 ^ 33 }
+    {
+        let way = self.way_to(camera);
+        self.camera = camera;
+        way
+    }
+
+    /// Puts one plane more in force.
+    pub fn add_plane(&mut self, plane: Plane)
+        requires room { length self.old.view.planes < MOST_PLANES }
+        ensures { self.new ≡ seen_within (self.old.view.planes ++ plane ∷ []) self.old }
+    {
+        self.planes.add(plane);
+    }
+
+    /// Puts a whole set of planes in force in the place of those before.
+    pub fn put_planes(&mut self, planes: &Planes)
+        ensures { self.new ≡ seen_within planes.now self.old }
+    {
+        self.planes.put(planes);
+    }
+
+    /// Takes all planes away.
+    pub fn clear_planes(&mut self)
+        ensures { self.new ≡ seen_within [] self.old }
+    {
+        self.planes.clear();
+    }
+}
+
+/// How far it is from one coordinate of a camera to another.
+fn length_along(from: i64, to: i64) -> u64
+    requires from_size { unsigned_abs from ≤ 2 ^ 30 }
+    requires to_size { unsigned_abs to ≤ 2 ^ 30 }
+    ensures value { result ≡ unsigned_abs (to -ℤ from) }
+    ensures small { result ≤ 2 ^ 31 }
+{
+    to.abs_diff(from)
+}
