@@ -20,6 +20,7 @@ use Rattle.deferred_loop.specs.Seen.{SeenMesh, best_key, worst_key, sure, IsDeci
 use Rattle.deferred_loop.specs.Kept.{told_of, IsSettled, IsMet, IsAllowed, IsNoneMet}
 use Rattle.deferred_loop.specs.declared.queued.Head.{Head}
 use Rattle.deferred_loop.specs.declared.queued.Last.{Last}
+use Rattle.deferred_loop.specs.declared.queued.Located.{Located}
 use Rattle.deferred_loop.specs.declared.limit.Limit.{Limit}
 use Rattle.deferred_loop.specs.declared.limit.Limit.TheVariants.{Over, After, Zero}
 use Rattle.deferred_loop.proofs.KeyLemmas.{present, present_is, best_key-upper, worst_key-lower, sure_key, unsure, best_key-above, no_later_by, can_merge_with}
@@ -34,13 +35,15 @@ asked_level w told a same address = omega (arith, level-le w.n a address, told_g
 
 -- a head with no triangle to ask is decided
 pub last_decided : (s : SeenMesh) (h : Last) → IsLastHead s h → h.unasked ≡ None → IsDecided s h.rank.tri
-last_decided s h last none = subst (λ z. MatchOption z (IsDecided s h.rank.tri) (IsToAsk s h.rank.tri)) none last.unasked
+last_decided s h last none = subst (λ z. MatchOption z (IsDecided s h.rank.tri) (λ (t : Located). IsToAsk s h.rank.tri t.tri)) none last.unasked
 
 -- the triangle to ask
-pub last_part : (s : SeenMesh) (h : Last) (t : ℕ) → IsLastHead s h → h.unasked ≡ Some t → IsInDiamond s.set.n h.rank.tri t × (s.known t ≡ false)
+pub last_part : (s : SeenMesh) (h : Last) (t : Located) → IsLastHead s h → h.unasked ≡ Some t →
+    IsInDiamond s.set.n h.rank.tri t.tri × (s.known t.tri ≡ false)
 last_part s h t last some =
-    let next : IsToAsk s h.rank.tri t = subst (λ z. MatchOption z (IsDecided s h.rank.tri) (IsToAsk s h.rank.tri)) some last.unasked in
-    (next.in_diamond, unsure s t next.not_sure)
+    let next : IsToAsk s h.rank.tri t.tri =
+    subst (λ z. MatchOption z (IsDecided s h.rank.tri) (λ (u : Located). IsToAsk s h.rank.tri u.tri)) some last.unasked in
+    (next.in_diamond, unsure s t.tri next.not_sure)
 
 -- the set of a settled mesh is closed
 pub grid_set_here : (w : DeferredFrame) (s : SeenMesh) → IsSettled w s → IsGridSet s.set.n s.set.members

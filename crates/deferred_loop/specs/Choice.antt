@@ -50,8 +50,8 @@ pub record IsNextEnd (n budget : ℕ) (priority : ℕ → ℕ) (members : List �
 
 -- the choice is right
 abbrev pub IsNext : (n budget : ℕ) (priority : ℕ → ℕ) (members : List ℕ) → Next → Type 0
-IsNext n budget priority members (Split f) = IsNextSplit n budget priority members f
-IsNext n budget priority members (Merge d) = IsNextMerge n budget priority members d
+IsNext n budget priority members (Split f) = IsNextSplit n budget priority members f.tri
+IsNext n budget priority members (Merge d) = IsNextMerge n budget priority members d.tri
 IsNext n budget priority members (End e) = IsNextEnd n budget priority members e
 
 -- A frame changes no more than it must: nothing is merged where the set only grows, nothing split where it only shrinks, and at

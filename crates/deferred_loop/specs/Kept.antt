@@ -1,7 +1,7 @@
 -- What the loop keeps, half way through a frame: keys that are true, charges for what was asked, and stamps that hold.
 -- All of it is this project's own.
--- Words: told_of, IsFrameOf, IsTrueKey, IsSound, IsSettled, IsOldLeaf, IsOldMember, IsCharged, IsAskedOnly, SplitsUnasked, IsCaughtUp, IsStamped,
--- IsMet, IsAllowed, IsNoneMet.
+-- Words: told_of, IsFrameOf, IsTrueKey, IsSound, IsSettled, IsOldLeaf, IsOldMember, IsCharged, IsAskedOnly, SplitsUnasked, IsStepAt,
+-- IsCaughtUp, IsStamped, IsMet, IsAllowed, IsNoneMet.
 use Rattle.std.specs.Prelude.{◌≡◌, ℕ, ◌+◌, ◌-◌, ◌*◌, ◌^◌, ◌<◌, ◌≤◌, ◌⊎◌, ⊤, true, false, cond, nat_eq, IsTrue, List, [], length, Contains, Some}
 use Rattle.std.specs.List.{IsDistinct}
 use Rattle.mesh_defs.specs.ClosedSet.{leaves_of, among}
@@ -89,6 +89,12 @@ abbrev pub SplitsUnasked : Next → SeenMesh → SeenMesh → ℕ → ℕ → Ty
 SplitsUnasked (Split t) before after count more = (after ≡ before) × (more ≡ count)
 SplitsUnasked (Merge t) before after count more = ⊤
 SplitsUnasked (End e) before after count more = ⊤
+
+-- the triangle of the step is at the slot that the choice names
+abbrev pub IsStepAt : (ℕ → ℕ) → Next → Type 0
+IsStepAt tri_at (Split t) = tri_at t.slot.0 ≡ t.tri
+IsStepAt tri_at (Merge t) = tri_at t.slot.0 ≡ t.tri
+IsStepAt tri_at (End e) = ⊤
 
 -- all that was fresh is entered
 pub record IsCaughtUp (w : DeferredFrame) (r : Readings) (odometer : ℕ) (before after : SeenMesh) : Type 0 where

@@ -89,7 +89,7 @@ pub record IsLastHead (s : SeenMesh) (h : Last) : Type 0 where
       (e : ℕ) × IsInDiamond s.set.n a e × IsNoLater (worst_key s e) e (worst_key s h.rank.tri) h.rank.tri
   pub unasked : MatchOption h.unasked
       (IsDecided s h.rank.tri)
-      (IsToAsk s h.rank.tri)
+      (λ t. IsToAsk s h.rank.tri t.tri)
 
 -- a told rank is known from now on, and all else stays
 pub record IsTold (before after : SeenMesh) (r : Rank) : Type 0 where

@@ -11,19 +11,17 @@ use Rattle.closure_laws.proofs.OrderLemmas.{before_cases, before-no_later}
 use Rattle.edge_laws.specs.Edge.{mate_of}
 use Rattle.edge_laws.specs.Slots.{address_at, has_children, IsLive, IsPool, HasLeaf, diamond_size}
 use Rattle.edge_laws.proofs.SlotLemmas.{size_one, size_two}
-use Rattle.edge_laws.proofs.MateLemmas.{mate_of-low}
-use Rattle.edge_laws.specs.Chief.{chief_of}
 use Rattle.frame_steps.specs.Stamps.{Stamp}
 use Rattle.split_queue.specs.First.{IsFirstRank}
 use Rattle.force_split.specs.Chain.{chain_size}
 use Rattle.triangle_pool.specs.Slots.{PoolState}
 use Rattle.deferred_loop.specs.Seen.{upper_of, lower_of, best_key, worst_key, sure, IsHead}
 use Rattle.roam_mesh.specs.Mesh.{slot_of, pool_members}
-use Rattle.roam_mesh.specs.Parts.{PartsState, stamp_in, best_of, worst_of, entry_at, entry_of, seen_parts, is_leaf_at, is_ready_at, is_chief_at, is_out, leaf_rank, diamond_rank, blank, IsWhole, IsPlaced, IsParts}
+use Rattle.roam_mesh.specs.Parts.{PartsState, stamp_in, best_of, worst_of, entry_at, entry_of, seen_parts, is_leaf_at, is_chief_at, is_out, leaf_rank, diamond_rank, blank, IsWhole, IsPlaced, IsParts}
 use Rattle.roam_mesh.specs.Keys.{is_sure}
 use Rattle.roam_mesh.specs.declared.entry.Entry.{Entry}
 use Rattle.roam_mesh.proofs.PlaceLemmas.{slot_of-at, live_below}
-use Rattle.roam_mesh.proofs.RoleLemmas.{leaf_parts, leaf_live, ready_live, leaf_of-at, leaf_at-of, some_leaf}
+use Rattle.roam_mesh.proofs.RoleLemmas.{leaf_parts, leaf_live, leaf_of-at, leaf_at-of, some_leaf}
 
 -- ---- the keys
 
@@ -60,18 +58,6 @@ pub merge_key_of : (parts : PartsState) (out : ℕ → Bool) (s : ℕ) → IsPla
 merge_key_of parts out s placed chief in_place =
     placed.merge s ∙ cond-true (is_chief_at parts.pool.pairs s && not (is_out parts.pool.pairs out s)) (Some (diamond_rank parts (address_at parts.pool.pairs s))) None
     (and_from (is_chief_at parts.pool.pairs s) (not (is_out parts.pool.pairs out s)) chief (ap not in_place))
-
--- so where it has a mate that is live
-pub mate_live : (parts : PartsState) (out : ℕ → Bool) (s t : ℕ) (rank : Rank) → IsPlaced parts out → slice_index_or parts.merge s None ≡ Some rank →
-    (mate_of (address_at parts.pool.pairs s) ≡ 0 → ⊥) → address_at parts.pool.pairs t ≡ mate_of (address_at parts.pool.pairs s) → IsLive parts.pool.pairs t
-mate_live parts out s t rank placed key some at =
-    let a : ℕ = address_at parts.pool.pairs s in
-    let chief = (merge_key parts out s rank placed key).0 in
-    let ready = (and_parts (is_ready_at parts.pool.pairs s) (nat_eq (chief_of a) a) chief).0 in
-    subst (λ z. 2 ≤ z) (sym at) (⊎_elim
-    (λ none. absurd (some (let z : mate_of a ≡ 0 = omega arith in z)))
-    (λ more. mate_of-low a (ready_live parts.pool.pairs s ready) more)
-    (cases_lt (mate_of a) 1))
 
 -- ---- as the loop sees it
 
@@ -128,7 +114,7 @@ settled_placed parts s none = ap (λ xs. among xs s) none
 
 leaf_head : (parts : PartsState) (slot : Slot) → IsParts parts → parts.fresh ≡ [] → is_leaf_at parts.pool.pairs slot.0 ≡ true →
     IsFirstRank parts.split slot (leaf_rank parts slot.0) →
-    IsHead (seen_parts parts) (record { rank = leaf_rank parts slot.0; sure = is_sure (entry_at parts slot.0) })
+    IsHead (seen_parts parts) (record { rank = leaf_rank parts slot.0; slot = slot; sure = is_sure (entry_at parts slot.0) })
 leaf_head parts slot is none leaf first =
     let a : ℕ = address_at parts.pool.pairs slot.0 in
     let own = entry_of-at parts slot.0 is.pool (leaf_live parts.pool.pairs slot.0 leaf) in
@@ -163,15 +149,19 @@ leaf_head parts slot is none leaf first =
 -- the first key of the split queue is the head, and e is what is kept of its slot
 pub split_head : (parts : PartsState) (slot : Slot) (rank : Rank) (e : Entry) (certain : Bool) → IsWhole parts → IsParts parts → (seen_parts parts).fresh ≡ [] →
     IsFirstRank parts.split slot rank → e ≡ slice_index_or parts.entries slot.0 e → certain ≡ is_sure e →
-    IsHead (seen_parts parts) (record { rank = rank; sure = certain })
+    IsHead (seen_parts parts) (record { rank = rank; slot = slot; sure = certain })
 split_head parts slot rank e certain whole is settled first read says =
     let key = split_key parts (among parts.fresh) slot.0 rank is.placed first.0 in
     let head = leaf_head parts slot is (settled_fresh parts settled) key.0 (subst (IsFirstRank parts.split slot) key.2 first) in
     let below = live_below parts.pool.pairs slot.0 (leaf_live parts.pool.pairs slot.0 key.0) in
     let room = whole.entries in
     let kept : e ≡ entry_at parts slot.0 = get_or_read parts.entries slot.0 e (omega arith) read blank in
-    subst (λ b. IsHead (seen_parts parts) (record { rank = rank; sure = b })) (sym (says ∙ ap is_sure kept))
-    (subst (λ r. IsHead (seen_parts parts) (record { rank = r; sure = is_sure (entry_at parts slot.0) })) (sym key.2) head)
+    subst (λ b. IsHead (seen_parts parts) (record { rank = rank; slot = slot; sure = b })) (sym (says ∙ ap is_sure kept))
+    (subst (λ r. IsHead (seen_parts parts) (record { rank = r; slot = slot; sure = is_sure (entry_at parts slot.0) })) (sym key.2) head)
+
+-- the leaf that its rank names is at its slot
+pub head_at : (parts : PartsState) (slot : Slot) (rank : Rank) → IsParts parts → IsFirstRank parts.split slot rank → address_at parts.pool.pairs slot.0 ≡ rank.tri
+head_at parts slot rank is first = sym (ap (λ (r : Rank). r.tri) (split_key parts (among parts.fresh) slot.0 rank is.placed first.0).2)
 
 -- there is one
 pub split_some : (parts : PartsState) → IsParts parts → (seen_parts parts).fresh ≡ [] → ((slot : Slot) → slice_index_or parts.split slot.0 None ≡ None) → ⊥

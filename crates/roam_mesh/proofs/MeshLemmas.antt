@@ -6,18 +6,18 @@ use Rattle.std.proofs.lemmas.Option.{none-some}
 use Rattle.mesh_defs.specs.ClosedSet.{among}
 use Rattle.bintree_addr.specs.declared.rank.Rank.{Rank}
 use Rattle.edge_laws.specs.Edge.{mate_of}
-use Rattle.edge_laws.specs.Slots.{address_at, split_set, IsLive}
+use Rattle.edge_laws.specs.Slots.{address_at, split_set, IsLive, IsPool}
 use Rattle.edge_laws.proofs.SlotLemmas.{pair_of, set-has_children}
 use Rattle.frame_steps.specs.Deferred.{IsEntry}
 use Rattle.frame_steps.specs.Stamps.{Stamp, Readings, StampsHold}
 use Rattle.deferred_loop.specs.Seen.{IsQuiet}
 use Rattle.deferred_loop.specs.Log.{Log}
-use Rattle.roam_mesh.specs.Mesh.{slot_of, stamp_of, pool_members, with_expired, uncounted, OnlyEntriesStamped, seen_of}
+use Rattle.roam_mesh.specs.Mesh.{MeshState, slot_of, stamp_of, pool_members, with_expired, uncounted, OnlyEntriesStamped, seen_of}
 use Rattle.roam_mesh.specs.Parts.{PartsState, entry_at, entry_of, blank, best_of, worst_of, better_of, deadline_of, stamp_in, seen_parts, mesh_of, is_leaf_at, is_chief_at, is_entry_at, is_out, IsParts, IsWhole}
 use Rattle.roam_mesh.specs.Change.{expired_at}
 use Rattle.roam_mesh.specs.declared.entry.Entry.{Entry}
 use Rattle.roam_mesh.proofs.PlaceLemmas.{at-slot_of, one_slot, live_below}
-use Rattle.roam_mesh.proofs.RoleLemmas.{entry_of-at, entry_live}
+use Rattle.roam_mesh.proofs.RoleLemmas.{entry_of-at, entry_at-of, entry_live}
 use Rattle.std.proofs.Math.Path.{fun_ext}
 use Rattle.deferred_loop.specs.Choice.{Priorities}
 use Rattle.deferred_loop.specs.Promise.{IsAtMost, IsAtLeast, AreStampsGood}
@@ -174,21 +174,20 @@ expired_stamps parts log s t whole is live at a =
     ∙ ap stamp_in (get_or-set_other parts.entries s (slot_of pairs a) (record (entry_at parts s) { expired = true }) blank (λ same. apart (sym at ∙ at-slot_of pairs s a live same)))
     ∙ sym (stamp_of-parts parts log a))
 
--- a triangle that is not live has none
-pub dead_stamps : (parts : PartsState) (log : Log) (t : ℕ) → IsParts parts
-    → ((s : ℕ) → IsLive parts.pool.pairs s → address_at parts.pool.pairs s ≡ t → ⊥) → (a : ℕ) →
-    stamp_of (mesh_of parts log) a ≡ cond (nat_eq t a) (option_map with_expired (stamp_of (mesh_of parts log) a))
-    (stamp_of (mesh_of parts log) a)
-dead_stamps parts log t is dead a =
-    let s = slot_of parts.pool.pairs a in
-    chosen t a (stamp_of (mesh_of parts log) a) (option_map with_expired (stamp_of (mesh_of parts log) a)) (stamp_of (mesh_of parts log) a)
-    (λ own.
-    let none : (entry_at parts s).stamped ≡ false = false_from_ne_true (entry_at parts s).stamped (λ stamped.
-    let live = entry_live parts.pool.pairs s (is.placed.stamped s stamped) in
-    dead s live (at-slot_of parts.pool.pairs s a live refl ∙ sym own)) in
-    let nothing : stamp_of (mesh_of parts log) a ≡ None = stamp_of-parts parts log a ∙ unstamped (entry_at parts s) none in
-    nothing ∙ sym (ap (option_map with_expired) nothing))
+-- and where the triangle is not live nothing changes
+pub dead_stamps : (mesh : MeshState) (t : ℕ) → IsPool mesh.pool.n mesh.pool.pairs → OnlyEntriesStamped mesh
+    → ((s : ℕ) → IsLive mesh.pool.pairs s → address_at mesh.pool.pairs s ≡ t → ⊥) → (a : ℕ) →
+    stamp_of mesh a ≡ cond (nat_eq t a) (option_map with_expired (stamp_of mesh a)) (stamp_of mesh a)
+dead_stamps mesh t pool only dead a =
+    chosen t a (stamp_of mesh a) (option_map with_expired (stamp_of mesh a)) (stamp_of mesh a)
+    (λ own. let none = nothing own (stamp_of mesh a) refl in none ∙ sym (ap (option_map with_expired) none))
     (λ apart. refl)
+  where
+    nothing : t ≡ a → (stamp : Option Stamp) → stamp_of mesh a ≡ stamp → stamp_of mesh a ≡ None
+    nothing own None is = is
+    nothing own (Some stamp) is =
+        let there = entry_at-of mesh.pool a pool (only a stamp is) in
+        absurd (dead (slot_of mesh.pool.pairs a) (entry_live mesh.pool.pairs (slot_of mesh.pool.pairs a) there.0) (there.1 ∙ sym own))
 
 -- what is counted has no part in where all stands
 pub uncounted_parts : (parts : PartsState) → IsParts parts → IsParts (record parts { pool = uncounted parts.pool })

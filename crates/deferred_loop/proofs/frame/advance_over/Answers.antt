@@ -15,10 +15,10 @@ split_at-requires g c κs within =
     let few = small.0 in
     let counters = subst (λ (z : PoolSet). IsCountedBy (g.M.QueuedMesh.seen c.args.mesh.now).set z c.steps.splits c.steps.merges) (sym c.in-Split.ensures.asked.set) c.steps.invariant.counters in
     let rising = counters_small (g.M.QueuedMesh.seen c.args.mesh.now).set (g.M.QueuedMesh.seen c.choose.new.mesh).set c.steps.splits c.steps.merges counters c.requires.1.1.1.1.1.1.1.1.1.1.1 small.0 small.1 in
-    let next = subst (λ (z : PoolSet). IsNextSplit g.w.n g.w.budget g.w.priority z.members c.in-Split.t) (sym c.in-Split.ensures.asked.set) c.in-Split.ensures.next in
+    let next = subst (λ (z : PoolSet). IsNextSplit g.w.n g.w.budget g.w.priority z.members c.in-Split.t.tri) (sym c.in-Split.ensures.asked.set) c.in-Split.ensures.next in
     let room = subst (λ z. HasRoom g.w.n z g.w.budget) (sym counters.most) c.requires.1.1.1.1.1.1.1.1.1.1.0 in
     let hold = subst (λ (z : Readings). ReadingsHold g.w.n g.w.priority c.args.odometer z) (sym (c.in-Split.ensures.readings ∙ c.steps.invariant.readings)) c.requires.1.1.1.1.1.0 in
-    (within.0, (within.1, (c.requires.1.1.0, (c.in-Split.ensures.told ∙ c.steps.invariant.told ∙ c.requires.1.1.1.0, (c.in-Split.ensures.asked.settled, (next, (hold, (c.requires.1.1.1.1.1.1.1.1.0, (omega arith, (rising.0, room))))))))))
+    (within.0, (within.1, (c.requires.1.1.0, (c.in-Split.ensures.told ∙ c.steps.invariant.told ∙ c.requires.1.1.1.0, (c.in-Split.ensures.asked.settled, (next, (hold, (c.requires.1.1.1.1.1.1.1.1.0, (omega arith, (rising.0, (room, c.in-Split.ensures.at)))))))))))
 
 pub steps-smaller-in-Split : goal.steps-smaller-in-Split
 steps-smaller-in-Split g c =
@@ -57,9 +57,9 @@ merge_at-requires g c κs within =
     let few = small.1 in
     let counters = subst (λ (z : PoolSet). IsCountedBy (g.M.QueuedMesh.seen c.args.mesh.now).set z c.steps.splits c.steps.merges) (sym c.in-Merge.ensures.asked.set) c.steps.invariant.counters in
     let rising = counters_small (g.M.QueuedMesh.seen c.args.mesh.now).set (g.M.QueuedMesh.seen c.choose.new.mesh).set c.steps.splits c.steps.merges counters c.requires.1.1.1.1.1.1.1.1.1.1.1 small.0 small.1 in
-    let next = subst (λ (z : PoolSet). IsNextMerge g.w.n g.w.budget g.w.priority z.members c.in-Merge.t) (sym c.in-Merge.ensures.asked.set) c.in-Merge.ensures.next in
+    let next = subst (λ (z : PoolSet). IsNextMerge g.w.n g.w.budget g.w.priority z.members c.in-Merge.t.tri) (sym c.in-Merge.ensures.asked.set) c.in-Merge.ensures.next in
     let hold = subst (λ (z : Readings). ReadingsHold g.w.n g.w.priority c.args.odometer z) (sym (c.in-Merge.ensures.readings ∙ c.steps.invariant.readings)) c.requires.1.1.1.1.1.0 in
-    (within.0, (within.1, (c.requires.1.1.0, (c.in-Merge.ensures.told ∙ c.steps.invariant.told ∙ c.requires.1.1.1.0, (c.in-Merge.ensures.asked.settled, (next, (hold, (c.requires.1.1.1.1.1.1.1.1.0, (omega arith, rising.1)))))))))
+    (within.0, (within.1, (c.requires.1.1.0, (c.in-Merge.ensures.told ∙ c.steps.invariant.told ∙ c.requires.1.1.1.0, (c.in-Merge.ensures.asked.settled, (next, (hold, (c.requires.1.1.1.1.1.1.1.1.0, (omega arith, (rising.1, c.in-Merge.ensures.at))))))))))
 
 pub steps-smaller : goal.steps-smaller
 steps-smaller g c =

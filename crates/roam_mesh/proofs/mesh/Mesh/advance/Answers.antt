@@ -1,4 +1,4 @@
-use Rattle.std.proofs.Common.{◌≡◌, ℕ, ◌+◌, List, sym, ◌∙◌, subst}
+use Rattle.std.proofs.Common.{◌≡◌, ℕ, ◌+◌, List, sym, subst}
 use Rattle.mesh_defs.specs.ClosedSet.{among}
 use Rattle.mesh_defs.specs.GridSet.{IsGridSet}
 use Rattle.mesh_defs.specs.Falling.{IsFalling}
@@ -7,7 +7,7 @@ use Rattle.frame_steps.specs.Stamps.{StampsHold}
 use Rattle.frame_steps.proofs.RunLemmas.{run_set}
 use Rattle.frame_steps.proofs.FrameLemmas.{merge_spares}
 use Rattle.deferred_loop.specs.Promise.{IsAtMost, IsAtLeast, AreStampsGood}
-use Rattle.roam_mesh.specs.Mesh.{MeshState, stamp_of, pool_members, seen_of, OnlyEntriesStamped}
+use Rattle.roam_mesh.specs.Mesh.{MeshState, stamp_of, pool_members, seen_of}
 use Rattle.roam_mesh.specs.Chosen.{SparesChosen}
 use Rattle.edge_laws.specs.Slots.{IsPool}
 use Rattle.roam_mesh.specs.Parts.{QueuedState, mesh_of}
@@ -33,7 +33,7 @@ advance-steps-requires-clause-stamps g c =
 pub advance-steps-requires-clause-valid : goal.advance-steps-requires-clause-valid
 advance-steps-requires-clause-valid g c =
     split_list-closed c.deref_mut.result.now.parts.pool.n c.deref_mut.result.now.parts.pool.pairs
-    (subst (λ (q : QueuedState). IsPool q.parts.pool.n q.parts.pool.pairs) (c.deref.ensures ∙ sym c.deref_mut.ensures.value) c.pool-before.ensures.valid)
+    (subst (λ (z : MeshState). IsPool z.pool.n z.pool.pairs) (sym (seen_behind _ _ _ c.deref_mut.ensures.value c.self.view_is)) c.pool-before.ensures.valid)
 
 pub returns-clause-most : goal.returns-clause-most
 returns-clause-most g c =
@@ -78,9 +78,5 @@ returns-clause-spares g c =
     let told = g.G.Gauge.told c.args.gauge.now in
     spared c.args.self.now.pool.n c.args.budget told.of (pool_members c.args.self.now.pool)
     (pool_members (mesh_of c.advance-steps.new.mesh.parts c.advance-steps.new.mesh.log).pool)
-    (subst (λ (z : MeshState). IsGridSet z.pool.n (pool_members z.pool)) (seen_behind _ _ _ c.deref.ensures c.self.view_is)
-    (split_list-closed c.deref.result.now.parts.pool.n c.deref.result.now.parts.pool.pairs c.pool-before.ensures.valid))
+    (split_list-closed c.args.self.now.pool.n c.args.self.now.pool.pairs c.pool-before.ensures.valid)
     (subst (λ n. IsFalling n told.of) c.requires.grid c.requires.falls)
-
-pub returns-clause-only : goal.returns-clause-only
-returns-clause-only g c = subst (λ (q : QueuedState). OnlyEntriesStamped (mesh_of q.parts q.log)) c.deref-2.ensures c.pool-after.ensures.only

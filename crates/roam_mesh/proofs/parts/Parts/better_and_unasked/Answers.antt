@@ -8,11 +8,11 @@ use Rattle.roam_mesh.specs.Parts.{PartsState, IsWhole, entry_at, leaf_rank}
 use Rattle.roam_mesh.specs.Keys.{is_sure, IsBetterFirst}
 use Rattle.roam_mesh.specs.declared.entry.Entry.{Entry}
 use Rattle.roam_mesh.proofs.KeyLemmas.{read_entry, better_pair, unasked_first, unasked_second, known_alone, known_two}
-use Rattle.roam_mesh.proofs.parts.Parts.unasked.Goals as goal
-use Rattle.roam_mesh.proofs.parts.Parts.unasked.Goals.{then-is_sure-2, else-is_sure-2}
+use Rattle.roam_mesh.proofs.parts.Parts.better_and_unasked.Goals as goal
+use Rattle.roam_mesh.proofs.parts.Parts.better_and_unasked.Goals.{then-is_sure-2, else-is_sure-2}
 
-pub returns-then-is_sure : goal.returns-then-is_sure
-returns-then-is_sure c =
+pub returns-then-is_sure-clause-unasked : goal.returns-then-is_sure-clause-unasked
+returns-then-is_sure-clause-unasked c =
     let parts : PartsState = c.args.self.now in
     let pool : IsPool parts.pool.n parts.pool.pairs = subst (λ (z : PartsState). IsPool z.pool.n z.pool.pairs) c.self.view_is c.n-n.ensures.valid in
     let whole : IsWhole c.args.self.now = subst IsWhole c.self.view_is c.self.invariant.0 in
@@ -21,8 +21,8 @@ returns-then-is_sure c =
     known_alone parts pool c.args.s.0 c.better_first-other.result.0 (better_pair parts c.args.s.0 c.better_first-other.result None c.in_default.is c.better_first-other.ensures)
     (subst (λ (z : Entry). is_sure z ≡ true) entry (sym c.is_sure.ensures ∙ c.if-is_sure.true))
 
-pub returns-else-is_sure : goal.returns-else-is_sure
-returns-else-is_sure c =
+pub returns-else-is_sure-clause-unasked : goal.returns-else-is_sure-clause-unasked
+returns-else-is_sure-clause-unasked c =
     let parts : PartsState = c.args.self.now in
     let pool : IsPool parts.pool.n parts.pool.pairs = subst (λ (z : PartsState). IsPool z.pool.n z.pool.pairs) c.self.view_is c.n-n.ensures.valid in
     let whole : IsWhole c.args.self.now = subst IsWhole c.self.view_is c.self.invariant.0 in
@@ -31,8 +31,8 @@ returns-else-is_sure c =
     unasked_first parts pool c.args.s.0 c.better_first-other.result.0 None (better_pair parts c.args.s.0 c.better_first-other.result None c.in_default.is c.better_first-other.ensures)
     (subst (λ (z : Entry). is_sure z ≡ false) entry (sym c.is_sure.ensures ∙ c.if-is_sure.false))
 
-pub returns-then-ranks_before : goal.returns-then-ranks_before
-returns-then-ranks_before c =
+pub returns-then-ranks_before-clause-unasked : goal.returns-then-ranks_before-clause-unasked
+returns-then-ranks_before-clause-unasked c =
     let parts : PartsState = c.args.self.now in
     let pool : IsPool parts.pool.n parts.pool.pairs = subst (λ (z : PartsState). IsPool z.pool.n z.pool.pairs) c.self.view_is c.n-n.ensures.valid in
     let whole : IsWhole c.args.self.now = subst IsWhole c.self.view_is c.self.invariant.0 in
@@ -49,8 +49,8 @@ returns-then-ranks_before c =
           (subst (λ (z : Rank). ComesFirst c.leaf_rank-best.result z) c.leaf_rank-own.ensures (c.ranks_before.ensures.0 c.if-ranks_before.true)),
     ))
 
-pub returns-else-not-is_sure-2 : goal.returns-else-not-is_sure-2
-returns-else-not-is_sure-2 c =
+pub returns-else-not-is_sure-2-clause-unasked : goal.returns-else-not-is_sure-2-clause-unasked
+returns-else-not-is_sure-2-clause-unasked c =
     let parts : PartsState = c.args.self.now in
     let pool : IsPool parts.pool.n parts.pool.pairs = subst (λ (z : PartsState). IsPool z.pool.n z.pool.pairs) c.self.view_is c.n-n.ensures.valid in
     let whole : IsWhole c.args.self.now = subst IsWhole c.self.view_is c.self.invariant.0 in
@@ -59,8 +59,8 @@ returns-else-not-is_sure-2 c =
     unasked_first parts pool c.args.s.0 c.better_first-other.result.0 c.better_first-other.result.1 c.better_first-other.ensures
     (subst (λ (z : Entry). is_sure z ≡ false) own (sym c.is_sure-2.ensures ∙ c.if-not-is_sure.true))
 
-pub returns-then-ranks_before-2 : goal.returns-then-ranks_before-2
-returns-then-ranks_before-2 c =
+pub returns-then-ranks_before-2-clause-unasked : goal.returns-then-ranks_before-2-clause-unasked
+returns-then-ranks_before-2-clause-unasked c =
     let parts : PartsState = c.args.self.now in
     let pool : IsPool parts.pool.n parts.pool.pairs = subst (λ (z : PartsState). IsPool z.pool.n z.pool.pairs) c.self.view_is c.n-n.ensures.valid in
     let whole : IsWhole c.args.self.now = subst IsWhole c.self.view_is c.self.invariant.0 in
@@ -78,8 +78,8 @@ returns-then-ranks_before-2 c =
           (w.ranks_before-else-is_sure-2.ensures.0 (sym w.value-is ∙ c.if-ranks_before-2.true))))
     ])
 
-pub returns-else-ranks_before-2 : goal.returns-else-ranks_before-2
-returns-else-ranks_before-2 c =
+pub returns-else-ranks_before-2-clause-unasked : goal.returns-else-ranks_before-2-clause-unasked
+returns-else-ranks_before-2-clause-unasked c =
     let parts : PartsState = c.args.self.now in
     let pool : IsPool parts.pool.n parts.pool.pairs = subst (λ (z : PartsState). IsPool z.pool.n z.pool.pairs) c.self.view_is c.n-n.ensures.valid in
     let whole : IsWhole c.args.self.now = subst IsWhole c.self.view_is c.self.invariant.0 in
