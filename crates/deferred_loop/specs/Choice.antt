@@ -60,5 +60,6 @@ pub record IsSparing (n budget : ℕ) (priority : ℕ → ℕ) (start last : Lis
   pub size : length start + splits ≡ length last + merges
   pub no_merge : IsSubset (among start) (among last) → merges ≡ 0
   pub no_split : IsSubset (among last) (among start) → splits ≡ 0
-  pub bound : (ranking : List ℕ) (chosen : ℕ) (loose : List ℕ) → IsRanking n priority ranking → IsRankClosure n budget ranking chosen (among last) →
+  pub bound : (ranking : List ℕ) (chosen : ℕ) (loose : List ℕ) → IsRanking n priority ranking →
+      IsRankClosure n budget ranking chosen (among last) →
       AreLoose n ranking chosen start loose → merges ≤ length loose

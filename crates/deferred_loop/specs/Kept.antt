@@ -72,7 +72,8 @@ pub record IsCharged (w : DeferredFrame) (evaluations : ℕ) (s : SeenMesh) (add
   pub distinct : IsDistinct nat_eq asked
   pub each : (a : ℕ) → IsTrue (among asked a) → IsOpen w a
   pub reserve : List ℕ
-  pub leaf : (a : ℕ) → Contains (leaves_of w.n (among s.set.members)) a → s.known a ≡ false → IsTrue (among reserve a) ⊎ IsOldLeaf w s asked a
+  pub leaf : (a : ℕ) → Contains (leaves_of w.n (among s.set.members)) a → s.known a ≡ false → IsTrue (among reserve a)
+      ⊎ IsOldLeaf w s asked a
   pub member : (a : ℕ) → CanMerge w.n (among s.set.members) a → s.known a ≡ false → IsTrue (among reserve a) ⊎ IsOldMember w s asked a
   pub total : count + length reserve ≤ evaluations + 2 * length asked + 6 * (added + removed)
 
@@ -82,7 +83,8 @@ pub record IsAskedOnly (w : DeferredFrame) (before after : SeenMesh) (count more
   pub stamp : (a : ℕ) → after.stamps a ≡ before.stamps a
   pub settled : IsSettled w after
   pub counted : count ≤ more
-  pub charged : (evaluations added removed : ℕ) → IsCharged w evaluations before added removed count → IsCharged w evaluations after added removed more
+  pub charged : (evaluations added removed : ℕ) → IsCharged w evaluations before added removed count →
+      IsCharged w evaluations after added removed more
 
 -- where the choice is a split, nothing was asked for it: the mesh and the count are as before
 abbrev pub SplitsUnasked : Next → SeenMesh → SeenMesh → ℕ → ℕ → Type 0

@@ -30,13 +30,18 @@ use Rattle.roam_mesh.proofs.KeyLemmas.{rank_cases, better_least, diamond_alone, 
 -- no triangle of a diamond is before the one that its key names
 diamond_least : (parts : PartsState) (a b : ℕ) → (b ≡ a) ⊎ ((1 ≤ mate_of a) × (b ≡ mate_of a)) →
     IsNoLater (diamond_rank parts a).p (diamond_rank parts a).tri (worst_rank parts b).p b
-diamond_least parts a b (inl own) = subst (λ z. IsNoLater (diamond_rank parts a).p (diamond_rank parts a).tri (worst_rank parts z).p z) (sym own)
+diamond_least parts a b (inl own) = subst (λ z. IsNoLater (diamond_rank parts a).p (diamond_rank parts a).tri (worst_rank parts z).p z)
+    (sym own)
     (⊎_elim
-    (λ (none : mate_of a < 1). subst (λ (z : Rank). IsNoLater z.p z.tri (worst_rank parts a).p a) (sym (diamond_alone parts a (omega arith))) (inr (refl, omega arith)))
-    (λ (some : 1 ≤ mate_of a). subst (λ (z : Rank). IsNoLater z.p z.tri (worst_rank parts a).p a) (sym (diamond_two parts a some)) (better_least (worst_rank parts a) (worst_rank parts (mate_of a))).0)
+    (λ (none : mate_of a < 1). subst (λ (z : Rank). IsNoLater z.p z.tri (worst_rank parts a).p a)
+    (sym (diamond_alone parts a (omega arith))) (inr (refl, omega arith)))
+    (λ (some : 1 ≤ mate_of a). subst (λ (z : Rank). IsNoLater z.p z.tri (worst_rank parts a).p a) (sym (diamond_two parts a some))
+    (better_least (worst_rank parts a) (worst_rank parts (mate_of a))).0)
     (cases_lt (mate_of a) 1))
-diamond_least parts a b (inr mate) = subst (λ z. IsNoLater (diamond_rank parts a).p (diamond_rank parts a).tri (worst_rank parts z).p z) (sym mate.1)
-    (subst (λ (z : Rank). IsNoLater z.p z.tri (worst_rank parts (mate_of a)).p (mate_of a)) (sym (diamond_two parts a mate.0)) (better_least (worst_rank parts a) (worst_rank parts (mate_of a))).1)
+diamond_least parts a b (inr mate) = subst (λ z. IsNoLater (diamond_rank parts a).p (diamond_rank parts a).tri (worst_rank parts z).p z)
+    (sym mate.1)
+    (subst (λ (z : Rank). IsNoLater z.p z.tri (worst_rank parts (mate_of a)).p (mate_of a)) (sym (diamond_two parts a mate.0))
+    (better_least (worst_rank parts a) (worst_rank parts (mate_of a))).1)
 
 -- a rank that is a triangle's names that triangle
 own_rank : (parts : PartsState) (rank : Rank) (a : ℕ) → rank ≡ worst_rank parts a → rank ≡ worst_rank parts rank.tri
@@ -46,7 +51,8 @@ none_some : (q : Rank) → None ≡ Some q → ⊥
 none_some q h = cc
 
 -- the other one of two
-other_of : (a t x : ℕ) → 2 ≤ a → (t ≡ a) ⊎ ((1 ≤ mate_of a) × (t ≡ mate_of a)) → (x ≡ a) ⊎ ((1 ≤ mate_of a) × (x ≡ mate_of a)) → (x ≡ t) ⊎ ((1 ≤ mate_of t) × (x ≡ mate_of t))
+other_of : (a t x : ℕ) → 2 ≤ a → (t ≡ a) ⊎ ((1 ≤ mate_of a) × (t ≡ mate_of a)) → (x ≡ a) ⊎ ((1 ≤ mate_of a) × (x ≡ mate_of a)) → (x ≡ t)
+    ⊎ ((1 ≤ mate_of t) × (x ≡ mate_of t))
 other_of a t x low (inl own) is = subst (λ z. (x ≡ z) ⊎ ((1 ≤ mate_of z) × (x ≡ mate_of z))) (sym own) is
 other_of a t x low (inr mate) (inl own) =
     let back : mate_of t ≡ a = ap mate_of mate.1 ∙ mate_of-back a low mate.0 in
@@ -56,14 +62,16 @@ other_of a t x low (inr mate) (inr both) = inl (both.1 ∙ sym mate.1)
 -- the slots of a diamond that can be merged are live
 pub of_live : (parts : PartsState) (s t : ℕ) → is_ready_at parts.pool.pairs s ≡ true → IsOfDiamond parts s t → IsLive parts.pool.pairs t
 of_live parts s t ready (inl own) = subst (λ z. 2 ≤ z) (sym own) (ready_live parts.pool.pairs s ready)
-of_live parts s t ready (inr mate) = subst (λ z. 2 ≤ z) (sym mate.1) (mate_of-low (address_at parts.pool.pairs s) (ready_live parts.pool.pairs s ready) mate.0)
+of_live parts s t ready (inr mate) = subst (λ z. 2 ≤ z) (sym mate.1)
+    (mate_of-low (address_at parts.pool.pairs s) (ready_live parts.pool.pairs s ready) mate.0)
 
 module _ (parts : PartsState) (is : IsParts parts) (none : parts.fresh ≡ []) where
   -- no diamond is out
   nothing_out : (s : ℕ) → is_out parts.pool.pairs (among parts.fresh) s ≡ false
   nothing_out s =
       let mate : ℕ = slot_of parts.pool.pairs (mate_of (address_at parts.pool.pairs s)) in
-      or_from (among parts.fresh s) (nat_lt 0 (mate_of (address_at parts.pool.pairs s)) && among parts.fresh mate) (settled_placed parts s none)
+      or_from (among parts.fresh s) (nat_lt 0 (mate_of (address_at parts.pool.pairs s)) && among parts.fresh mate)
+      (settled_placed parts s none)
       (and_right (nat_lt 0 (mate_of (address_at parts.pool.pairs s))) (among parts.fresh mate) (settled_placed parts mate none))
 
   -- each diamond that can be merged stands in the queue
@@ -77,8 +85,13 @@ module _ (parts : PartsState) (is : IsParts parts) (none : parts.fresh ≡ []) w
       let rank : diamond_rank parts (address_at parts.pool.pairs (chief_slot parts.pool.pairs s)) ≡ diamond_rank parts a =
       ap (diamond_rank parts) (chief.1 ∙ ap chief_of at.1) ∙ diamond_chief_rank parts a low in (
         low,
-        subst (λ z. level_of z ≤ 2 * parts.pool.n) at.1 (entry_level parts.pool.n parts.pool.pairs s is.pool (ready_entry parts.pool.pairs s at.0)),
-        (chief_slot parts.pool.pairs s, merge_key_of parts (among parts.fresh) (chief_slot parts.pool.pairs s) is.placed chief.0 (nothing_out (chief_slot parts.pool.pairs s)) ∙ ap (λ (z : Rank). Some z) rank),
+        subst (λ z. level_of z ≤ 2 * parts.pool.n) at.1
+            (entry_level parts.pool.n parts.pool.pairs s is.pool (ready_entry parts.pool.pairs s at.0)),
+        (
+          chief_slot parts.pool.pairs s,
+          merge_key_of parts (among parts.fresh) (chief_slot parts.pool.pairs s) is.placed chief.0
+              (nothing_out (chief_slot parts.pool.pairs s)) ∙ ap (λ (z : Rank). Some z) rank,
+        ),
       )
 
   -- so where the queue is empty none can be merged
@@ -156,7 +169,8 @@ module _ (parts : PartsState) (is : IsParts parts) (none : parts.fresh ≡ []) w
     bounds : (2 ≤ rank.tri) × (level_of rank.tri ≤ 2 * parts.pool.n)
     bounds = (
       subst (λ z. 2 ≤ z) at.3 at.1,
-      subst (λ z. level_of z ≤ 2 * parts.pool.n) at.3 (entry_level parts.pool.n parts.pool.pairs at.0 is.pool (ready_entry parts.pool.pairs at.0 at.2)),
+      subst (λ z. level_of z ≤ 2 * parts.pool.n) at.3
+          (entry_level parts.pool.n parts.pool.pairs at.0 is.pool (ready_entry parts.pool.pairs at.0 at.2)),
     )
 
     -- and the key of the diamond is the same from there
@@ -168,7 +182,8 @@ module _ (parts : PartsState) (is : IsParts parts) (none : parts.fresh ≡ []) w
         named
 
     -- no triangle of its diamond comes before it
-    better_than : (b : ℕ) → IsInDiamond parts.pool.n rank.tri b → IsNoLater (worst_key (seen_parts parts) rank.tri) rank.tri (worst_key (seen_parts parts) b) b
+    better_than : (b : ℕ) → IsInDiamond parts.pool.n rank.tri b →
+        IsNoLater (worst_key (seen_parts parts) rank.tri) rank.tri (worst_key (seen_parts parts) b) b
     better_than b inside = subst (λ z. IsNoLater z rank.tri (worst_key (seen_parts parts) b) b) value
         (subst (λ z. IsNoLater rank.p rank.tri z b) (sym (worst_key_seen parts b))
         (subst (λ (z : Rank). IsNoLater z.p z.tri (worst_of (entry_of parts b)) b) (sym own_diamond)
@@ -185,7 +200,8 @@ module _ (parts : PartsState) (is : IsParts parts) (none : parts.fresh ≡ []) w
 
     -- so each diamond that can be merged has a triangle that comes no later
     first_of : (a : ℕ) → CanMerge parts.pool.n (among (pool_members parts.pool)) a →
-        (e : ℕ) × IsInDiamond parts.pool.n a e × IsNoLater (worst_key (seen_parts parts) e) e (worst_key (seen_parts parts) rank.tri) rank.tri
+        (e : ℕ) × IsInDiamond parts.pool.n a e
+        × IsNoLater (worst_key (seen_parts parts) e) e (worst_key (seen_parts parts) rank.tri) rank.tri
     first_of a can =
         let queued = merge_queued a can in
         let known = key_no_later a queued.2.0 queued.2.1 in
@@ -207,8 +223,10 @@ module _ (parts : PartsState) (is : IsParts parts) (none : parts.fresh ≡ []) w
     -- where the rank is known, the loop sees a head that is decided
     decided : IsKnownRank parts head.0 → IsDecided (seen_parts parts) rank.tri
     decided known =
-        let mate : 1 ≤ mate_of rank.tri → IsNoLater (worst_of (entry_of parts rank.tri)) rank.tri (best_of (entry_of parts (mate_of rank.tri))) (mate_of rank.tri) =
-        subst (λ (z : Rank). 1 ≤ mate_of z.tri → IsNoLater (worst_of (entry_of parts z.tri)) z.tri (best_of (entry_of parts (mate_of z.tri))) (mate_of z.tri)) key_is known.mate in
+        let mate : 1 ≤ mate_of rank.tri → IsNoLater (worst_of (entry_of parts rank.tri)) rank.tri
+        (best_of (entry_of parts (mate_of rank.tri))) (mate_of rank.tri) =
+        subst (λ (z : Rank). 1 ≤ mate_of z.tri → IsNoLater (worst_of (entry_of parts z.tri)) z.tri
+        (best_of (entry_of parts (mate_of z.tri))) (mate_of z.tri)) key_is known.mate in
         record {
           own = sure_seen parts rank.tri ∙ subst (λ (z : Rank). is_sure (entry_of parts z.tri) ≡ true) key_is known.own;
           mate = λ b other.
@@ -216,29 +234,35 @@ module _ (parts : PartsState) (is : IsParts parts) (none : parts.fresh ≡ []) w
               let some : 2 ≤ b = other.address.low in
               subst (λ z. IsNoLater z rank.tri (best_key (seen_parts parts) b) b) (sym (worst_key_seen parts rank.tri))
               (subst (λ z. IsNoLater (worst_of (entry_of parts rank.tri)) rank.tri z b) (sym (best_key_seen parts b))
-              (subst (λ z. IsNoLater (worst_of (entry_of parts rank.tri)) rank.tri (best_of (entry_of parts z)) z) same (mate (omega arith))));
+              (subst (λ z. IsNoLater (worst_of (entry_of parts rank.tri)) rank.tri (best_of (entry_of parts z)) z) same
+              (mate (omega arith))));
         }
 
     -- where the head is decided, the rank of its diamond is known
     known_of : IsDecided (seen_parts parts) rank.tri → IsKnownRank parts head.0
     known_of d = record {
       own = subst (λ (z : Rank). is_sure (entry_of parts z.tri) ≡ true) (sym key_is) (sym (sure_seen parts rank.tri) ∙ d.own);
-      mate = subst (λ (z : Rank). 1 ≤ mate_of z.tri → IsNoLater (worst_of (entry_of parts z.tri)) z.tri (best_of (entry_of parts (mate_of z.tri))) (mate_of z.tri)) (sym key_is)
-          (λ some. subst (λ z. IsNoLater (worst_of (entry_of parts rank.tri)) rank.tri z (mate_of rank.tri)) (best_key_seen parts (mate_of rank.tri))
-          (subst (λ z. IsNoLater z rank.tri (best_key (seen_parts parts) (mate_of rank.tri)) (mate_of rank.tri)) (worst_key_seen parts rank.tri)
+      mate = subst (λ (z : Rank). 1 ≤ mate_of z.tri → IsNoLater (worst_of (entry_of parts z.tri)) z.tri
+          (best_of (entry_of parts (mate_of z.tri))) (mate_of z.tri)) (sym key_is)
+          (λ some. subst (λ z. IsNoLater (worst_of (entry_of parts rank.tri)) rank.tri z (mate_of rank.tri))
+          (best_key_seen parts (mate_of rank.tri))
+          (subst (λ z. IsNoLater z rank.tri (best_key (seen_parts parts) (mate_of rank.tri)) (mate_of rank.tri))
+          (worst_key_seen parts rank.tri)
           (d.mate (mate_of rank.tri) (IsMate-mate_of parts.pool.n rank.tri bounds.0 bounds.1 some))));
     }
 
     -- whose turn it is by what is kept of the slots, it is by the keys that the loop sees
     turn_of : (t : ℕ) (s : Slot) → t ≡ address_at parts.pool.pairs s.0 → entry_of parts t ≡ entry_at parts s.0 → (t ≡ rank.tri → ⊥) →
         IsTurn parts (diamond_rank parts (chief_of top)) s.0 →
-        (sure (seen_parts parts) rank.tri ≡ true) ⊎ IsBefore (best_key (seen_parts parts) t) t (best_key (seen_parts parts) rank.tri) rank.tri
+        (sure (seen_parts parts) rank.tri ≡ true)
+        ⊎ IsBefore (best_key (seen_parts parts) t) t (best_key (seen_parts parts) rank.tri) rank.tri
     turn_of t s here own differ turn = ⊎_elim
         (λ (known : is_sure (entry_of parts rank.tri) ≡ true). inl (sure_seen parts rank.tri ∙ known))
         (λ (before : IsBefore (best_of (entry_at parts s.0)) (address_at parts.pool.pairs s.0) (best_of (entry_of parts rank.tri)) rank.tri).
         inr (subst (λ z. IsBefore z t (best_key (seen_parts parts) rank.tri) rank.tri) (sym (best_key_seen parts t ∙ ap best_of own))
         (subst (λ z. IsBefore (best_of (entry_at parts s.0)) z (best_key (seen_parts parts) rank.tri) rank.tri) (sym here)
-        (subst (λ z. IsBefore (best_of (entry_at parts s.0)) (address_at parts.pool.pairs s.0) z rank.tri) (sym (best_key_seen parts rank.tri)) before))))
+        (subst (λ z. IsBefore (best_of (entry_at parts s.0)) (address_at parts.pool.pairs s.0) z rank.tri)
+        (sym (best_key_seen parts rank.tri)) before))))
         (subst (λ (z : Rank). IsTurn parts z s.0) key_is turn (λ same. differ (here ∙ same)))
 
     -- the triangle of a slot of the diamond that is to be asked is the one that the loop is to ask
@@ -256,14 +280,16 @@ module _ (parts : PartsState) (is : IsParts parts) (none : parts.fresh ≡ []) w
 
     -- so it is with what the loop is told to ask
     asked : (unasked : Option Located) →
-        MatchOption unasked (IsKnownRank parts head.0) (λ t. IsUnasked parts head.0 t.slot × (address_at parts.pool.pairs t.slot.0 ≡ t.tri)) →
+        MatchOption unasked (IsKnownRank parts head.0)
+        (λ t. IsUnasked parts head.0 t.slot × (address_at parts.pool.pairs t.slot.0 ≡ t.tri)) →
         MatchOption unasked (IsDecided (seen_parts parts) rank.tri) (λ t. IsToAsk (seen_parts parts) rank.tri t.tri)
     asked None known = decided known
     asked (Some t) next = subst (IsToAsk (seen_parts parts) rank.tri) next.1 (to_ask t.slot next.0)
 
     -- what stands at the head of the queue is what the loop asks for
     pub last_head : (slot : Slot) (unasked : Option Located) →
-        MatchOption unasked (IsKnownRank parts head.0) (λ t. IsUnasked parts head.0 t.slot × (address_at parts.pool.pairs t.slot.0 ≡ t.tri)) →
+        MatchOption unasked (IsKnownRank parts head.0)
+        (λ t. IsUnasked parts head.0 t.slot × (address_at parts.pool.pairs t.slot.0 ≡ t.tri)) →
         IsLastHead (seen_parts parts) (record { rank = rank; slot = slot; unasked = unasked })
     last_head slot unasked next = record {
       mergeable = subst (CanMerge parts.pool.n (among (pool_members parts.pool))) at.3 (ready_of-at parts.pool at.0 is.pool at.2);

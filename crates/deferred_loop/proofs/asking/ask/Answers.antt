@@ -10,7 +10,8 @@ tell-requires-clause-entry g c =
     (sym c.rank-rank.ensures.tri) c.requires.entry
 
 pub tell-requires-clause-unknown : goal.tell-requires-clause-unknown
-tell-requires-clause-unknown g c = subst (λ z. (g.M.QueuedMesh.seen c.args.mesh.now).known z ≡ false) (sym c.rank-rank.ensures.tri) c.requires.unknown
+tell-requires-clause-unknown g c = subst (λ z. (g.M.QueuedMesh.seen c.args.mesh.now).known z ≡ false) (sym c.rank-rank.ensures.tri)
+    c.requires.unknown
 
 pub returns-clause-known : goal.returns-clause-known
 returns-clause-known g c =

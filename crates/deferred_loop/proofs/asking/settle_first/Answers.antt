@@ -16,17 +16,20 @@ use Rattle.deferred_loop.proofs.asking.settle_first.Goals as goal
 pub returns-then-head-eq0-clause-first : goal.returns-then-head-eq0-clause-first
 returns-then-head-eq0-clause-first g c =
     subst (λ (z : PoolSet). All (λ a. g.w.priority a ≡ 0) (leaves_of g.w.n (among z.members))) c.asking.invariant.asked.set
-    (head_zero g.w c.requires.1.1.0 (g.M.QueuedMesh.seen c.asking.mesh) c.asking.invariant.asked.settled c.first-head.result c.first-head.ensures.head c.if-head-eq0.true)
+    (head_zero g.w c.requires.1.1.0 (g.M.QueuedMesh.seen c.asking.mesh) c.asking.invariant.asked.settled c.first-head.result
+    c.first-head.ensures.head c.if-head-eq0.true)
 
 pub returns-then-head-clause-first : goal.returns-then-head-clause-first
 returns-then-head-clause-first g c =
     subst (λ (z : PoolSet). IsFirstRank g.w.n g.w.priority z.members c.first-head.result.rank) c.asking.invariant.asked.set
-    (head_known g.w c.requires.1.1.0 (g.M.QueuedMesh.seen c.asking.mesh) c.asking.invariant.asked.settled c.first-head.result c.first-head.ensures.head c.if-head.true c.if-head-eq0.false)
+    (head_known g.w c.requires.1.1.0 (g.M.QueuedMesh.seen c.asking.mesh) c.asking.invariant.asked.settled c.first-head.result
+    c.first-head.ensures.head c.if-head.true c.if-head-eq0.false)
 
 pub ask-requires-clause-level : goal.ask-requires-clause-level
 ask-requires-clause-level g c =
     subst (λ (t : Located). level_of t.tri ≤ 2 * (g.G.Gauge.told c.asking.gauge).n) (sym c.leaf.ensures)
-    (head_level g.w c.requires.1.1.0 (g.M.QueuedMesh.seen c.asking.mesh) c.asking.invariant.asked.settled c.first-head.result c.first-head.ensures.head
+    (head_level g.w c.requires.1.1.0 (g.M.QueuedMesh.seen c.asking.mesh) c.asking.invariant.asked.settled c.first-head.result
+    c.first-head.ensures.head
     (g.G.Gauge.told c.asking.gauge) (c.asking.invariant.told ∙ c.requires.1.1.1.0))
 
 pub ask-requires-clause-at : goal.ask-requires-clause-at
@@ -56,7 +59,8 @@ asking-init g c = record {
 pub asking-smaller : goal.asking-smaller
 asking-smaller g c =
     let before = g.M.QueuedMesh.seen c.asking.mesh in
-    told_less before (g.M.QueuedMesh.seen c.ask.new.mesh) (record { p = (g.G.Gauge.told c.asking.gauge).of c.leaf.result.tri; tri = c.leaf.result.tri })
+    told_less before (g.M.QueuedMesh.seen c.ask.new.mesh)
+    (record { p = (g.G.Gauge.told c.asking.gauge).of c.leaf.result.tri; tri = c.leaf.result.tri })
     c.first-head.result.rank.tri c.ask.ensures.known (ap (λ (t : Located). t.tri) c.leaf.ensures)
     (head_entry g.w c.requires.1.1.0 before c.asking.invariant.asked.settled c.first-head.result c.first-head.ensures.head)
     (unsure before c.first-head.result.rank.tri (sym c.first-head.ensures.head.marked ∙ c.if-head.false))

@@ -17,19 +17,22 @@ pub returns-in_default-clause-last : goal.returns-in_default-clause-last
 returns-in_default-clause-last g c =
     subst (λ (z : PoolSet). IsNoneMet g.w z.members c.args.limit.now) c.asking.invariant.asked.set
     (none_empty g.w c.requires.1.1.0 (g.M.QueuedMesh.seen c.asking.mesh) c.asking.invariant.asked.settled c.args.limit.now
-    (subst (λ (z : PoolSet). IsAllowed g.w z.members c.args.limit.now) (sym c.asking.invariant.asked.set) c.requires.1.1.1.1.1) c.in_default.ensures.head)
+    (subst (λ (z : PoolSet). IsAllowed g.w z.members c.args.limit.now) (sym c.asking.invariant.asked.set) c.requires.1.1.1.1.1)
+    c.in_default.ensures.head)
 
 pub returns-then-not-is_met-clause-last : goal.returns-then-not-is_met-clause-last
 returns-then-not-is_met-clause-last g c =
     subst (λ (z : PoolSet). IsNoneMet g.w z.members c.args.limit.now) c.asking.invariant.asked.set
-    (none_met g.w c.requires.1.1.0 (g.M.QueuedMesh.seen c.asking.mesh) c.asking.invariant.asked.settled c.in-Some.head c.in-Some.ensures.head c.args.limit.now
+    (none_met g.w c.requires.1.1.0 (g.M.QueuedMesh.seen c.asking.mesh) c.asking.invariant.asked.settled c.in-Some.head
+    c.in-Some.ensures.head c.args.limit.now
     (subst (λ (z : PoolSet). IsAllowed g.w z.members c.args.limit.now) (sym c.asking.invariant.asked.set) c.requires.1.1.1.1.1)
     (λ met. both_ways c.is_met.result c.if-not-is_met.true (c.is_met.ensures.1 met)))
 
 pub returns-in_default-unasked-clause-last : goal.returns-in_default-unasked-clause-last
 returns-in_default-unasked-clause-last g c = (
   subst (λ (z : PoolSet). IsLastRank g.w.n g.w.priority z.members c.in-Some.head.rank) c.asking.invariant.asked.set
-      (last_is g.w c.requires.1.1.0 (g.M.QueuedMesh.seen c.asking.mesh) c.asking.invariant.asked.settled c.in-Some.head c.in-Some.ensures.head
+      (last_is g.w c.requires.1.1.0 (g.M.QueuedMesh.seen c.asking.mesh) c.asking.invariant.asked.settled c.in-Some.head
+      c.in-Some.ensures.head
       (last_decided (g.M.QueuedMesh.seen c.asking.mesh) c.in-Some.head c.in-Some.ensures.head c.in_default-unasked.is)),
   c.is_met.ensures.0 c.if-not-is_met.false,
 )
@@ -46,7 +49,8 @@ ask-requires-clause-level g c =
 pub ask-requires-clause-at : goal.ask-requires-clause-at
 ask-requires-clause-at g c =
     subst (λ (z : Located). g.M.QueuedMesh.tri_at c.asking.mesh z.slot.0 ≡ z.tri) (sym c.in-Some-unasked.t-is)
-    (subst (λ (o : Option Located). IfSome o (λ t. g.M.QueuedMesh.tri_at c.asking.mesh t.slot.0 ≡ t.tri)) c.in-Some-unasked.is c.in-Some.ensures.unasked_at)
+    (subst (λ (o : Option Located). IfSome o (λ t. g.M.QueuedMesh.tri_at c.asking.mesh t.slot.0 ≡ t.tri)) c.in-Some-unasked.is
+    c.in-Some.ensures.unasked_at)
 
 pub ask-requires-clause-entry : goal.ask-requires-clause-entry
 ask-requires-clause-entry g c =
@@ -79,7 +83,8 @@ asking-smaller g c =
     let after = g.M.QueuedMesh.seen c.ask.new.mesh in
     let rank : Rank = record { p = (g.G.Gauge.told c.asking.gauge).of t.tri; tri = t.tri } in
     let known : IsTold before after rank =
-    subst (λ (z : Located). IsTold before after (record { p = (g.G.Gauge.told c.asking.gauge).of z.tri; tri = z.tri })) c.in-Some-unasked.t-is c.ask.ensures.known in
+    subst (λ (z : Located). IsTold before after (record { p = (g.G.Gauge.told c.asking.gauge).of z.tri; tri = z.tri }))
+    c.in-Some-unasked.t-is c.ask.ensures.known in
     told_less before after rank t.tri known refl
     (last_entry g.w c.requires.1.1.0 before c.asking.invariant.asked.settled c.in-Some.head c.in-Some.ensures.head t.tri part.0)
     part.1
@@ -93,9 +98,11 @@ asking-preserved g c =
     let part = last_part before c.in-Some.head t c.in-Some.ensures.head c.in-Some-unasked.is in
     let rank : Rank = record { p = (g.G.Gauge.told c.asking.gauge).of t.tri; tri = t.tri } in
     let known : IsTold before after rank =
-    subst (λ (z : Located). IsTold before after (record { p = (g.G.Gauge.told c.asking.gauge).of z.tri; tri = z.tri })) c.in-Some-unasked.t-is c.ask.ensures.known in
+    subst (λ (z : Located). IsTold before after (record { p = (g.G.Gauge.told c.asking.gauge).of z.tri; tri = z.tri }))
+    c.in-Some-unasked.t-is c.ask.ensures.known in
     let value = ap (λ (z : Priorities). z.of t.tri) (c.asking.invariant.told ∙ c.requires.1.1.1.0) in
-    let allowed = subst (λ (z : PoolSet). IsAllowed g.w z.members c.args.limit.now) (sym c.asking.invariant.asked.set) c.requires.1.1.1.1.1 in
+    let allowed = subst (λ (z : PoolSet). IsAllowed g.w z.members c.args.limit.now) (sym c.asking.invariant.asked.set)
+    c.requires.1.1.1.1.1 in
     record {
       told = c.ask.ensures.told ∙ c.asking.invariant.told;
       readings = c.ask.ensures.readings ∙ c.asking.invariant.readings;

@@ -12,7 +12,8 @@ pub gain-requires-clause-leaf : goal.gain-requires-clause-leaf
 gain-requires-clause-leaf g c =
     let s = g.M.QueuedMesh.seen c.args.mesh.now in
     subst (λ (t : Located). Contains (leaves_of s.set.n (among s.set.members)) t.tri) (sym c.leaf.ensures)
-    (subst (λ z. Contains (leaves_of z (among s.set.members)) c.args.first.now.rank.tri) (sym c.requires.1.1.1.1.0.grid) c.requires.1.1.1.1.1.1.1.0.first.leaf)
+    (subst (λ z. Contains (leaves_of z (among s.set.members)) c.args.first.now.rank.tri) (sym c.requires.1.1.1.1.0.grid)
+    c.requires.1.1.1.1.1.1.1.0.first.leaf)
 
 pub gain-requires-clause-splittable : goal.gain-requires-clause-splittable
 gain-requires-clause-splittable g c =
@@ -36,7 +37,8 @@ returns-then-need-budget-clause-next g c =
     let budget = c.requires.1.1.1.1.1.0 in
     let most = c.if-need-budget.true in
     subst (λ (t : Located). IsNextSplit g.w.n g.w.budget g.w.priority s.set.members t.tri) (sym c.leaf-then-need-budget.ensures)
-    (fits_split g.w.n g.w.priority c.requires.1.1.0.falling g.w.budget c.requires.1.1.0.low s.set.members settled.valid c.args.first.now.rank c.gain.result
+    (fits_split g.w.n g.w.priority c.requires.1.1.0.falling g.w.budget c.requires.1.1.0.low s.set.members settled.valid
+    c.args.first.now.rank c.gain.result
     c.requires.1.1.1.1.1.1.0 c.requires.1.1.1.1.1.1.1.0 gain
     (omega (arith, budget, most, leaves_here g.w s settled c.leaf_count.result c.leaf_count.ensures)))
 
@@ -49,7 +51,8 @@ returns-in-Some-clause-next g c =
     let budget = c.requires.1.1.1.1.1.0 in
     let more = c.if-need-budget.false in
     subst (λ (t : Located). IsNextMerge g.w.n g.w.budget g.w.priority s.set.members t.tri) (sym c.diamond.ensures)
-    (room_merge g.w.n g.w.priority c.requires.1.1.0.falling g.w.budget c.requires.1.1.0.low s.set.members settled.valid c.args.first.now.rank c.in-Some.d.rank c.gain.result
+    (room_merge g.w.n g.w.priority c.requires.1.1.0.falling g.w.budget c.requires.1.1.0.low s.set.members settled.valid
+    c.args.first.now.rank c.in-Some.d.rank c.gain.result
     c.requires.1.1.1.1.1.1.0 c.requires.1.1.1.1.1.1.1.0 gain
     (omega (arith, budget, more, leaves_here g.w s settled c.leaf_count.result c.leaf_count.ensures))
     c.in-Some.ensures.last.0 c.in-Some.ensures.last.1)

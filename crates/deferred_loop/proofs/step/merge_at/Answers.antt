@@ -59,8 +59,10 @@ enter_fresh-requires g c κs within =
 
 pub returns-clause-step : goal.returns-clause-step
 returns-clause-step g c =
-    subst (λ (z : PoolSet). IsMergeStep g.w.n g.w.budget g.w.priority (g.M.QueuedMesh.seen c.args.mesh.now).set.members z.members) (sym c.enter_fresh.ensures.entered.set)
-    (merge_step g.w (g.M.QueuedMesh.seen c.args.mesh.now).set.members c.args.t.tri (g.M.QueuedMesh.seen c.merge.new.self).set.members c.requires.1.1.1.1.1.0
+    subst (λ (z : PoolSet). IsMergeStep g.w.n g.w.budget g.w.priority (g.M.QueuedMesh.seen c.args.mesh.now).set.members z.members)
+    (sym c.enter_fresh.ensures.entered.set)
+    (merge_step g.w (g.M.QueuedMesh.seen c.args.mesh.now).set.members c.args.t.tri (g.M.QueuedMesh.seen c.merge.new.self).set.members
+    c.requires.1.1.1.1.1.0
     (subst (λ z. IsWithoutDiamond z (g.M.QueuedMesh.seen c.args.mesh.now).set.members c.args.t.tri
     (g.M.QueuedMesh.seen c.merge.new.self).set.members) c.requires.1.1.1.1.0.grid c.merge.ensures.merge.merged))
 
@@ -72,7 +74,8 @@ returns-clause-counters g c =
     (can_here g.w (g.M.QueuedMesh.seen c.args.mesh.now) c.requires.1.1.1.1.0 c.args.t.tri c.requires.1.1.1.1.1.0)
     c.merge.ensures.merge.merged in
     λ start added counted.
-    subst (λ (z : PoolSet). IsCountedBy start z added (c.args.merges.now + (c.leaf_count-before.result - c.leaf_count.result))) (sym c.enter_fresh.ensures.entered.set) record {
+    subst (λ (z : PoolSet). IsCountedBy start z added (c.args.merges.now + (c.leaf_count-before.result - c.leaf_count.result)))
+    (sym c.enter_fresh.ensures.entered.set) record {
       most = c.merge.ensures.merge.most ∙ counted.most;
       splits_rose = c.merge.ensures.merge.splits ∙ counted.splits_rose;
       merges_rose = omega (
@@ -98,7 +101,8 @@ returns-clause-charged g c =
     merge_charged g.w (g.M.QueuedMesh.seen c.args.mesh.now) (g.M.QueuedMesh.seen c.merge.new.self)
     (g.M.QueuedMesh.seen c.enter_fresh.new.mesh) settled c.merge.ensures.merge.n c.merge.ensures.merge.renewed
     (g.G.Gauge.readings c.args.gauge.now) c.args.odometer c.enter_fresh.ensures.entered c.args.t.tri evaluations added c.args.merges.now
-    (c.args.merges.now + (c.leaf_count-before.result - c.leaf_count.result)) (g.G.Gauge.count c.args.gauge.now) (g.G.Gauge.count c.enter_fresh.new.gauge)
+    (c.args.merges.now + (c.leaf_count-before.result - c.leaf_count.result)) (g.G.Gauge.count c.args.gauge.now)
+    (g.G.Gauge.count c.enter_fresh.new.gauge)
     settled.valid c.requires.1.1.1.1.1.0.last.lead.mergeable merged
     (merge_step g.w before.members c.args.t.tri now.members c.requires.1.1.1.1.1.0 merged) c.enter_fresh.ensures.most
     (omega (arith, k.few, k.count, k.small, c.leaf_count-before.ensures, c.leaf_count.ensures)) charged
@@ -109,7 +113,8 @@ returns-clause-stamped g c =
     step_stamped g.w (g.M.QueuedMesh.seen c.args.mesh.now) (g.M.QueuedMesh.seen c.merge.new.self)
     (g.M.QueuedMesh.seen c.enter_fresh.new.mesh) c.requires.1.1.1.1.0 c.merge.ensures.merge.n
     c.merge.ensures.merge.renewed
-    (g.G.Gauge.readings c.args.gauge.now) c.args.odometer c.enter_fresh.ensures.entered start first (g.G.Gauge.count c.args.gauge.now) (g.G.Gauge.count c.enter_fresh.new.gauge) c.enter_fresh.ensures.least stamped
+    (g.G.Gauge.readings c.args.gauge.now) c.args.odometer c.enter_fresh.ensures.entered start first (g.G.Gauge.count c.args.gauge.now)
+    (g.G.Gauge.count c.enter_fresh.new.gauge) c.enter_fresh.ensures.least stamped
 
 pub returns-clause-log : goal.returns-clause-log
 returns-clause-log g c =

@@ -15,14 +15,16 @@ split-requires-clause-splittable g c =
 
 pub split-requires-clause-leaf : goal.split-requires-clause-leaf
 split-requires-clause-leaf g c =
-    subst (λ z. Contains (leaves_of z (among (g.M.QueuedMesh.seen c.args.mesh.now).set.members)) c.args.t.tri) (sym c.requires.1.1.1.1.0.grid) c.requires.1.1.1.1.1.0.first.leaf
+    subst (λ z. Contains (leaves_of z (among (g.M.QueuedMesh.seen c.args.mesh.now).set.members)) c.args.t.tri)
+    (sym c.requires.1.1.1.1.0.grid) c.requires.1.1.1.1.1.0.first.leaf
 
 pub split-requires-clause-room : goal.split-requires-clause-room
 split-requires-clause-room g c after forced =
     let s = g.M.QueuedMesh.seen c.args.mesh.now in
     let grid = c.requires.1.1.1.1.0.grid in
     subst (λ z. leaf_count z after ≤ s.set.most) (sym grid)
-    (split_room g.w.n s.set.most g.w.budget g.w.priority s.set.members c.args.t.tri after c.requires.1.1.1.1.1.1.1.1.1.1.0 c.requires.1.1.1.1.1.0 (subst (λ z. IsForced z s.set.members c.args.t.tri after) grid forced))
+    (split_room g.w.n s.set.most g.w.budget g.w.priority s.set.members c.args.t.tri after c.requires.1.1.1.1.1.1.1.1.1.1.0
+    c.requires.1.1.1.1.1.0 (subst (λ z. IsForced z s.set.members c.args.t.tri after) grid forced))
 
 pub overflow_sub-splits : goal.overflow_sub-splits
 overflow_sub-splits g c =
@@ -68,8 +70,10 @@ enter_fresh-requires g c κs within =
 
 pub returns-clause-step : goal.returns-clause-step
 returns-clause-step g c =
-    subst (λ (z : PoolSet). IsSplitStep g.w.n g.w.budget g.w.priority (g.M.QueuedMesh.seen c.args.mesh.now).set.members z.members) (sym c.enter_fresh.ensures.entered.set)
-    (split_step g.w (g.M.QueuedMesh.seen c.args.mesh.now).set.members c.args.t.tri (g.M.QueuedMesh.seen c.split.new.self).set.members c.requires.1.1.1.1.1.0
+    subst (λ (z : PoolSet). IsSplitStep g.w.n g.w.budget g.w.priority (g.M.QueuedMesh.seen c.args.mesh.now).set.members z.members)
+    (sym c.enter_fresh.ensures.entered.set)
+    (split_step g.w (g.M.QueuedMesh.seen c.args.mesh.now).set.members c.args.t.tri (g.M.QueuedMesh.seen c.split.new.self).set.members
+    c.requires.1.1.1.1.1.0
     (subst (λ z. IsForced z (g.M.QueuedMesh.seen c.args.mesh.now).set.members c.args.t.tri
     (g.M.QueuedMesh.seen c.split.new.self).set.members) c.requires.1.1.1.1.0.grid c.split.ensures.split.forced))
 
@@ -79,7 +83,8 @@ returns-clause-counters g c =
     let k = split_counted before.n now.n before.members c.args.t.tri now.members c.split.ensures.split.n
     (grid_set_here g.w (g.M.QueuedMesh.seen c.args.mesh.now) c.requires.1.1.1.1.0) c.split.ensures.split.forced in
     λ start removed counted.
-    subst (λ (z : PoolSet). IsCountedBy start z (c.args.splits.now + (c.leaf_count.result - c.leaf_count-before.result)) removed) (sym c.enter_fresh.ensures.entered.set) record {
+    subst (λ (z : PoolSet). IsCountedBy start z (c.args.splits.now + (c.leaf_count.result - c.leaf_count-before.result)) removed)
+    (sym c.enter_fresh.ensures.entered.set) record {
       most = c.split.ensures.split.most ∙ counted.most;
       splits_rose = omega (
         arith,
@@ -103,7 +108,8 @@ returns-clause-charged g c =
     split_charged g.w (g.M.QueuedMesh.seen c.args.mesh.now) (g.M.QueuedMesh.seen c.split.new.self)
     (g.M.QueuedMesh.seen c.enter_fresh.new.mesh) settled c.split.ensures.split.n c.split.ensures.split.renewed
     (g.G.Gauge.readings c.args.gauge.now) c.args.odometer c.enter_fresh.ensures.entered c.args.t.tri evaluations c.args.splits.now removed
-    (c.args.splits.now + (c.leaf_count.result - c.leaf_count-before.result)) (g.G.Gauge.count c.args.gauge.now) (g.G.Gauge.count c.enter_fresh.new.gauge)
+    (c.args.splits.now + (c.leaf_count.result - c.leaf_count-before.result)) (g.G.Gauge.count c.args.gauge.now)
+    (g.G.Gauge.count c.enter_fresh.new.gauge)
     settled.valid forced
     (split_step g.w before.members c.args.t.tri now.members c.requires.1.1.1.1.1.0 forced) c.enter_fresh.ensures.most
     (omega (arith, k.few, k.count, k.small, c.leaf_count-before.ensures, c.leaf_count.ensures)) charged
@@ -114,7 +120,8 @@ returns-clause-stamped g c =
     step_stamped g.w (g.M.QueuedMesh.seen c.args.mesh.now) (g.M.QueuedMesh.seen c.split.new.self)
     (g.M.QueuedMesh.seen c.enter_fresh.new.mesh) c.requires.1.1.1.1.0 c.split.ensures.split.n
     c.split.ensures.split.renewed
-    (g.G.Gauge.readings c.args.gauge.now) c.args.odometer c.enter_fresh.ensures.entered start first (g.G.Gauge.count c.args.gauge.now) (g.G.Gauge.count c.enter_fresh.new.gauge) c.enter_fresh.ensures.least stamped
+    (g.G.Gauge.readings c.args.gauge.now) c.args.odometer c.enter_fresh.ensures.entered start first (g.G.Gauge.count c.args.gauge.now)
+    (g.G.Gauge.count c.enter_fresh.new.gauge) c.enter_fresh.ensures.least stamped
 
 pub returns-clause-log : goal.returns-clause-log
 returns-clause-log g c =

@@ -15,7 +15,8 @@ pub returns-clause-n : goal.returns-clause-n
 returns-clause-n c = subst (λ (q : QueuedState). q.parts.pool.n ≡ c.args.n) (sym c.in_ok-new.ensures.ok) c.in_ok-parts.ensures.n
 
 pub returns-clause-most : goal.returns-clause-most
-returns-clause-most c = subst (λ (q : QueuedState). q.parts.pool.most ≡ c.args.leaves) (sym c.in_ok-new.ensures.ok) c.in_ok-parts.ensures.most
+returns-clause-most c = subst (λ (q : QueuedState). q.parts.pool.most ≡ c.args.leaves) (sym c.in_ok-new.ensures.ok)
+    c.in_ok-parts.ensures.most
 
 pub returns-clause-base : goal.returns-clause-base
 returns-clause-base c = subst (λ (q : QueuedState). (a : ℕ) → split_set q.parts.pool.pairs a ≡ false) (sym c.in_ok-new.ensures.ok)

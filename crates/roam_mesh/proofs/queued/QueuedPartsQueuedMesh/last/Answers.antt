@@ -60,11 +60,13 @@ tri-requires c =
     subst (λ (z : PartsState). IsLastRank z.merge c.in_ok-head.head c.in_ok-head.rank) view c.in_ok-head.ensures.last in
     let unasked : IsUnasked parts c.in_ok-head.head.0 c.in-Some.s =
     subst (λ (o : Option Slot). MatchOption o (IsKnownRank parts c.in_ok-head.head.0) (IsUnasked parts c.in_ok-head.head.0)) c.in-Some.is
-    (subst (λ (z : PartsState). MatchOption c.better_and_unasked-next.result.1 (IsKnownRank z c.in_ok-head.head.0) (IsUnasked z c.in_ok-head.head.0)) state
+    (subst (λ (z : PartsState). MatchOption c.better_and_unasked-next.result.1 (IsKnownRank z c.in_ok-head.head.0)
+    (IsUnasked z c.in_ok-head.head.0)) state
     c.better_and_unasked-next.ensures.unasked) in
     record {
       live = subst (λ (z : PartsState). IsLive z.pool.pairs c.in-Some.s.0) (sym view)
-          (of_live parts c.in_ok-head.head.0 c.in-Some.s.0 (ready_chief parts is none c.in_ok-head.head c.in_ok-head.rank last) unasked.own);
+          (of_live parts c.in_ok-head.head.0 c.in-Some.s.0 (ready_chief parts is none c.in_ok-head.head c.in_ok-head.rank last)
+          unasked.own);
     }
 
 pub returns-clause-head : goal.returns-clause-head
@@ -76,20 +78,25 @@ returns-clause-head c =
     let none : parts.fresh ≡ [] = settled_fresh parts c.requires.settled in
     let last : IsLastRank parts.merge c.in_ok-head.head c.in_ok-head.rank =
     subst (λ (z : PartsState). IsLastRank z.merge c.in_ok-head.head c.in_ok-head.rank) view c.in_ok-head.ensures.last in
-    let next : MatchOption c.better_and_unasked-next.result.1 (IsKnownRank parts c.in_ok-head.head.0) (IsUnasked parts c.in_ok-head.head.0) =
-    subst (λ (z : PartsState). MatchOption c.better_and_unasked-next.result.1 (IsKnownRank z c.in_ok-head.head.0) (IsUnasked z c.in_ok-head.head.0)) state
+    let next : MatchOption c.better_and_unasked-next.result.1 (IsKnownRank parts c.in_ok-head.head.0)
+    (IsUnasked parts c.in_ok-head.head.0) =
+    subst (λ (z : PartsState). MatchOption c.better_and_unasked-next.result.1 (IsKnownRank z c.in_ok-head.head.0)
+    (IsUnasked z c.in_ok-head.head.0)) state
     c.better_and_unasked-next.ensures.unasked in
-    last_head parts is none c.in_ok-head.head c.in_ok-head.rank last c.better_and_unasked-next.result.0 c.match-next.unasked (elim c.match-next.branch [
+    last_head parts is none c.in_ok-head.head c.in_ok-head.rank last c.better_and_unasked-next.result.0 c.match-next.unasked
+    (elim c.match-next.branch [
       | in-Some w ↦ subst (λ (o : Option Located). MatchOption o (IsKnownRank parts c.in_ok-head.head.0)
           (λ t. IsUnasked parts c.in_ok-head.head.0 t.slot × (address_at parts.pool.pairs t.slot.0 ≡ t.tri)))
           (sym w.unasked-is) (
-            subst (λ (o : Option Slot). MatchOption o (IsKnownRank parts c.in_ok-head.head.0) (IsUnasked parts c.in_ok-head.head.0)) w.in-Some.is next,
+            subst (λ (o : Option Slot). MatchOption o (IsKnownRank parts c.in_ok-head.head.0) (IsUnasked parts c.in_ok-head.head.0))
+                w.in-Some.is next,
             sym (subst (λ (z : PartsState). w.tri.result ≡ address_at z.pool.pairs w.in-Some.s.0) view w.tri.ensures.value),
           )
       | in-None w ↦ subst (λ (o : Option Located). MatchOption o (IsKnownRank parts c.in_ok-head.head.0)
           (λ t. IsUnasked parts c.in_ok-head.head.0 t.slot × (address_at parts.pool.pairs t.slot.0 ≡ t.tri)))
           (sym w.unasked-is)
-          (subst (λ (o : Option Slot). MatchOption o (IsKnownRank parts c.in_ok-head.head.0) (IsUnasked parts c.in_ok-head.head.0)) w.in-None.is next)
+          (subst (λ (o : Option Slot). MatchOption o (IsKnownRank parts c.in_ok-head.head.0) (IsUnasked parts c.in_ok-head.head.0))
+          w.in-None.is next)
     ])
 
 pub returns-clause-at : goal.returns-clause-at

@@ -28,7 +28,8 @@ hear-requires-clause-leaf c leaf =
     let none : c.self.inside.parts.fresh ≡ [] =
     ap (λ (z : PartsState). z.fresh) (ap (λ (z : QueuedState). z.parts) c.self.view_is)
     ∙ settled_fresh c.args.self.now.parts c.requires.settled in
-    leaf_present c.self.inside.parts (among c.self.inside.parts.fresh) c.args.slot.0 c.self.invariant.placed leaf (ap (λ l. among l c.args.slot.0) none)
+    leaf_present c.self.inside.parts (among c.self.inside.parts.fresh) c.args.slot.0 c.self.invariant.placed leaf
+    (ap (λ l. among l c.args.slot.0) none)
 
 pub hear-requires-clause-diamond : goal.hear-requires-clause-diamond
 hear-requires-clause-diamond c leaf =
@@ -42,10 +43,13 @@ hear-requires-clause-diamond c leaf =
     subst (λ (z : PartsState). address_at z.pool.pairs c.args.slot.0 ≡ c.args.rank.tri)
     (sym (ap (λ (z : QueuedState). z.parts) c.self.view_is)) c.requires.at in
     let ready : is_ready_at c.self.inside.parts.pool.pairs c.args.slot.0 ≡ true = ⊎_elim
-    (λ (there : is_leaf_at c.self.inside.parts.pool.pairs c.args.slot.0 ≡ true). absurd (both_ways (is_leaf_at c.self.inside.parts.pool.pairs c.args.slot.0) leaf there))
+    (λ (there : is_leaf_at c.self.inside.parts.pool.pairs c.args.slot.0 ≡ true). absurd
+    (both_ways (is_leaf_at c.self.inside.parts.pool.pairs c.args.slot.0) leaf there))
     (λ (diamond : (is_leaf_at c.self.inside.parts.pool.pairs c.args.slot.0 ≡ false) × (is_ready_at c.self.inside.parts.pool.pairs c.args.slot.0 ≡ true)). diamond.1)
-    (entry_cases c.self.inside.parts.pool.pairs c.args.slot.0 (entry_told c.self.inside.parts c.args.slot.0 c.args.rank.tri c.self.invariant entry at)) in
-    diamond_present c.self.inside.parts (among c.self.inside.parts.fresh) c.args.slot.0 c.self.invariant.pool c.self.invariant.placed ready (λ r. ap (λ l. among l r) none)
+    (entry_cases c.self.inside.parts.pool.pairs c.args.slot.0
+    (entry_told c.self.inside.parts c.args.slot.0 c.args.rank.tri c.self.invariant entry at)) in
+    diamond_present c.self.inside.parts (among c.self.inside.parts.fresh) c.args.slot.0 c.self.invariant.pool c.self.invariant.placed ready
+    (λ r. ap (λ l. among l r) none)
 
 pub invariant_of-self : goal.invariant_of-self
 invariant_of-self c =
@@ -59,7 +63,8 @@ invariant_of-self c =
     subst (λ (z : PartsState). address_at z.pool.pairs c.args.slot.0 ≡ c.args.rank.tri)
     (sym (ap (λ (z : QueuedState). z.parts) c.self.view_is)) c.requires.at in
     subst IsParts (sym c.hear.ensures.told)
-    (told_parts c.self.inside.parts c.args.slot.0 c.args.rank.p c.hear.ensures.whole c.self.invariant none (entry_told c.self.inside.parts c.args.slot.0 c.args.rank.tri c.self.invariant entry at))
+    (told_parts c.self.inside.parts c.args.slot.0 c.args.rank.p c.hear.ensures.whole c.self.invariant none
+    (entry_told c.self.inside.parts c.args.slot.0 c.args.rank.tri c.self.invariant entry at))
 
 pub returns-clause-told : goal.returns-clause-told
 returns-clause-told c =
@@ -69,7 +74,8 @@ returns-clause-told c =
     let at : address_at c.self.inside.parts.pool.pairs c.args.slot.0 ≡ c.args.rank.tri =
     subst (λ (z : PartsState). address_at z.pool.pairs c.args.slot.0 ≡ c.args.rank.tri)
     (sym (ap (λ (z : QueuedState). z.parts) c.self.view_is)) c.requires.at in
-    let live : IsLive c.self.inside.parts.pool.pairs c.args.slot.0 = entry_live c.self.inside.parts.pool.pairs c.args.slot.0 (entry_told c.self.inside.parts c.args.slot.0 c.args.rank.tri c.self.invariant entry at) in
+    let live : IsLive c.self.inside.parts.pool.pairs c.args.slot.0 = entry_live c.self.inside.parts.pool.pairs c.args.slot.0
+    (entry_told c.self.inside.parts c.args.slot.0 c.args.rank.tri c.self.invariant entry at) in
     let seen : IsTold (seen_parts c.self.inside.parts) (seen_parts (told c.self.inside.parts c.args.slot.0 c.args.rank.p)) c.args.rank =
     told_seen c.self.inside.parts c.args.slot.0 c.args.rank c.hear.ensures.whole c.self.invariant.pool live at in
     subst (λ (z : PartsState). IsTold (seen_parts z) (seen_parts c.hear.new.self) c.args.rank)
