@@ -228,62 +228,62 @@ child_shut pairs p a h leaf child low = ⊎_elim
     (λ y. absurd (true≢false (sym (h.tree.parent p low y) ∙ ap (has_children pairs) child ∙ leaf)))
     (λ n. n) (cases_Bool (has_children pairs p))
 
--- A forest in which a leaf was split is a forest.
-pub forest_halved : (pairs parents : List ℕ) (before after : List Node) (s k a mate : ℕ) → IsForest pairs parents before →
-    MayHalve pairs s k a mate →
-    has_children pairs (a / 2) ≡ true → IsRenewed pairs before after s k a mate → IsForest (set pairs k a) (set parents k s) after
-forest_halved pairs parents before after s k a mate f ready up renewed =
-    let low = ready.low in
-    let h : ArePairs pairs = f.sound in
-    let made : IsHalving (net_of pairs before) (net_of (set pairs k a) after) s k a = halving pairs before after s k a mate h ready
-    renewed in
-    let tree : IsTree (net_of (set pairs k a) after) = IsTree-halving (net_of pairs before) (net_of (set pairs k a) after) s k a
-    (tree_of pairs before h) made up in
-    let count : length (set pairs k a) ≡ length pairs = length-set pairs k a in
-    let parent_count : length (set parents k s) ≡ length parents = length-set parents k s in
-    let same_count = f.parent_count in let node_count = f.node_count in let same_nodes = renewed.count in let short = h.short in
-    let within = ready.within in
-    record {
-      sound = record {
-        tree = record { root = tree.root; parent = tree.parent; live = tree.live; once = tree.once };
-        small = small_set pairs k a h.small ready.high ready.within;
-        short = omega arith;
-      };
-      parent_count = omega arith;
-      node_count = omega arith;
-      linked = IsLinked-halving (net_of pairs before) (net_of (set pairs k a) after) s k a (tree_of pairs before h) made f.linked;
-      children = λ r live. elim (cases_eq (r / 2) k) [
-        | inl here ↦ let z = address-new pairs k a r ready.within here in
-            inl (
-              ⊎_elim
-                  (λ even. let e : r ≡ 2 * k = omega arith in ap (λ t. (node_at after t).children) e ∙ renewed.new_children.0)
-                  (λ odd. let e : r ≡ 2 * k + 1 = omega arith in ap (λ t. (node_at after t).children) e ∙ renewed.new_children.1)
-                  (cases_lt (r % 2) 1),
-              has_children-kept pairs k a (address_at (set pairs k a) r) ready.within ready.free (omega arith) ∙
-                  child_shut pairs (address_at (set pairs k a) r) a h ready.leaf (omega arith) (omega arith),
-            )
-        | inr apart ↦ let z = address-old pairs k a r apart in elim (cases_eq r s) [
-          | inl same ↦ let is : address_at (set pairs k a) r ≡ a = z ∙ ap (address_at pairs) same ∙ ready.address in
-              let own : (node_at after r).children ≡ k = ap (λ t. (node_at after t).children) same ∙ renewed.own_children in
-              inr ((λ w. omega arith), ap (λ t. get_or (set pairs k a) t 0) own ∙ get_or-set_same pairs k a 0 within ∙ sym is)
-          | inr other ↦ let kept = renewed.children r apart other in
-              let was : AreChildrenAt pairs (address_at pairs r) (node_at before r).children = f.children r (omega arith) in
-              let at_apart : address_at pairs r ≢ a = λ w. other (h.tree.once r s (omega arith) (w ∙ sym ready.address)) in
-              ⊎_elim
-              (λ none. inl (
-                kept ∙ none.0,
-                ap (has_children (set pairs k a)) z ∙ has_children-kept pairs k a (address_at pairs r) within
-                    ready.free at_apart ∙ none.1,
-              ))
-              (λ some. let pair_is = some.1 in let free = ready.free in inr (
-                (λ w. some.0 (sym kept ∙ w)),
-                ap (λ t. get_or (set pairs k a) t 0) kept ∙ get_or-set_other pairs k (node_at before r).children a 0 (λ w.
-                    let y : get_or pairs (node_at before r).children 0 ≡ 0 = ap (λ t. get_or pairs t 0) w ∙ free in omega arith) ∙ some.1
-                    ∙ sym z,
-              )) was
-        ]
-      ];
-      upward = λ i given. elim (cases_eq i k) [
+-- what a forest says of slots, after a leaf was split
+
+module _ (pairs parents : List ℕ) (before after : List Node) (s k a mate : ℕ) (f : IsForest pairs parents before)
+    (ready : MayHalve pairs s k a mate) (up : has_children pairs (a / 2) ≡ true) (renewed : IsRenewed pairs before after s k a mate) where
+  abbrev h : ArePairs pairs
+  h = f.sound
+
+  -- the two new leaves have no children
+  new_whole : (r : ℕ) → r / 2 ≡ k → AreChildrenAt (set pairs k a) (address_at (set pairs k a) r) (node_at after r).children
+  new_whole r here =
+      let low = ready.low in
+      let z = address-new pairs k a r ready.within here in
+      inl (
+        ⊎_elim
+            (λ even. let e : r ≡ 2 * k = omega arith in ap (λ t. (node_at after t).children) e ∙ renewed.new_children.0)
+            (λ odd. let e : r ≡ 2 * k + 1 = omega arith in ap (λ t. (node_at after t).children) e ∙ renewed.new_children.1)
+            (cases_lt (r % 2) 1),
+        has_children-kept pairs k a (address_at (set pairs k a) r) ready.within ready.free (omega arith) ∙
+            child_shut pairs (address_at (set pairs k a) r) a h ready.leaf (omega arith) (omega arith),
+      )
+
+  -- the triangle that was split has the pair k
+  split_given : (r : ℕ) → r / 2 ≢ k → r ≡ s → AreChildrenAt (set pairs k a) (address_at (set pairs k a) r) (node_at after r).children
+  split_given r apart same =
+      let within = ready.within in
+      let short = h.short in
+      let is : address_at (set pairs k a) r ≡ a = address-old pairs k a r apart ∙ ap (address_at pairs) same ∙ ready.address in
+      let own : (node_at after r).children ≡ k = ap (λ t. (node_at after t).children) same ∙ renewed.own_children in
+      inr ((λ w. omega arith), ap (λ t. get_or (set pairs k a) t 0) own ∙ get_or-set_same pairs k a 0 within ∙ sym is)
+
+  -- and every other one has the children that it had
+  others_given : (r : ℕ) → IsLive (set pairs k a) r → r / 2 ≢ k → r ≢ s →
+      AreChildrenAt (set pairs k a) (address_at (set pairs k a) r) (node_at after r).children
+  others_given r live apart other =
+      let low = ready.low in
+      let z = address-old pairs k a r apart in
+      let kept = renewed.children r apart other in
+      let was : AreChildrenAt pairs (address_at pairs r) (node_at before r).children = f.children r (omega arith) in
+      let at_apart : address_at pairs r ≢ a = λ w. other (h.tree.once r s (omega arith) (w ∙ sym ready.address)) in
+      ⊎_elim
+      (λ none. inl (
+        kept ∙ none.0,
+        ap (has_children (set pairs k a)) z ∙ has_children-kept pairs k a (address_at pairs r) ready.within ready.free at_apart ∙ none.1,
+      ))
+      (λ some. let pair_is = some.1 in let free = ready.free in inr (
+        (λ w. some.0 (sym kept ∙ w)),
+        ap (λ t. get_or (set pairs k a) t 0) kept ∙ get_or-set_other pairs k (node_at before r).children a 0 (λ w.
+            let y : get_or pairs (node_at before r).children 0 ≡ 0 = ap (λ t. get_or pairs t 0) w ∙ free in omega arith) ∙ some.1 ∙ sym z,
+      )) was
+
+  -- the parent of each pair has its address
+  parents_right : (i : ℕ) → 2 ≤ get_or (set pairs k a) i 0 →
+      address_at (set pairs k a) (get_or (set parents k s) i 0) ≡ get_or (set pairs k a) i 0
+  parents_right i given =
+      let low = ready.low in let within = ready.within in let parent_count = f.parent_count in
+      elim (cases_eq i k) [
         | inl here ↦
             let s_apart : s / 2 ≢ k = live_apart pairs k s ready.free (let z = ready.address in omega arith) in
             ap (λ t. address_at (set pairs k a) (get_or (set parents k s) t 0)) here
@@ -293,11 +293,36 @@ forest_halved pairs parents before after s k a mate f ready up renewed =
         | inr apart ↦
             let top : get_or (set pairs k a) i 0 ≡ get_or pairs i 0 = get_or-set_other pairs k i a 0 apart in
             let link : get_or (set parents k s) i 0 ≡ get_or parents i 0 = get_or-set_other parents k i s 0 apart in
-            let old : address_at pairs (get_or parents i 0) ≡ get_or pairs i 0 = f.upward i (omega arith) in
+            let old_at : address_at pairs (get_or parents i 0) ≡ get_or pairs i 0 = f.upward i (omega arith) in
             ap (address_at (set pairs k a)) link
-            ∙ address-old pairs k a (get_or parents i 0) (live_apart pairs k (get_or parents i 0) ready.free (omega arith)) ∙ old ∙ sym top
-      ];
-    }
+            ∙ address-old pairs k a (get_or parents i 0) (live_apart pairs k (get_or parents i 0) ready.free (omega arith)) ∙ old_at
+            ∙ sym top
+      ]
+
+  -- A forest in which a leaf was split is a forest.
+  pub forest_halved : IsForest (set pairs k a) (set parents k s) after
+  forest_halved =
+      let made = halving pairs before after s k a mate h ready renewed in
+      let tree : IsTree (net_of (set pairs k a) after) =
+      IsTree-halving (net_of pairs before) (net_of (set pairs k a) after) s k a (tree_of pairs before h) made up in
+      let count : length (set pairs k a) ≡ length pairs = length-set pairs k a in
+      let parent_count : length (set parents k s) ≡ length parents = length-set parents k s in
+      let same_count = f.parent_count in let node_count = f.node_count in let same_nodes = renewed.count in let short = h.short in
+      record {
+        sound = record {
+          tree = record { root = tree.root; parent = tree.parent; live = tree.live; once = tree.once };
+          small = small_set pairs k a h.small ready.high ready.within;
+          short = omega arith;
+        };
+        parent_count = omega arith;
+        node_count = omega arith;
+        linked = IsLinked-halving (net_of pairs before) (net_of (set pairs k a) after) s k a (tree_of pairs before h) made f.linked;
+        children = λ r live. elim (cases_eq (r / 2) k) [
+          | inl here ↦ new_whole r here
+          | inr apart ↦ elim (cases_eq r s) [ inl same ↦ split_given r apart same | inr other ↦ others_given r live apart other ]
+        ];
+        upward = parents_right;
+      }
 
 -- ---- what the code does to the nodes
 
