@@ -20,6 +20,7 @@ use Rattle.deferred_loop.specs.Seen.{SeenMesh, best_key, worst_key, sure, IsDeci
 use Rattle.deferred_loop.specs.Kept.{told_of, IsSettled, IsMet, IsAllowed, IsNoneMet}
 use Rattle.deferred_loop.specs.declared.queued.Head.{Head}
 use Rattle.deferred_loop.specs.declared.queued.Last.{Last}
+use Rattle.deferred_loop.specs.declared.queued.Located.{Located}
 use Rattle.deferred_loop.specs.declared.limit.Limit.{Limit}
 use Rattle.deferred_loop.specs.declared.limit.Limit.TheVariants.{Over, After, Zero}
 use Rattle.deferred_loop.proofs.KeyLemmas.{present, present_is, best_key-upper, worst_key-lower, sure_key, unsure, best_key-above, no_later_by, can_merge_with}
@@ -34,13 +35,16 @@ asked_level w told a same address = omega (arith, level-le w.n a address, told_g
 
 -- a head with no triangle to ask is decided
 pub last_decided : (s : SeenMesh) (h : Last) → IsLastHead s h → h.unasked ≡ None → IsDecided s h.rank.tri
-last_decided s h last none = subst (λ z. MatchOption z (IsDecided s h.rank.tri) (IsToAsk s h.rank.tri)) none last.unasked
+last_decided s h last none = subst (λ z. MatchOption z (IsDecided s h.rank.tri) (λ (t : Located). IsToAsk s h.rank.tri t.tri)) none
+    last.unasked
 
 -- the triangle to ask
-pub last_part : (s : SeenMesh) (h : Last) (t : ℕ) → IsLastHead s h → h.unasked ≡ Some t → IsInDiamond s.set.n h.rank.tri t × (s.known t ≡ false)
+pub last_part : (s : SeenMesh) (h : Last) (t : Located) → IsLastHead s h → h.unasked ≡ Some t →
+    IsInDiamond s.set.n h.rank.tri t.tri × (s.known t.tri ≡ false)
 last_part s h t last some =
-    let next : IsToAsk s h.rank.tri t = subst (λ z. MatchOption z (IsDecided s h.rank.tri) (IsToAsk s h.rank.tri)) some last.unasked in
-    (next.in_diamond, unsure s t next.not_sure)
+    let next : IsToAsk s h.rank.tri t.tri =
+    subst (λ z. MatchOption z (IsDecided s h.rank.tri) (λ (u : Located). IsToAsk s h.rank.tri u.tri)) some last.unasked in
+    (next.in_diamond, unsure s t.tri next.not_sure)
 
 -- the set of a settled mesh is closed
 pub grid_set_here : (w : DeferredFrame) (s : SeenMesh) → IsSettled w s → IsGridSet s.set.n s.set.members
@@ -71,7 +75,8 @@ module _ (w : DeferredFrame) (is : IsDeferredFrame w) (s : SeenMesh) (settled : 
     head_key : best_key s h.rank.tri ≡ upper_key p (sure s) h.rank.tri
     head_key = best_key-upper w s h.rank.tri (settled.keys h.rank.tri (leaf head_leaf))
 
-    head_first : (l : ℕ) → Contains (leaves_of w.n (among s.set.members)) l → IsNoLater ((upper_key p (sure s)) h.rank.tri) h.rank.tri ((upper_key p (sure s)) l) l
+    head_first : (l : ℕ) → Contains (leaves_of w.n (among s.set.members)) l →
+        IsNoLater ((upper_key p (sure s)) h.rank.tri) h.rank.tri ((upper_key p (sure s)) l) l
     head_first l i = no_later_by (best_key s) (upper_key p (sure s)) h.rank.tri l head_key (best_key-upper w s l (settled.keys l (leaf i)))
         (head.first l (subst (λ z. Contains (leaves_of z (among s.set.members)) l) (sym settled.grid) i))
 
@@ -90,16 +95,23 @@ module _ (w : DeferredFrame) (is : IsDeferredFrame w) (s : SeenMesh) (settled : 
     -- a head that is known
     pub head_known : h.sure ≡ true → (h.rank.p ≡ 0 → ⊥) → IsFirstRank w.n w.priority s.set.members h.rank
     head_known told some =
-        let value : h.rank.p ≡ w.priority h.rank.tri = head.value ∙ head_key ∙ upper_key-known p p_is (sure s) h.rank.tri (sym head.marked ∙ told) in
+        let value : h.rank.p ≡ w.priority h.rank.tri = head.value ∙ head_key
+        ∙ upper_key-known p p_is (sure s) h.rank.tri (sym head.marked ∙ told) in
         let positive : 0 < w.priority h.rank.tri = subst (λ z. 0 < z) value (positive_or_zero h.rank.p some) in
-        record { first = first_known p p_is s.set.members (sure s) h.rank.tri head_leaf (sym head.marked ∙ told) positive head_first; value = value }
+        record {
+          first = first_known p p_is s.set.members (sure s) h.rank.tri head_leaf (sym head.marked ∙ told) positive head_first;
+          value = value;
+        }
 
   -- the merge queue
 
   -- nothing can be merged
-  pub none_empty : (limit : Limit) → IsAllowed w s.set.members limit → ((a : ℕ) → CanMerge s.set.n (among s.set.members) a → ⊥) → IsNoneMet w s.set.members limit
-  none_empty Over over none = some_lead w.n w.priority s.set.members w.budget set.closed is.low over (λ d lead. none d (subst (λ z. CanMerge z (among s.set.members) d) (sym settled.grid) lead.mergeable))
-  none_empty (After f) first none = λ d lead. absurd (none d (subst (λ z. CanMerge z (among s.set.members) d) (sym settled.grid) lead.mergeable))
+  pub none_empty : (limit : Limit) → IsAllowed w s.set.members limit → ((a : ℕ) → CanMerge s.set.n (among s.set.members) a → ⊥) →
+      IsNoneMet w s.set.members limit
+  none_empty Over over none = some_lead w.n w.priority s.set.members w.budget set.closed is.low over
+      (λ d lead. none d (subst (λ z. CanMerge z (among s.set.members) d) (sym settled.grid) lead.mergeable))
+  none_empty (After f) first none = λ d lead. absurd
+      (none d (subst (λ z. CanMerge z (among s.set.members) d) (sym settled.grid) lead.mergeable))
   none_empty Zero _ none = λ d lead. absurd (none d (subst (λ z. CanMerge z (among s.set.members) d) (sym settled.grid) lead.mergeable))
 
   module _ (h : Last) (last : IsLastHead s h) where
@@ -123,7 +135,8 @@ module _ (w : DeferredFrame) (is : IsDeferredFrame w) (s : SeenMesh) (settled : 
       in_diamond = diamond_symmetric w.n h.rank.tri t last_address i;
       better = λ b j.
           let whole = diamond_trans w.n h.rank.tri t b last_address i j in
-          no_later_by (worst_key s) (lower_key p (sure s)) h.rank.tri b (key_of h.rank.tri last_can) (key_of b (can_merge_with w.n (among s.set.members) h.rank.tri b set.closed last_can whole))
+          no_later_by (worst_key s) (lower_key p (sure s)) h.rank.tri b (key_of h.rank.tri last_can)
+          (key_of b (can_merge_with w.n (among s.set.members) h.rank.tri b set.closed last_can whole))
           (last.better b (subst (λ z. IsInDiamond z h.rank.tri b) (sym settled.grid) whole));
       last = λ d lead.
           let e = last.last d (subst (λ z. CanMerge z (among s.set.members) d) (sym settled.grid) lead.mergeable) in
@@ -131,7 +144,8 @@ module _ (w : DeferredFrame) (is : IsDeferredFrame w) (s : SeenMesh) (settled : 
             e.0,
             inside,
             no_later_by (worst_key s) (lower_key p (sure s)) e.0 h.rank.tri
-                (key_of e.0 (can_merge_with w.n (among s.set.members) d e.0 set.closed lead.mergeable inside)) (key_of h.rank.tri last_can) e.2,
+                (key_of e.0 (can_merge_with w.n (among s.set.members) d e.0 set.closed lead.mergeable inside)) (key_of h.rank.tri last_can)
+                e.2,
           );
     }
 
@@ -139,7 +153,8 @@ module _ (w : DeferredFrame) (is : IsDeferredFrame w) (s : SeenMesh) (settled : 
     own_key = last_key h.rank.tri (inl refl)
 
     -- a key that is not after f is before it
-    key_before : (f : Rank) → IsFirstRank w.n w.priority s.set.members f → (ComesFirst f h.rank → ⊥) → IsBefore ((lower_key p (sure s)) h.rank.tri) h.rank.tri (w.priority f.tri) f.tri
+    key_before : (f : Rank) → IsFirstRank w.n w.priority s.set.members f → (ComesFirst f h.rank → ⊥) →
+        IsBefore ((lower_key p (sure s)) h.rank.tri) h.rank.tri (w.priority f.tri) f.tri
     key_before f first other = ⊎_elim
         (λ (less : h.rank.p < f.p). absurd (other (inl less)))
         (λ (most : f.p ≤ h.rank.p). ⊎_elim
@@ -166,34 +181,46 @@ module _ (w : DeferredFrame) (is : IsDeferredFrame w) (s : SeenMesh) (settled : 
     -- a key that does not meet the limit
     pub none_met : (limit : Limit) → IsAllowed w s.set.members limit → (IsMet limit h.rank → ⊥) → IsNoneMet w s.set.members limit
     none_met Over over unmet = unmet tt
-    none_met (After f) first unmet = λ d lead. all_before p p_is s.set.members (sure s) h.rank.tri h.rank.tri f.tri set own_key (key_before f first unmet) d lead
-    none_met Zero _ unmet = λ d lead. all_positive p p_is s.set.members (sure s) h.rank.tri h.rank.tri set own_key (subst (λ z. 0 < z) last_value (positive_or_zero h.rank.p unmet)) d lead
+    none_met (After f) first unmet = λ d lead. all_before p p_is s.set.members (sure s) h.rank.tri h.rank.tri f.tri set own_key
+        (key_before f first unmet) d lead
+    none_met Zero _ unmet = λ d lead. all_positive p p_is s.set.members (sure s) h.rank.tri h.rank.tri set own_key
+        (subst (λ z. 0 < z) last_value (positive_or_zero h.rank.p unmet)) d lead
 
     -- the triangle to ask is an entry of the mesh
     pub last_entry : (t : ℕ) → IsInDiamond s.set.n h.rank.tri t → IsEntry s.set.n (among s.set.members) t
-    last_entry t inside = member (can_merge_with s.set.n (among s.set.members) h.rank.tri t (grid_set_here w s settled).closed last.mergeable inside)
+    last_entry t inside = member (can_merge_with s.set.n (among s.set.members) h.rank.tri t (grid_set_here w s settled).closed
+        last.mergeable inside)
 
     -- and may be asked
     pub last_level : (told : Priorities) (t : ℕ) → told ≡ told_of w → IsInDiamond s.set.n h.rank.tri t → level_of t ≤ 2 * told.n
     last_level told t same inside = asked_level w told t same
-        (IsAddress-entry w.n s.set.members t set (member (last_key t (subst (λ z. IsInDiamond z h.rank.tri t) settled.grid inside)).mergeable))
+        (IsAddress-entry w.n s.set.members t set
+        (member (last_key t (subst (λ z. IsInDiamond z h.rank.tri t) settled.grid inside)).mergeable))
 
     -- a diamond that is decided
     pub last_is : IsDecided s h.rank.tri → IsLastRank w.n w.priority s.set.members h.rank
     last_is decided =
-        let value : h.rank.p ≡ w.priority h.rank.tri = last.value ∙ (sure_key w s h.rank.tri (settled.keys h.rank.tri (member last_can)) decided.own).1 in
+        let value : h.rank.p ≡ w.priority h.rank.tri = last.value
+        ∙ (sure_key w s h.rank.tri (settled.keys h.rank.tri (member last_can)) decided.own).1 in
         record {
           last = record {
-            lead = record { mergeable = last_can; first = λ b mate. ranks_first b mate value (decided.mate b (subst (λ z. IsMate z h.rank.tri b) (sym settled.grid) mate)) };
-            last = λ d lead differ. strictly d differ value (lead_no_later_key p p_is s.set.members (sure s) h.rank.tri h.rank.tri set own_key d lead);
+            lead = record {
+              mergeable = last_can;
+              first = λ b mate. ranks_first b mate value
+                  (decided.mate b (subst (λ z. IsMate z h.rank.tri b) (sym settled.grid) mate));
+            };
+            last = λ d lead differ. strictly d differ value (lead_no_later_key p p_is s.set.members (sure s) h.rank.tri h.rank.tri set
+                own_key d lead);
           };
           value = value;
         }
       where
         -- its mate ranks after it
-        ranks_first : (b : ℕ) → IsMate w.n h.rank.tri b → h.rank.p ≡ w.priority h.rank.tri → IsNoLater ((worst_key s) h.rank.tri) h.rank.tri ((best_key s) b) b → RanksBefore w.priority h.rank.tri b
+        ranks_first : (b : ℕ) → IsMate w.n h.rank.tri b → h.rank.p ≡ w.priority h.rank.tri →
+            IsNoLater ((worst_key s) h.rank.tri) h.rank.tri ((best_key s) b) b → RanksBefore w.priority h.rank.tri b
         ranks_first b mate value order =
-            let above = best_key-above w s b (settled.keys b (member (can_merge_with w.n (among s.set.members) h.rank.tri b set.closed last_can (inr mate)))) in
+            let above = best_key-above w s b (settled.keys b
+            (member (can_merge_with w.n (among s.set.members) h.rank.tri b set.closed last_can (inr mate)))) in
             let key = last.value in
             ⊎_elim
             (λ (more : best_key s b < worst_key s h.rank.tri). inl (omega arith))
@@ -210,7 +237,8 @@ module _ (w : DeferredFrame) (is : IsDeferredFrame w) (s : SeenMesh) (settled : 
             order
 
         -- another lead ranks before it
-        strictly : (d : ℕ) → (d ≡ h.rank.tri → ⊥) → h.rank.p ≡ w.priority h.rank.tri → IsNoLater (w.priority d) d ((lower_key p (sure s)) h.rank.tri) h.rank.tri → RanksBefore w.priority d h.rank.tri
+        strictly : (d : ℕ) → (d ≡ h.rank.tri → ⊥) → h.rank.p ≡ w.priority h.rank.tri →
+            IsNoLater (w.priority d) d ((lower_key p (sure s)) h.rank.tri) h.rank.tri → RanksBefore w.priority d h.rank.tri
         strictly d differ value (inl more) = inl (omega (arith, last_value))
         strictly d differ value (inr tie) = inr (
           tie.0 ∙ sym last_value ∙ value,

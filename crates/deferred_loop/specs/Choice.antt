@@ -50,8 +50,8 @@ pub record IsNextEnd (n budget : ℕ) (priority : ℕ → ℕ) (members : List �
 
 -- the choice is right
 abbrev pub IsNext : (n budget : ℕ) (priority : ℕ → ℕ) (members : List ℕ) → Next → Type 0
-IsNext n budget priority members (Split f) = IsNextSplit n budget priority members f
-IsNext n budget priority members (Merge d) = IsNextMerge n budget priority members d
+IsNext n budget priority members (Split f) = IsNextSplit n budget priority members f.tri
+IsNext n budget priority members (Merge d) = IsNextMerge n budget priority members d.tri
 IsNext n budget priority members (End e) = IsNextEnd n budget priority members e
 
 -- A frame changes no more than it must: nothing is merged where the set only grows, nothing split where it only shrinks, and at
@@ -60,5 +60,6 @@ pub record IsSparing (n budget : ℕ) (priority : ℕ → ℕ) (start last : Lis
   pub size : length start + splits ≡ length last + merges
   pub no_merge : IsSubset (among start) (among last) → merges ≡ 0
   pub no_split : IsSubset (among last) (among start) → splits ≡ 0
-  pub bound : (ranking : List ℕ) (chosen : ℕ) (loose : List ℕ) → IsRanking n priority ranking → IsRankClosure n budget ranking chosen (among last) →
+  pub bound : (ranking : List ℕ) (chosen : ℕ) (loose : List ℕ) → IsRanking n priority ranking →
+      IsRankClosure n budget ranking chosen (among last) →
       AreLoose n ranking chosen start loose → merges ≤ length loose

@@ -1,7 +1,7 @@
 -- What the loop keeps, half way through a frame: keys that are true, charges for what was asked, and stamps that hold.
 -- All of it is this project's own.
--- Words: told_of, IsFrameOf, IsTrueKey, IsSound, IsSettled, IsOldLeaf, IsOldMember, IsCharged, IsAskedOnly, SplitsUnasked, IsCaughtUp, IsStamped,
--- IsMet, IsAllowed, IsNoneMet.
+-- Words: told_of, IsFrameOf, IsTrueKey, IsSound, IsSettled, IsOldLeaf, IsOldMember, IsCharged, IsAskedOnly, SplitsUnasked, IsStepAt,
+-- IsCaughtUp, IsStamped, IsMet, IsAllowed, IsNoneMet.
 use Rattle.std.specs.Prelude.{◌≡◌, ℕ, ◌+◌, ◌-◌, ◌*◌, ◌^◌, ◌<◌, ◌≤◌, ◌⊎◌, ⊤, true, false, cond, nat_eq, IsTrue, List, [], length, Contains, Some}
 use Rattle.std.specs.List.{IsDistinct}
 use Rattle.mesh_defs.specs.ClosedSet.{leaves_of, among}
@@ -72,7 +72,8 @@ pub record IsCharged (w : DeferredFrame) (evaluations : ℕ) (s : SeenMesh) (add
   pub distinct : IsDistinct nat_eq asked
   pub each : (a : ℕ) → IsTrue (among asked a) → IsOpen w a
   pub reserve : List ℕ
-  pub leaf : (a : ℕ) → Contains (leaves_of w.n (among s.set.members)) a → s.known a ≡ false → IsTrue (among reserve a) ⊎ IsOldLeaf w s asked a
+  pub leaf : (a : ℕ) → Contains (leaves_of w.n (among s.set.members)) a → s.known a ≡ false → IsTrue (among reserve a)
+      ⊎ IsOldLeaf w s asked a
   pub member : (a : ℕ) → CanMerge w.n (among s.set.members) a → s.known a ≡ false → IsTrue (among reserve a) ⊎ IsOldMember w s asked a
   pub total : count + length reserve ≤ evaluations + 2 * length asked + 6 * (added + removed)
 
@@ -82,13 +83,20 @@ pub record IsAskedOnly (w : DeferredFrame) (before after : SeenMesh) (count more
   pub stamp : (a : ℕ) → after.stamps a ≡ before.stamps a
   pub settled : IsSettled w after
   pub counted : count ≤ more
-  pub charged : (evaluations added removed : ℕ) → IsCharged w evaluations before added removed count → IsCharged w evaluations after added removed more
+  pub charged : (evaluations added removed : ℕ) → IsCharged w evaluations before added removed count →
+      IsCharged w evaluations after added removed more
 
 -- where the choice is a split, nothing was asked for it: the mesh and the count are as before
 abbrev pub SplitsUnasked : Next → SeenMesh → SeenMesh → ℕ → ℕ → Type 0
 SplitsUnasked (Split t) before after count more = (after ≡ before) × (more ≡ count)
 SplitsUnasked (Merge t) before after count more = ⊤
 SplitsUnasked (End e) before after count more = ⊤
+
+-- the triangle of the step is at the slot that the choice names
+abbrev pub IsStepAt : (ℕ → ℕ) → Next → Type 0
+IsStepAt tri_at (Split t) = tri_at t.slot.0 ≡ t.tri
+IsStepAt tri_at (Merge t) = tri_at t.slot.0 ≡ t.tri
+IsStepAt tri_at (End e) = ⊤
 
 -- all that was fresh is entered
 pub record IsCaughtUp (w : DeferredFrame) (r : Readings) (odometer : ℕ) (before after : SeenMesh) : Type 0 where

@@ -89,7 +89,7 @@ pub record IsLastHead (s : SeenMesh) (h : Last) : Type 0 where
       (e : ℕ) × IsInDiamond s.set.n a e × IsNoLater (worst_key s e) e (worst_key s h.rank.tri) h.rank.tri
   pub unasked : MatchOption h.unasked
       (IsDecided s h.rank.tri)
-      (IsToAsk s h.rank.tri)
+      (λ t. IsToAsk s h.rank.tri t.tri)
 
 -- a told rank is known from now on, and all else stays
 pub record IsTold (before after : SeenMesh) (r : Rank) : Type 0 where
@@ -169,7 +169,8 @@ pub record IsBegun (before after : SeenMesh) (odometer : ℕ) : Type 0 where
   pub distinct : IsDistinct nat_eq after.fresh
   pub each : (a : ℕ) → IsTrue (among after.fresh a) →
       IsEntry after.set.n (among after.set.members) a × (is_due odometer (before.stamps a) ≡ true)
-  pub rest : (a : ℕ) → IsEntry after.set.n (among after.set.members) a → among after.fresh a ≡ false → is_due odometer (before.stamps a) ≡ false
+  pub rest : (a : ℕ) → IsEntry after.set.n (among after.set.members) a → among after.fresh a ≡ false →
+      is_due odometer (before.stamps a) ≡ false
 
 -- what was told is forgotten, and all else stays
 pub record IsForgotten (before after : SeenMesh) : Type 0 where

@@ -1,22 +1,40 @@
 //! The first leaf and the last diamond, by asking at the heads of the mesh.
 
-ghost use Rattle.std.specs.Prelude.{◌≡◌, ◌≤◌, ℕ, MatchOption, All};
+ghost use Rattle.std.specs.Prelude.{◌≡◌, ◌+◌, ◌*◌, ◌≤◌, ℕ, [], false, IfSome, MatchOption, All};
+ghost use Rattle.mesh_defs.specs.Triangle.{level_of};
 ghost use Rattle.mesh_defs.specs.ClosedSet.{leaves_of, among};
 ghost use Rattle.frame_steps.specs.Steps.{leaf_count};
-ghost use Rattle.frame_steps.specs.Deferred.{DeferredFrame, IsDeferredFrame};
+ghost use Rattle.frame_steps.specs.Deferred.{DeferredFrame, IsDeferredFrame, IsEntry};
 ghost use Rattle.deferred_loop.specs.Choice.{IsFirstRank, IsLastRank};
-ghost use Rattle.deferred_loop.specs.Seen.{SeenMesh};
+ghost use Rattle.deferred_loop.specs.Seen.{SeenMesh, IsTold};
 ghost use Rattle.deferred_loop.specs.Kept.{told_of, IsSettled, IsAskedOnly, IsMet, IsAllowed, IsNoneMet};
 
 use crate::gauge::Gauge;
 use crate::limit::Limit;
-use crate::queued::QueuedMesh;
-use bintree_addr::Rank;
+use crate::queued::{Head, Last, Located, QueuedMesh};
+
+/// Asks the priority of a triangle, and tells it to the mesh.
+fn ask<M: QueuedMesh, G: Gauge>(mesh: &mut M, gauge: &mut G, t: Located)
+    requires level { level_of t.tri ≤ 2 * (G.told gauge.old).n }
+    requires at { M.tri_at mesh.old t.slot.0 ≡ t.tri }
+    requires settled { (M.seen mesh.old).fresh ≡ [] }
+    requires entry { IsEntry (M.seen mesh.old).set.n (among (M.seen mesh.old).set.members) t.tri }
+    requires unknown { (M.seen mesh.old).known t.tri ≡ false }
+    ensures told { G.told gauge.new ≡ G.told gauge.old }
+    ensures readings { G.readings gauge.new ≡ G.readings gauge.old }
+    ensures log { M.log mesh.new ≡ M.log mesh.old }
+    ensures known { IsTold (M.seen mesh.old) (M.seen mesh.new) (record { p = (G.told gauge.old).of t.tri; tri = t.tri }) }
+    ensures rises { G.count gauge.old ≤ G.count gauge.new }
+    ensures most { G.count gauge.new ≤ G.count gauge.old + 1 }
+{
+    let rank = gauge.rank(t.tri);
+    mesh.tell(t.slot, rank);
+}
 
 /// The first leaf in rank, if one has a positive priority.
 ///
 /// Only the head of the split queue is asked, and only within the budget: above it the split queue is not looked at.
-pub fn settle_first<M: QueuedMesh, G: Gauge>(mesh: &mut M, gauge: &mut G) -> Option<Rank>
+pub fn settle_first<M: QueuedMesh, G: Gauge>(mesh: &mut M, gauge: &mut G) -> Option<Head>
     ghost w: { DeferredFrame }
     requires frame { IsDeferredFrame w }
     requires told { G.told gauge.old ≡ told_of w }
@@ -28,7 +46,8 @@ pub fn settle_first<M: QueuedMesh, G: Gauge>(mesh: &mut M, gauge: &mut G) -> Opt
     ensures asked { IsAskedOnly w (M.seen mesh.old) (M.seen mesh.new) (G.count gauge.old) (G.count gauge.new) }
     ensures first { MatchOption result
         (All (λ a. w.priority a ≡ 0) (leaves_of w.n (among (M.seen mesh.old).set.members)))
-        (IsFirstRank w.n w.priority (M.seen mesh.old).set.members) }
+        (λ h. IsFirstRank w.n w.priority (M.seen mesh.old).set.members h.rank) }
+    ensures at { IfSome result (λ h. M.tri_at mesh.new h.slot.0 ≡ h.rank.tri) }
 {
     'asking: loop {
         let head = mesh.first();
@@ -36,10 +55,9 @@ pub fn settle_first<M: QueuedMesh, G: Gauge>(mesh: &mut M, gauge: &mut G) -> Opt
             return None;
         }
         if head.sure {
-            return Some(head.rank);
+            return Some(head);
         }
-        let rank = gauge.rank(head.rank.tri);
-        mesh.tell(rank);
+        ask(mesh, gauge, head.leaf());
     }
 }
 
@@ -51,7 +69,7 @@ pub fn settle_last<M: QueuedMesh, G: Gauge>(
     mesh: &mut M,
     gauge: &mut G,
     limit: &Limit,
-) -> Option<Rank>
+) -> Option<Last>
     ghost w: { DeferredFrame }
     requires frame { IsDeferredFrame w }
     requires told { G.told gauge.old ≡ told_of w }
@@ -63,7 +81,8 @@ pub fn settle_last<M: QueuedMesh, G: Gauge>(
     ensures asked { IsAskedOnly w (M.seen mesh.old) (M.seen mesh.new) (G.count gauge.old) (G.count gauge.new) }
     ensures last { MatchOption result
         (IsNoneMet w (M.seen mesh.old).set.members limit.now)
-        (λ d. IsLastRank w.n w.priority (M.seen mesh.old).set.members d × IsMet limit.now d) }
+        (λ d. IsLastRank w.n w.priority (M.seen mesh.old).set.members d.rank × IsMet limit.now d.rank) }
+    ensures at { IfSome result (λ d. M.tri_at mesh.new d.slot.0 ≡ d.rank.tri) }
 {
     'asking: loop {
         let Some(head) = mesh.last() else {
@@ -73,9 +92,8 @@ pub fn settle_last<M: QueuedMesh, G: Gauge>(
             return None;
         }
         let Some(t) = head.unasked else {
-            return Some(head.rank);
+            return Some(head);
         };
-        let rank = gauge.rank(t);
-        mesh.tell(rank);
+        ask(mesh, gauge, t);
     }
 }

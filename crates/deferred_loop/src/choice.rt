@@ -6,14 +6,14 @@ ghost use Rattle.frame_steps.specs.Steps.{leaf_count};
 ghost use Rattle.frame_steps.specs.Deferred.{DeferredFrame, IsDeferredFrame};
 ghost use Rattle.deferred_loop.specs.Choice.{IsFirstRank, IsNext};
 ghost use Rattle.deferred_loop.specs.Seen.{SeenMesh};
-ghost use Rattle.deferred_loop.specs.Kept.{told_of, IsSettled, IsAskedOnly, SplitsUnasked};
+ghost use Rattle.deferred_loop.specs.Kept.{told_of, IsSettled, IsAskedOnly, SplitsUnasked, IsStepAt};
 
 use crate::asking::{settle_first, settle_last};
 use crate::gauge::Gauge;
 use crate::limit::Limit;
 use crate::next::{Ending, Next};
-use crate::queued::QueuedMesh;
-use bintree_addr::{Blocked, Rank};
+use crate::queued::{Head, QueuedMesh};
+use bintree_addr::Blocked;
 
 /// Where the leaves exceed the budget.
 fn choose_over<M: QueuedMesh, G: Gauge>(mesh: &mut M, gauge: &mut G) -> Next
@@ -27,9 +27,10 @@ fn choose_over<M: QueuedMesh, G: Gauge>(mesh: &mut M, gauge: &mut G) -> Next
     ensures log { M.log mesh.new ≡ M.log mesh.old }
     ensures asked { IsAskedOnly w (M.seen mesh.old) (M.seen mesh.new) (G.count gauge.old) (G.count gauge.new) }
     ensures next { IsNext w.n w.budget w.priority (M.seen mesh.old).set.members result }
+    ensures at { IsStepAt (M.tri_at mesh.new) result }
 {
     match settle_last(mesh, gauge, &Limit::Over) {
-        Some(d) => Next::Merge(d.tri),
+        Some(d) => Next::Merge(d.diamond()),
         None => Next::End(Ending {
             worst: 0,
             blocked: None,
@@ -41,7 +42,7 @@ fn choose_over<M: QueuedMesh, G: Gauge>(mesh: &mut M, gauge: &mut G) -> Next
 fn choose_with<M: QueuedMesh, G: Gauge>(
     mesh: &mut M,
     gauge: &mut G,
-    first: &Rank,
+    first: &Head,
     budget: u32,
 ) -> Next
     ghost w: { DeferredFrame }
@@ -50,24 +51,26 @@ fn choose_with<M: QueuedMesh, G: Gauge>(
     requires settled { IsSettled w (M.seen mesh.old) }
     requires budget { budget ≡ w.budget }
     requires within { leaf_count w.n (M.seen mesh.old).set.members ≤ w.budget }
-    requires first { IsFirstRank w.n w.priority (M.seen mesh.old).set.members first.now }
+    requires first { IsFirstRank w.n w.priority (M.seen mesh.old).set.members first.now.rank }
+    requires at { M.tri_at mesh.old first.now.slot.0 ≡ first.now.rank.tri }
     ensures told { G.told gauge.new ≡ G.told gauge.old }
     ensures readings { G.readings gauge.new ≡ G.readings gauge.old }
     ensures log { M.log mesh.new ≡ M.log mesh.old }
     ensures asked { IsAskedOnly w (M.seen mesh.old) (M.seen mesh.new) (G.count gauge.old) (G.count gauge.new) }
     ensures split { SplitsUnasked result (M.seen mesh.old) (M.seen mesh.new) (G.count gauge.old) (G.count gauge.new) }
     ensures next { IsNext w.n w.budget w.priority (M.seen mesh.old).set.members result }
+    ensures at { IsStepAt (M.tri_at mesh.new) result }
 {
-    let need = mesh.leaf_count() + mesh.gain(first.tri);
+    let need = mesh.leaf_count() + mesh.gain(first.leaf());
     if need <= budget {
-        return Next::Split(first.tri);
+        return Next::Split(first.leaf());
     }
-    match settle_last(mesh, gauge, &Limit::After(*first)) {
-        Some(d) => Next::Merge(d.tri),
+    match settle_last(mesh, gauge, &Limit::After(first.rank)) {
+        Some(d) => Next::Merge(d.diamond()),
         None => Next::End(Ending {
-            worst: first.p,
+            worst: first.rank.p,
             blocked: Some(Blocked {
-                tri: first.tri,
+                tri: first.rank.tri,
                 need,
             }),
         }),
@@ -87,9 +90,10 @@ fn choose_without<M: QueuedMesh, G: Gauge>(mesh: &mut M, gauge: &mut G) -> Next
     ensures log { M.log mesh.new ≡ M.log mesh.old }
     ensures asked { IsAskedOnly w (M.seen mesh.old) (M.seen mesh.new) (G.count gauge.old) (G.count gauge.new) }
     ensures next { IsNext w.n w.budget w.priority (M.seen mesh.old).set.members result }
+    ensures at { IsStepAt (M.tri_at mesh.new) result }
 {
     match settle_last(mesh, gauge, &Limit::Zero) {
-        Some(d) => Next::Merge(d.tri),
+        Some(d) => Next::Merge(d.diamond()),
         None => Next::End(Ending {
             worst: 0,
             blocked: None,
@@ -109,6 +113,7 @@ pub fn choose<M: QueuedMesh, G: Gauge>(mesh: &mut M, gauge: &mut G, budget: u32)
     ensures log { M.log mesh.new ≡ M.log mesh.old }
     ensures asked { IsAskedOnly w (M.seen mesh.old) (M.seen mesh.new) (G.count gauge.old) (G.count gauge.new) }
     ensures next { IsNext w.n w.budget w.priority (M.seen mesh.old).set.members result }
+    ensures at { IsStepAt (M.tri_at mesh.new) result }
 {
     if mesh.leaf_count() > budget {
         return choose_over(mesh, gauge);

@@ -2,7 +2,7 @@
 //!
 //! A frame begins with the mesh of the frame before, and splits and merges one diamond at a time until it is the mesh of the
 //! budget. Most priorities are bounds of earlier frames; one is asked only where its bound leaves its place open. The loop
-//! names no heap and no slot, sees no heights and no camera, and takes no memory.
+//! names no heap, sees no heights and no camera, and takes no memory.
 
 #![tactic(auto)]
 
@@ -23,5 +23,5 @@ pub use frame::{Steps, advance};
 pub use gauge::{Gauge, Reading};
 pub use limit::Limit;
 pub use next::{Ending, Next};
-pub use queued::{Head, Last, QueuedMesh};
+pub use queued::{Head, Last, Located, QueuedMesh};
 pub use step::{merge_at, split_at};

@@ -1,6 +1,7 @@
 //! What comes next in a frame.
 
-use bintree_addr::{Blocked, Tri};
+use crate::queued::Located;
+use bintree_addr::Blocked;
 
 /// What is known of a mesh at the end of a frame.
 #[derive(Clone, Copy)]
@@ -15,9 +16,9 @@ pub struct Ending {
 #[derive(Clone, Copy)]
 pub enum Next {
     /// The triangle is split with what it forces.
-    Split(Tri),
+    Split(Located),
     /// The diamond of the triangle is merged.
-    Merge(Tri),
+    Merge(Located),
     /// No step is left.
     End(Ending),
 }

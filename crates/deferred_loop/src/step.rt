@@ -11,27 +11,27 @@ ghost use Rattle.deferred_loop.specs.Kept.{told_of, IsSettled, IsCharged, IsStam
 
 use crate::entering::enter_fresh;
 use crate::gauge::Gauge;
-use crate::queued::QueuedMesh;
-use bintree_addr::Tri;
+use crate::queued::{Located, QueuedMesh};
 
 /// Splits the first leaf with what it forces, enters what is new, and counts what was added.
 pub fn split_at<M: QueuedMesh, G: Gauge>(
     mesh: &mut M,
     gauge: &mut G,
     odometer: u64,
-    t: Tri,
+    t: Located,
     splits: &mut u32,
 )
     ghost w: { DeferredFrame }
     requires frame { IsDeferredFrame w }
     requires told { G.told gauge.old ≡ told_of w }
     requires settled { IsSettled w (M.seen mesh.old) }
-    requires next { IsNextSplit w.n w.budget w.priority (M.seen mesh.old).set.members t }
+    requires next { IsNextSplit w.n w.budget w.priority (M.seen mesh.old).set.members t.tri }
     requires hold { ReadingsHold w.n w.priority odometer (G.readings gauge.old) }
     requires far { odometer ≤ 2 ^ 62 }
     requires small { splits.old ≤ 2 ^ 30 }
     requires counter { (M.seen mesh.old).set.splits + 48 < 2 ^ 62 }
     requires room { HasRoom w.n (M.seen mesh.old).set.most w.budget }
+    requires at { M.tri_at mesh.old t.slot.0 ≡ t.tri }
     ensures told { G.told gauge.new ≡ G.told gauge.old }
     ensures readings { G.readings gauge.new ≡ G.readings gauge.old }
     ensures log { IsLogged (M.seen mesh.old).set (M.seen mesh.new).set (M.log mesh.old) (M.log mesh.new) }
@@ -57,18 +57,19 @@ pub fn merge_at<M: QueuedMesh, G: Gauge>(
     mesh: &mut M,
     gauge: &mut G,
     odometer: u64,
-    t: Tri,
+    t: Located,
     merges: &mut u32,
 )
     ghost w: { DeferredFrame }
     requires frame { IsDeferredFrame w }
     requires told { G.told gauge.old ≡ told_of w }
     requires settled { IsSettled w (M.seen mesh.old) }
-    requires next { IsNextMerge w.n w.budget w.priority (M.seen mesh.old).set.members t }
+    requires next { IsNextMerge w.n w.budget w.priority (M.seen mesh.old).set.members t.tri }
     requires hold { ReadingsHold w.n w.priority odometer (G.readings gauge.old) }
     requires far { odometer ≤ 2 ^ 62 }
     requires small { merges.old ≤ 2 ^ 30 }
     requires counter { (M.seen mesh.old).set.merges < 2 ^ 62 }
+    requires at { M.tri_at mesh.old t.slot.0 ≡ t.tri }
     ensures told { G.told gauge.new ≡ G.told gauge.old }
     ensures readings { G.readings gauge.new ≡ G.readings gauge.old }
     ensures log { IsLogged (M.seen mesh.old).set (M.seen mesh.new).set (M.log mesh.old) (M.log mesh.new) }

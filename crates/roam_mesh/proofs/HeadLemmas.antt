@@ -11,19 +11,17 @@ use Rattle.closure_laws.proofs.OrderLemmas.{before_cases, before-no_later}
 use Rattle.edge_laws.specs.Edge.{mate_of}
 use Rattle.edge_laws.specs.Slots.{address_at, has_children, IsLive, IsPool, HasLeaf, diamond_size}
 use Rattle.edge_laws.proofs.SlotLemmas.{size_one, size_two}
-use Rattle.edge_laws.proofs.MateLemmas.{mate_of-low}
-use Rattle.edge_laws.specs.Chief.{chief_of}
 use Rattle.frame_steps.specs.Stamps.{Stamp}
 use Rattle.split_queue.specs.First.{IsFirstRank}
 use Rattle.force_split.specs.Chain.{chain_size}
 use Rattle.triangle_pool.specs.Slots.{PoolState}
 use Rattle.deferred_loop.specs.Seen.{upper_of, lower_of, best_key, worst_key, sure, IsHead}
 use Rattle.roam_mesh.specs.Mesh.{slot_of, pool_members}
-use Rattle.roam_mesh.specs.Parts.{PartsState, stamp_in, best_of, worst_of, entry_at, entry_of, seen_parts, is_leaf_at, is_ready_at, is_chief_at, is_out, leaf_rank, diamond_rank, blank, IsWhole, IsPlaced, IsParts}
+use Rattle.roam_mesh.specs.Parts.{PartsState, stamp_in, best_of, worst_of, entry_at, entry_of, seen_parts, is_leaf_at, is_chief_at, is_out, leaf_rank, diamond_rank, blank, IsWhole, IsPlaced, IsParts}
 use Rattle.roam_mesh.specs.Keys.{is_sure}
 use Rattle.roam_mesh.specs.declared.entry.Entry.{Entry}
 use Rattle.roam_mesh.proofs.PlaceLemmas.{slot_of-at, live_below}
-use Rattle.roam_mesh.proofs.RoleLemmas.{leaf_parts, leaf_live, ready_live, leaf_of-at, leaf_at-of, some_leaf}
+use Rattle.roam_mesh.proofs.RoleLemmas.{leaf_parts, leaf_live, leaf_of-at, leaf_at-of, some_leaf}
 
 -- ---- the keys
 
@@ -32,7 +30,8 @@ cond_some true x y e = (refl, (cc))
 cond_some false x y e = absurd (cc)
 
 -- a key of the split queue is that of a leaf in its place
-pub split_key : (parts : PartsState) (out : ℕ → Bool) (s : ℕ) (rank : Rank) → IsPlaced parts out → slice_index_or parts.split s None ≡ Some rank →
+pub split_key : (parts : PartsState) (out : ℕ → Bool) (s : ℕ) (rank : Rank) → IsPlaced parts out →
+    slice_index_or parts.split s None ≡ Some rank →
     (is_leaf_at parts.pool.pairs s ≡ true) × (out s ≡ false) × (rank ≡ leaf_rank parts s)
 split_key parts out s rank placed key =
     let found = cond_some (is_leaf_at parts.pool.pairs s && not (out s)) (leaf_rank parts s) rank (sym (placed.split s) ∙ key) in
@@ -47,31 +46,24 @@ split_key_of parts out s placed leaf in_place =
     (and_from (is_leaf_at parts.pool.pairs s) (not (out s)) leaf (ap not in_place))
 
 -- a key of the merge queue is that of the chief of a diamond in its place
-pub merge_key : (parts : PartsState) (out : ℕ → Bool) (s : ℕ) (rank : Rank) → IsPlaced parts out → slice_index_or parts.merge s None ≡ Some rank →
-    (is_chief_at parts.pool.pairs s ≡ true) × (is_out parts.pool.pairs out s ≡ false) × (rank ≡ diamond_rank parts (address_at parts.pool.pairs s))
+pub merge_key : (parts : PartsState) (out : ℕ → Bool) (s : ℕ) (rank : Rank) → IsPlaced parts out →
+    slice_index_or parts.merge s None ≡ Some rank →
+    (is_chief_at parts.pool.pairs s ≡ true) × (is_out parts.pool.pairs out s ≡ false)
+    × (rank ≡ diamond_rank parts (address_at parts.pool.pairs s))
 merge_key parts out s rank placed key =
-    let found = cond_some (is_chief_at parts.pool.pairs s && not (is_out parts.pool.pairs out s)) (diamond_rank parts (address_at parts.pool.pairs s)) rank (sym (placed.merge s) ∙ key) in
+    let found = cond_some (is_chief_at parts.pool.pairs s && not (is_out parts.pool.pairs out s))
+    (diamond_rank parts (address_at parts.pool.pairs s)) rank (sym (placed.merge s) ∙ key) in
     let both = and_parts (is_chief_at parts.pool.pairs s) (not (is_out parts.pool.pairs out s)) found.0 in
     (both.0, not-true (is_out parts.pool.pairs out s) both.1, found.1)
 
 -- and each such chief has one
-pub merge_key_of : (parts : PartsState) (out : ℕ → Bool) (s : ℕ) → IsPlaced parts out → is_chief_at parts.pool.pairs s ≡ true → is_out parts.pool.pairs out s ≡ false →
+pub merge_key_of : (parts : PartsState) (out : ℕ → Bool) (s : ℕ) → IsPlaced parts out → is_chief_at parts.pool.pairs s ≡ true →
+    is_out parts.pool.pairs out s ≡ false →
     slice_index_or parts.merge s None ≡ Some (diamond_rank parts (address_at parts.pool.pairs s))
 merge_key_of parts out s placed chief in_place =
-    placed.merge s ∙ cond-true (is_chief_at parts.pool.pairs s && not (is_out parts.pool.pairs out s)) (Some (diamond_rank parts (address_at parts.pool.pairs s))) None
+    placed.merge s ∙ cond-true (is_chief_at parts.pool.pairs s && not (is_out parts.pool.pairs out s))
+    (Some (diamond_rank parts (address_at parts.pool.pairs s))) None
     (and_from (is_chief_at parts.pool.pairs s) (not (is_out parts.pool.pairs out s)) chief (ap not in_place))
-
--- so where it has a mate that is live
-pub mate_live : (parts : PartsState) (out : ℕ → Bool) (s t : ℕ) (rank : Rank) → IsPlaced parts out → slice_index_or parts.merge s None ≡ Some rank →
-    (mate_of (address_at parts.pool.pairs s) ≡ 0 → ⊥) → address_at parts.pool.pairs t ≡ mate_of (address_at parts.pool.pairs s) → IsLive parts.pool.pairs t
-mate_live parts out s t rank placed key some at =
-    let a : ℕ = address_at parts.pool.pairs s in
-    let chief = (merge_key parts out s rank placed key).0 in
-    let ready = (and_parts (is_ready_at parts.pool.pairs s) (nat_eq (chief_of a) a) chief).0 in
-    subst (λ z. 2 ≤ z) (sym at) (⊎_elim
-    (λ none. absurd (some (let z : mate_of a ≡ 0 = omega arith in z)))
-    (λ more. mate_of-low a (ready_live parts.pool.pairs s ready) more)
-    (cases_lt (mate_of a) 1))
 
 -- ---- as the loop sees it
 
@@ -106,7 +98,8 @@ unfolding sure
 sure_seen parts a = ap₂ (λ (x y : ℕ). (entry_of parts a).known || nat_eq x y) (upper_in (entry_of parts a)) (lower_in (entry_of parts a))
 
 -- what is kept of the address of a live slot is what is kept of the slot
-entry_of-at : (parts : PartsState) (s : ℕ) → IsPool parts.pool.n parts.pool.pairs → IsLive parts.pool.pairs s → entry_of parts (address_at parts.pool.pairs s) ≡ entry_at parts s
+entry_of-at : (parts : PartsState) (s : ℕ) → IsPool parts.pool.n parts.pool.pairs → IsLive parts.pool.pairs s →
+    entry_of parts (address_at parts.pool.pairs s) ≡ entry_at parts s
 entry_of-at parts s pool live = ap (entry_at parts) (slot_of-at parts.pool.n parts.pool.pairs s pool live)
 
 no_entries : (xs : List ℕ) → length xs ≡ 0 → xs ≡ []
@@ -128,7 +121,7 @@ settled_placed parts s none = ap (λ xs. among xs s) none
 
 leaf_head : (parts : PartsState) (slot : Slot) → IsParts parts → parts.fresh ≡ [] → is_leaf_at parts.pool.pairs slot.0 ≡ true →
     IsFirstRank parts.split slot (leaf_rank parts slot.0) →
-    IsHead (seen_parts parts) (record { rank = leaf_rank parts slot.0; sure = is_sure (entry_at parts slot.0) })
+    IsHead (seen_parts parts) (record { rank = leaf_rank parts slot.0; slot = slot; sure = is_sure (entry_at parts slot.0) })
 leaf_head parts slot is none leaf first =
     let a : ℕ = address_at parts.pool.pairs slot.0 in
     let own = entry_of-at parts slot.0 is.pool (leaf_live parts.pool.pairs slot.0 leaf) in
@@ -161,20 +154,27 @@ leaf_head parts slot is none leaf first =
         (before_cases (key a) a (key b) b)
 
 -- the first key of the split queue is the head, and e is what is kept of its slot
-pub split_head : (parts : PartsState) (slot : Slot) (rank : Rank) (e : Entry) (certain : Bool) → IsWhole parts → IsParts parts → (seen_parts parts).fresh ≡ [] →
+pub split_head : (parts : PartsState) (slot : Slot) (rank : Rank) (e : Entry) (certain : Bool) → IsWhole parts → IsParts parts →
+    (seen_parts parts).fresh ≡ [] →
     IsFirstRank parts.split slot rank → e ≡ slice_index_or parts.entries slot.0 e → certain ≡ is_sure e →
-    IsHead (seen_parts parts) (record { rank = rank; sure = certain })
+    IsHead (seen_parts parts) (record { rank = rank; slot = slot; sure = certain })
 split_head parts slot rank e certain whole is settled first read says =
     let key = split_key parts (among parts.fresh) slot.0 rank is.placed first.0 in
     let head = leaf_head parts slot is (settled_fresh parts settled) key.0 (subst (IsFirstRank parts.split slot) key.2 first) in
     let below = live_below parts.pool.pairs slot.0 (leaf_live parts.pool.pairs slot.0 key.0) in
     let room = whole.entries in
     let kept : e ≡ entry_at parts slot.0 = get_or_read parts.entries slot.0 e (omega arith) read blank in
-    subst (λ b. IsHead (seen_parts parts) (record { rank = rank; sure = b })) (sym (says ∙ ap is_sure kept))
-    (subst (λ r. IsHead (seen_parts parts) (record { rank = r; sure = is_sure (entry_at parts slot.0) })) (sym key.2) head)
+    subst (λ b. IsHead (seen_parts parts) (record { rank = rank; slot = slot; sure = b })) (sym (says ∙ ap is_sure kept))
+    (subst (λ r. IsHead (seen_parts parts) (record { rank = r; slot = slot; sure = is_sure (entry_at parts slot.0) })) (sym key.2) head)
+
+-- the leaf that its rank names is at its slot
+pub head_at : (parts : PartsState) (slot : Slot) (rank : Rank) → IsParts parts → IsFirstRank parts.split slot rank →
+    address_at parts.pool.pairs slot.0 ≡ rank.tri
+head_at parts slot rank is first = sym (ap (λ (r : Rank). r.tri) (split_key parts (among parts.fresh) slot.0 rank is.placed first.0).2)
 
 -- there is one
-pub split_some : (parts : PartsState) → IsParts parts → (seen_parts parts).fresh ≡ [] → ((slot : Slot) → slice_index_or parts.split slot.0 None ≡ None) → ⊥
+pub split_some : (parts : PartsState) → IsParts parts → (seen_parts parts).fresh ≡ [] →
+    ((slot : Slot) → slice_index_or parts.split slot.0 None ≡ None) → ⊥
 split_some parts is settled none =
     let some = some_leaf parts.pool is.pool in
     let found = leaf_at-of parts.pool some.0 is.pool some.1 in
@@ -185,7 +185,8 @@ split_some parts is settled none =
 -- ---- a leaf and its chain
 
 -- the slot of a leaf of the set has a leaf
-pub slot_leaf : (pool : PoolState) (s a : ℕ) → IsPool pool.n pool.pairs → Contains (leaves_of pool.n (among (pool_members pool))) a → address_at pool.pairs s ≡ a → HasLeaf pool.pairs s
+pub slot_leaf : (pool : PoolState) (s a : ℕ) → IsPool pool.n pool.pairs → Contains (leaves_of pool.n (among (pool_members pool))) a →
+    address_at pool.pairs s ≡ a → HasLeaf pool.pairs s
 slot_leaf pool s a is leaf at =
     let found = leaf_at-of pool a is leaf in
     let parts = leaf_parts pool.pairs (slot_of pool.pairs a) found.0 in

@@ -293,9 +293,3 @@ can_slot pool t s is can at =
     let there = ready_at-of pool t is can in
     let low : 2 ≤ t = subst (λ z. 2 ≤ z) there.1 (ready_live pool.pairs (slot_of pool.pairs t) there.0) in
     subst (λ z. is_ready_at pool.pairs z ≡ true) (one_slot pool.n pool.pairs s t is low at) there.0
-
--- so it cannot be that none has it
-pub can_none : (pool : PoolState) (t : ℕ) → IsPool pool.n pool.pairs → CanMerge pool.n (among (pool_members pool)) t → ((s : ℕ) → IsLive pool.pairs s → address_at pool.pairs s ≡ t → ⊥) → ⊥
-can_none pool t is can none =
-    let there = ready_at-of pool t is can in
-    none (slot_of pool.pairs t) (ready_live pool.pairs (slot_of pool.pairs t) there.0) there.1

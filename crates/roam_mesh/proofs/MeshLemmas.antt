@@ -6,18 +6,18 @@ use Rattle.std.proofs.lemmas.Option.{none-some}
 use Rattle.mesh_defs.specs.ClosedSet.{among}
 use Rattle.bintree_addr.specs.declared.rank.Rank.{Rank}
 use Rattle.edge_laws.specs.Edge.{mate_of}
-use Rattle.edge_laws.specs.Slots.{address_at, split_set, IsLive}
+use Rattle.edge_laws.specs.Slots.{address_at, split_set, IsLive, IsPool}
 use Rattle.edge_laws.proofs.SlotLemmas.{pair_of, set-has_children}
 use Rattle.frame_steps.specs.Deferred.{IsEntry}
 use Rattle.frame_steps.specs.Stamps.{Stamp, Readings, StampsHold}
 use Rattle.deferred_loop.specs.Seen.{IsQuiet}
 use Rattle.deferred_loop.specs.Log.{Log}
-use Rattle.roam_mesh.specs.Mesh.{slot_of, stamp_of, pool_members, with_expired, uncounted, OnlyEntriesStamped, seen_of}
+use Rattle.roam_mesh.specs.Mesh.{MeshState, slot_of, stamp_of, pool_members, with_expired, uncounted, OnlyEntriesStamped, seen_of}
 use Rattle.roam_mesh.specs.Parts.{PartsState, entry_at, entry_of, blank, best_of, worst_of, better_of, deadline_of, stamp_in, seen_parts, mesh_of, is_leaf_at, is_chief_at, is_entry_at, is_out, IsParts, IsWhole}
 use Rattle.roam_mesh.specs.Change.{expired_at}
 use Rattle.roam_mesh.specs.declared.entry.Entry.{Entry}
 use Rattle.roam_mesh.proofs.PlaceLemmas.{at-slot_of, one_slot, live_below}
-use Rattle.roam_mesh.proofs.RoleLemmas.{entry_of-at, entry_live}
+use Rattle.roam_mesh.proofs.RoleLemmas.{entry_of-at, entry_at-of, entry_live}
 use Rattle.std.proofs.Math.Path.{fun_ext}
 use Rattle.deferred_loop.specs.Choice.{Priorities}
 use Rattle.deferred_loop.specs.Promise.{IsAtMost, IsAtLeast, AreStampsGood}
@@ -55,7 +55,8 @@ base_set pairs base a = false_from_ne_true (split_set pairs a) (λ split.
 -- only what is stamped has a stamp
 stamped_by : (e : Entry) (stamp : Stamp) → stamp_in e ≡ Some stamp → e.stamped ≡ true
 stamped_by e stamp there = true_from_ne_false e.stamped (λ none.
-    none-some stamp (sym (ap (λ b. cond b (Some (record { odometer = e.odometer; slack = e.slack; upper = e.upper; lower = e.lower; expired = e.expired })) None) none) ∙ there))
+    none-some stamp (sym (ap (λ b. cond b
+    (Some (record { odometer = e.odometer; slack = e.slack; upper = e.upper; lower = e.lower; expired = e.expired })) None) none) ∙ there))
 
 -- so only entries have one
 pub placed_only : (parts : PartsState) (log : Log) → IsParts parts → OnlyEntriesStamped (mesh_of parts log)
@@ -63,15 +64,18 @@ placed_only parts log is a stamp there =
     let s = slot_of parts.pool.pairs a in
     let stamped = stamped_by (entry_at parts s) stamp (sym (stamp_of-parts parts log a) ∙ there) in
     let entry = is.placed.stamped s stamped in
-    subst (λ z. IsEntry parts.pool.n (among (pool_members parts.pool)) z) (at-slot_of parts.pool.pairs s a (entry_live parts.pool.pairs s entry) refl)
+    subst (λ z. IsEntry parts.pool.n (among (pool_members parts.pool)) z)
+    (at-slot_of parts.pool.pairs s a (entry_live parts.pool.pairs s entry) refl)
     (entry_of-at parts.pool s is.pool entry)
 
 -- what does not read whether a stamp has expired reads the same
-expired_read : {X : Type 0} (read : Entry → X) → ((e : Entry) → read (record e { expired = true }) ≡ read e) → (parts : PartsState) (s r : ℕ) →
+expired_read : {X : Type 0} (read : Entry → X) → ((e : Entry) → read (record e { expired = true }) ≡ read e) →
+    (parts : PartsState) (s r : ℕ) →
     s < length parts.entries → read (entry_at (expired_at parts s) r) ≡ read (entry_at parts r)
 expired_read read same parts s r below = ⊎_elim
     (λ own. ap read (ap (λ z. get_or (slice_set parts.entries s (record (entry_at parts s) { expired = true })) z blank) (sym own)
-    ∙ get_or-set_same parts.entries s (record (entry_at parts s) { expired = true }) blank below) ∙ same (entry_at parts s) ∙ ap (λ z. read (entry_at parts z)) own)
+    ∙ get_or-set_same parts.entries s (record (entry_at parts s) { expired = true }) blank below) ∙ same (entry_at parts s)
+    ∙ ap (λ z. read (entry_at parts z)) own)
     (λ other. ap read (get_or-set_other parts.entries s r (record (entry_at parts s) { expired = true }) blank (λ z. other (sym z))))
     (cases_eq s r)
 
@@ -108,18 +112,25 @@ expired_parts parts s whole live is =
             (sym (expired_read best_of (λ e. refl) parts s r below));
         merge = λ r.
             let a = address_at pairs r in
-            let rank : ℕ → ℕ → Rank = λ x y. cond (nat_eq (mate_of a) 0) (record { p = x; tri = a }) (better_of (record { p = x; tri = a }) (record { p = y; tri = mate_of a })) in
+            let rank : ℕ → ℕ → Rank = λ x y. cond (nat_eq (mate_of a) 0) (record { p = x; tri = a })
+            (better_of (record { p = x; tri = a }) (record { p = y; tri = mate_of a })) in
             is.placed.merge r
-            ∙ ap (λ x. cond (is_chief_at pairs r && not (is_out pairs (among parts.fresh) r)) (Some (rank x (worst_of (entry_of parts (mate_of a))))) None)
+            ∙ ap (λ x. cond (is_chief_at pairs r && not (is_out pairs (among parts.fresh) r))
+            (Some (rank x (worst_of (entry_of parts (mate_of a))))) None)
             (sym (expired_read worst_of (λ e. refl) parts s (slot_of pairs a) below))
-            ∙ ap (λ y. cond (is_chief_at pairs r && not (is_out pairs (among parts.fresh) r)) (Some (rank (worst_of (entry_of (expired_at parts s) a)) y)) None)
+            ∙ ap (λ y. cond (is_chief_at pairs r && not (is_out pairs (among parts.fresh) r))
+            (Some (rank (worst_of (entry_of (expired_at parts s) a)) y)) None)
             (sym (expired_read worst_of (λ e. refl) parts s (slot_of pairs (mate_of a)) below));
         due = λ r. ⊎_elim
-            (λ own. subst (λ z. slice_index_or (expired_at parts s).due z None ≡ cond (test z) (Some (deadline_of (entry_at (expired_at parts s) z))) None) own
+            (λ own. subst (λ z. slice_index_or (expired_at parts s).due z None ≡ cond (test z)
+            (Some (deadline_of (entry_at (expired_at parts s) z))) None) own
             (get_or-set_same parts.due s (option_map {U = ℕ} (λ _. 0) (slice_index_or parts.due s None)) None (omega arith)
             ∙ ap (option_map {U = ℕ} (λ _. 0)) (is.placed.due s) ∙ expired_key (test s) (deadline_of (entry_at parts s))
-            ∙ ap (λ d. cond (test s) (Some d) None) (sym (ap deadline_of (get_or-set_same parts.entries s (record (entry_at parts s) { expired = true }) blank below) ∙ expired_due (entry_at parts s)))))
-            (λ other. get_or-set_other parts.due s r (option_map {U = ℕ} (λ _. 0) (slice_index_or parts.due s None)) None (λ z. other (sym z))
+            ∙ ap (λ d. cond (test s) (Some d) None)
+            (sym (ap deadline_of (get_or-set_same parts.entries s (record (entry_at parts s) { expired = true }) blank below)
+            ∙ expired_due (entry_at parts s)))))
+            (λ other. get_or-set_other parts.due s r (option_map {U = ℕ} (λ _. 0) (slice_index_or parts.due s None)) None
+            (λ z. other (sym z))
             ∙ is.placed.due r
             ∙ ap (λ e. cond (test r) (Some (deadline_of e)) None)
             (sym (get_or-set_other parts.entries s r (record (entry_at parts s) { expired = true }) blank (λ z. other (sym z)))))
@@ -133,8 +144,10 @@ expired_parts parts s whole live is =
 expired_stamp : (e : Entry) → stamp_in (record e { expired = true }) ≡ option_map with_expired (stamp_in e)
 expired_stamp e = by_stamped e.stamped
   where
-    by_stamped : (b : Bool) → cond b (Some (record { odometer = e.odometer; slack = e.slack; upper = e.upper; lower = e.lower; expired = true })) None
-        ≡ option_map with_expired (cond b (Some (record { odometer = e.odometer; slack = e.slack; upper = e.upper; lower = e.lower; expired = e.expired })) None)
+    by_stamped : (b : Bool) → cond b (Some
+        (record { odometer = e.odometer; slack = e.slack; upper = e.upper; lower = e.lower; expired = true })) None
+        ≡ option_map with_expired (cond b (Some
+        (record { odometer = e.odometer; slack = e.slack; upper = e.upper; lower = e.lower; expired = e.expired })) None)
     by_stamped true = refl
     by_stamped false = refl
 
@@ -146,7 +159,8 @@ chosen t a x y z same other = ⊎_elim
     (cases_eq t a)
 
 unstamped : (e : Entry) → e.stamped ≡ false → stamp_in e ≡ None
-unstamped e none = ap (λ b. cond b (Some (record { odometer = e.odometer; slack = e.slack; upper = e.upper; lower = e.lower; expired = e.expired })) None) none
+unstamped e none = ap (λ b. cond b
+    (Some (record { odometer = e.odometer; slack = e.slack; upper = e.upper; lower = e.lower; expired = e.expired })) None) none
 
 -- and expires the stamp of its triangle alone
 pub expired_stamps : (parts : PartsState) (log : Log) (s t : ℕ) → IsWhole parts → IsParts parts
@@ -171,24 +185,24 @@ expired_stamps parts log s t whole is live at a =
     ∙ ap (option_map with_expired) (sym (stamp_of-parts parts log a)))
     (λ apart.
     stamp_of-parts (expired_at parts s) log a
-    ∙ ap stamp_in (get_or-set_other parts.entries s (slot_of pairs a) (record (entry_at parts s) { expired = true }) blank (λ same. apart (sym at ∙ at-slot_of pairs s a live same)))
+    ∙ ap stamp_in (get_or-set_other parts.entries s (slot_of pairs a) (record (entry_at parts s) { expired = true }) blank
+    (λ same. apart (sym at ∙ at-slot_of pairs s a live same)))
     ∙ sym (stamp_of-parts parts log a))
 
--- a triangle that is not live has none
-pub dead_stamps : (parts : PartsState) (log : Log) (t : ℕ) → IsParts parts
-    → ((s : ℕ) → IsLive parts.pool.pairs s → address_at parts.pool.pairs s ≡ t → ⊥) → (a : ℕ) →
-    stamp_of (mesh_of parts log) a ≡ cond (nat_eq t a) (option_map with_expired (stamp_of (mesh_of parts log) a))
-    (stamp_of (mesh_of parts log) a)
-dead_stamps parts log t is dead a =
-    let s = slot_of parts.pool.pairs a in
-    chosen t a (stamp_of (mesh_of parts log) a) (option_map with_expired (stamp_of (mesh_of parts log) a)) (stamp_of (mesh_of parts log) a)
-    (λ own.
-    let none : (entry_at parts s).stamped ≡ false = false_from_ne_true (entry_at parts s).stamped (λ stamped.
-    let live = entry_live parts.pool.pairs s (is.placed.stamped s stamped) in
-    dead s live (at-slot_of parts.pool.pairs s a live refl ∙ sym own)) in
-    let nothing : stamp_of (mesh_of parts log) a ≡ None = stamp_of-parts parts log a ∙ unstamped (entry_at parts s) none in
-    nothing ∙ sym (ap (option_map with_expired) nothing))
+-- and where the triangle is not live nothing changes
+pub dead_stamps : (mesh : MeshState) (t : ℕ) → IsPool mesh.pool.n mesh.pool.pairs → OnlyEntriesStamped mesh
+    → ((s : ℕ) → IsLive mesh.pool.pairs s → address_at mesh.pool.pairs s ≡ t → ⊥) → (a : ℕ) →
+    stamp_of mesh a ≡ cond (nat_eq t a) (option_map with_expired (stamp_of mesh a)) (stamp_of mesh a)
+dead_stamps mesh t pool only dead a =
+    chosen t a (stamp_of mesh a) (option_map with_expired (stamp_of mesh a)) (stamp_of mesh a)
+    (λ own. let none = nothing own (stamp_of mesh a) refl in none ∙ sym (ap (option_map with_expired) none))
     (λ apart. refl)
+  where
+    nothing : t ≡ a → (stamp : Option Stamp) → stamp_of mesh a ≡ stamp → stamp_of mesh a ≡ None
+    nothing own None is = is
+    nothing own (Some stamp) is =
+        let there = entry_at-of mesh.pool a pool (only a stamp is) in
+        absurd (dead (slot_of mesh.pool.pairs a) (entry_live mesh.pool.pairs (slot_of mesh.pool.pairs a) there.0) (there.1 ∙ sym own))
 
 -- what is counted has no part in where all stands
 pub uncounted_parts : (parts : PartsState) → IsParts parts → IsParts (record parts { pool = uncounted parts.pool })

@@ -393,12 +393,6 @@ entry_told parts s a is entry at =
     let low : 2 ≤ a = subst (λ z. 2 ≤ z) there.1 (entry_live parts.pool.pairs (slot_of parts.pool.pairs a) there.0) in
     subst (λ z. is_entry_at parts.pool.pairs z ≡ true) (one_slot parts.pool.n parts.pool.pairs s a is.pool low at) there.0
 
--- and its slot is live
-pub entry_slot : (parts : PartsState) (a : ℕ) → IsParts parts → IsEntry parts.pool.n (among (pool_members parts.pool)) a → IsLive parts.pool.pairs (slot_of parts.pool.pairs a) × (address_at parts.pool.pairs (slot_of parts.pool.pairs a) ≡ a)
-entry_slot parts a is entry =
-    let there = entry_at-of parts.pool a is.pool entry in
-    (entry_live parts.pool.pairs (slot_of parts.pool.pairs a) there.0, there.1)
-
 -- lists in arrays
 
 -- a slot that is told for the first time in this frame

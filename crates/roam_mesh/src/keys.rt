@@ -59,16 +59,22 @@ impl Parts {
         self.worst_rank(self.better_first(s).0)
     }
 
-    /// The triangle of a diamond to ask next, or None where its rank is known.
-    pub fn unasked(&self, s: Slot) -> Option<Slot>
+    /// The triangle that the diamond's key names, and the one to ask next, or None where its rank is known.
+    pub fn better_and_unasked(&self, s: Slot) -> (Slot, Option<Slot>)
         requires ready { is_ready_at self.now.pool.pairs s.0 ≡ true }
-        ensures { MatchOption result (IsKnownRank self.now s.0) (IsUnasked self.now s.0) }
+        ensures better { worst_rank self.now (address_at self.now.pool.pairs result.0.0)
+            ≡ diamond_rank self.now (chief_of (address_at self.now.pool.pairs s.0)) }
+        ensures unasked { MatchOption result.1 (IsKnownRank self.now s.0) (IsUnasked self.now s.0) }
     {
         let _n = self.pool.n();
         let (better, other) = self.better_first(s);
         let first = self.entries[better.0 as usize];
         let Some(mate) = other else {
-            return if first.is_sure() { None } else { Some(better) };
+            return if first.is_sure() {
+                (better, None)
+            } else {
+                (better, Some(better))
+            };
         };
         let second = self.entries[mate.0 as usize];
         let worst = self.worst_rank(better);
@@ -76,14 +82,14 @@ impl Parts {
         if !first.is_sure() {
             let own = self.leaf_rank(better);
             if !second.is_sure() && best.ranks_before(&own) {
-                Some(mate)
+                (better, Some(mate))
             } else {
-                Some(better)
+                (better, Some(better))
             }
         } else if second.is_sure() || worst.ranks_before(&best) {
-            None
+            (better, None)
         } else {
-            Some(mate)
+            (better, Some(mate))
         }
     }
 }

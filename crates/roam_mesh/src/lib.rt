@@ -16,7 +16,6 @@ mod mesh;
 mod parts;
 mod places;
 mod queued;
-mod quiet;
 mod splitting;
 
 pub use deferred_loop::{Gauge, Reading, Steps};

@@ -16,6 +16,9 @@ ghost use Rattle.deferred_loop.specs.Promise.{IsAtMost, IsAtLeast, AreStampsGood
 ghost use Rattle.roam_mesh.specs.Mesh.{stamp_of, pool_members, pool_set, seen_of, with_expired, uncounted, OnlyEntriesStamped};
 ghost use Rattle.roam_mesh.specs.Chosen.{SparesChosen};
 
+use crate::find::find;
+use crate::log::ChangeLog;
+use crate::parts::Parts;
 use crate::queued::QueuedParts;
 use bintree_addr::{Slot, Tri};
 use closure_laws::frame_laws;
@@ -58,9 +61,10 @@ impl Mesh {
         ensures stamps { IfOk result (λ m. (a : ℕ) → stamp_of m a ≡ None) }
         ensures log { IfOk result (λ m. m.log ≡ record { changed = Some []; room = leaves }) }
     {
-        let queued = QueuedParts::make(alloc, n, leaves)?;
+        let log = ChangeLog::new(alloc, leaves)?;
+        let parts = Parts::new(alloc, n, leaves)?;
         Ok(Mesh {
-            queued: Box::new(alloc, queued)?,
+            queued: Box::new(alloc, QueuedParts { parts, log })?,
         })
     }
 
@@ -71,7 +75,8 @@ impl Mesh {
         ensures root { slice_index self.now.pool.pairs 0 ≡ 1 }
         ensures only { OnlyEntriesStamped self.now }
     {
-        self.queued.pool()
+        let queued: &QueuedParts = &self.queued;
+        &queued.parts.pool
     }
 
     /// The stamp of the triangle, if there is one, is expired from now on.
@@ -81,7 +86,9 @@ impl Mesh {
             ≡ cond (nat_eq t a) (option_map with_expired (stamp_of self.old a)) (stamp_of self.old a) }
         ensures log { self.new.log ≡ self.old.log }
     {
-        self.queued.expire(t);
+        if let Some(s) = find(self.pool(), t) {
+            self.expire_at(s);
+        }
     }
 
     /// The stamp of the triangle at a slot, if there is one, is expired from now on.
@@ -94,14 +101,14 @@ impl Mesh {
             (option_map with_expired (stamp_of self.old a)) (stamp_of self.old a) }
         ensures log { self.new.log ≡ self.old.log }
     {
-        self.queued.expire_at(s);
+        self.queued.parts.expire(s);
     }
 
     /// Counts splits and merges from 0 on again. The triangles and their stamps stay.
     pub fn restart_counts(&mut self)
         ensures { self.new ≡ record self.old { pool = uncounted self.old.pool } }
     {
-        self.queued.restart_counts();
+        self.queued.parts.pool.restart_counts();
     }
 
     /// The triangles that the last frame split or merged, in the order of its steps. Each that is split now and was not before it is
@@ -160,9 +167,9 @@ impl Mesh {
             (result.splits + result.merges) self.old.log self.new.log }
     {
         frame_laws();
-        let _before = self.queued.pool();
+        let _before = self.pool();
         let steps = advance(&mut *self.queued, gauge, budget, odometer);
-        let _after = self.queued.pool();
+        let _after = self.pool();
         steps
     }
 }

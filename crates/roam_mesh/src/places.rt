@@ -5,7 +5,7 @@ ghost use Rattle.edge_laws.specs.Edge.{mate_of};
 ghost use Rattle.edge_laws.specs.Slots.{address_at, IsLive};
 ghost use Rattle.roam_mesh.specs.Mesh.{slot_of};
 ghost use Rattle.roam_mesh.specs.Places.{is_ready_above};
-ghost use Rattle.roam_mesh.specs.Parts.{is_leaf_at, is_ready_at, is_entry_at};
+ghost use Rattle.roam_mesh.specs.Parts.{is_leaf_at, is_ready_at, is_entry_at, IsWhole};
 ghost use Rattle.roam_mesh.specs.Change.{chief_slot, diamond_slots, with_above, taken_out, left, left_all, rekeyed, put_in, is_mate_fresh, expired_at};
 
 use crate::parts::Parts;
@@ -150,7 +150,8 @@ impl Parts {
     /// Marks what is kept of a slot as expired, and makes its deadline, where it has one, 0: it is due at every odometer.
     pub fn expire(&mut self, s: Slot)
         requires live { IsLive self.old.pool.pairs s.0 }
-        ensures { self.new ≡ expired_at self.old s.0 }
+        ensures whole { IsWhole self.old }
+        ensures expired { self.new ≡ expired_at self.old s.0 }
     {
         self.entries[s.0 as usize].expired = true;
         self.deadlines.expire(s);

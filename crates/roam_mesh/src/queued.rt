@@ -1,14 +1,12 @@
 //! What the loop of a frame sees of the parts.
 
-ghost use Rattle.std.specs.Prelude.{◌≡◌, ℕ, IfSome, IsNone};
-ghost use Rattle.edge_laws.specs.Slots.{address_at, IsLive};
+ghost use Rattle.edge_laws.specs.Slots.{address_at};
 ghost use Rattle.roam_mesh.specs.Parts.{seen_parts};
 
-use crate::find::find;
 use crate::log::ChangeLog;
 use crate::parts::Parts;
 use bintree_addr::{Rank, Slot, Tri};
-use deferred_loop::{Head, Last, QueuedMesh, Reading};
+use deferred_loop::{Head, Last, Located, QueuedMesh, Reading};
 use force_split::plan;
 use std::marker::Model;
 
@@ -30,33 +28,10 @@ impl Model for QueuedParts {
     ghost invariant = { λ m. IsParts m.parts };
 }
 
-impl QueuedParts {
-    /// The slot of a live triangle. Mostly it is at the head of a queue.
-    fn slot(&self, t: Tri) -> Option<Slot>
-        ensures none { IsNone result → (s : ℕ) → IsLive self.now.parts.pool.pairs s → address_at self.now.parts.pool.pairs s ≡ t → ⊥ }
-        ensures some { IfSome result (λ s. address_at self.now.parts.pool.pairs s.0 ≡ t) }
-    {
-        if let Some((s, rank)) = self.parts.split_queue.first() {
-            if rank.tri == t {
-                return Some(s);
-            }
-        }
-        if let Some((s, _rank)) = self.parts.merge_queue.last() {
-            if self.parts.pool.tri(s) == t {
-                return Some(s);
-            }
-            if let Some(mate) = self.parts.pool.partner(s) {
-                if self.parts.pool.tri(mate) == t {
-                    return Some(mate);
-                }
-            }
-        }
-        find(&self.parts.pool, t)
-    }
-}
-
 impl QueuedMesh for QueuedParts {
     ghost seen = { λ q. seen_parts q.parts };
+
+    ghost tri_at = { λ q. address_at q.parts.pool.pairs };
 
     ghost log = { λ q. q.log };
 
@@ -64,17 +39,15 @@ impl QueuedMesh for QueuedParts {
         self.parts.pool.leaf_count()
     }
 
-    fn gain(&self, t: Tri) -> u32 {
-        match self.slot(t) {
-            Some(s) => plan(&self.parts.pool, s).gain,
-            None => 0,
-        }
+    fn gain(&self, t: Located) -> u32 {
+        plan(&self.parts.pool, t.slot).gain
     }
 
     fn first(&self) -> Head {
         match self.parts.split_queue.first() {
             Some((s, rank)) => Head {
                 rank,
+                slot: s,
                 sure: self.parts.entries[s.0 as usize].is_sure(),
             },
             None => Head {
@@ -82,6 +55,7 @@ impl QueuedMesh for QueuedParts {
                     p: 0,
                     tri: Tri::default(),
                 },
+                slot: Slot(0),
                 sure: true,
             },
         }
@@ -89,17 +63,23 @@ impl QueuedMesh for QueuedParts {
 
     fn last(&self) -> Option<Last> {
         let (head, rank) = self.parts.merge_queue.last()?;
-        let unasked = match self.parts.unasked(head) {
-            Some(s) => Some(self.parts.pool.tri(s)),
+        let (slot, next) = self.parts.better_and_unasked(head);
+        let unasked = match next {
+            Some(s) => Some(Located {
+                tri: self.parts.pool.tri(s),
+                slot: s,
+            }),
             None => None,
         };
-        Some(Last { rank, unasked })
+        Some(Last {
+            rank,
+            slot,
+            unasked,
+        })
     }
 
-    fn tell(&mut self, rank: Rank) {
-        if let Some(s) = self.slot(rank.tri) {
-            self.parts.hear(s, rank.p);
-        }
+    fn tell(&mut self, slot: Slot, rank: Rank) {
+        self.parts.hear(slot, rank.p);
     }
 
     fn next_fresh(&self) -> Option<Tri> {
@@ -117,20 +97,15 @@ impl QueuedMesh for QueuedParts {
         self.parts.enter_next(reading, odometer);
     }
 
-    fn split(&mut self, t: Tri) {
-        if let Some(s) = self.slot(t) {
-            let _before = self.parts.pool.n();
-            let born = self.parts.split(s);
-            self.log.note_split(&self.parts, &born);
-        }
+    fn split(&mut self, t: Located) {
+        let _before = self.parts.pool.n();
+        let born = self.parts.split(t.slot);
+        self.log.note_split(&self.parts, &born);
     }
 
-    fn merge(&mut self, t: Tri) {
-        let _n = self.parts.pool.n();
-        if let Some(s) = self.slot(t) {
-            self.log.note_diamond(&self.parts, s);
-            self.parts.merge(s);
-        }
+    fn merge(&mut self, t: Located) {
+        self.log.note_diamond(&self.parts, t.slot);
+        self.parts.merge(t.slot);
     }
 
     fn begin(&mut self, odometer: u64) {

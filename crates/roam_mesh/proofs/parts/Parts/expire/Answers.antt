@@ -8,5 +8,5 @@ index_mut-requires c = grind (arith, common_steps)
 pub invariant_of-self : goal.invariant_of-self
 invariant_of-self c = grind (arith, common_steps)
 
-pub returns : goal.returns
-returns c = grind (arith, common_steps)
+pub returns-clause-expired : goal.returns-clause-expired
+returns-clause-expired c = grind (arith, common_steps)

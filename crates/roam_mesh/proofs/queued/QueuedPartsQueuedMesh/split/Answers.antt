@@ -1,16 +1,15 @@
-use Rattle.std.proofs.Common.{rules, List, ◌≡◌, ℕ, ◌≤◌, true, [], sym, ◌∙◌, ap, subst}
+use Rattle.std.proofs.Common.{List, ◌≡◌, ℕ, ◌≤◌, true, [], sym, ◌∙◌, ap, subst}
 use Rattle.edge_laws.specs.Slots.{address_at, room_of}
 use Rattle.force_split.specs.Chain.{IsGainOf}
-use Rattle.triangle_pool.specs.Slots.{PoolState}
 use Rattle.deferred_loop.specs.Seen.{IsSplitOf}
 use Rattle.deferred_loop.specs.Log.{Log, IsLogged}
 use Rattle.std.specs.List.{AllByRecursion}
 use Rattle.triangle_pool.specs.declared.pool.Born.{Born}
 use Rattle.roam_mesh.specs.Splitting.{born_slots}
 use Rattle.roam_mesh.specs.Log.{noted_all, parents_of}
-use Rattle.roam_mesh.specs.Mesh.{slot_of, pool_set}
+use Rattle.roam_mesh.specs.Mesh.{pool_set}
 use Rattle.roam_mesh.specs.Parts.{QueuedState, PartsState, seen_parts, is_leaf_at, IsWhole, IsParts}
-use Rattle.roam_mesh.proofs.RoleLemmas.{leaf_at-of, leaf_live, leaf_from}
+use Rattle.roam_mesh.proofs.RoleLemmas.{leaf_from}
 use Rattle.roam_mesh.proofs.HeadLemmas.{slot_leaf, settled_fresh}
 use Rattle.roam_mesh.proofs.LogLemmas.{split_logged}
 use Rattle.roam_mesh.proofs.SplitLaws.{split_room}
@@ -24,10 +23,10 @@ split-born-requires-clause-settled c =
 pub split-born-requires-clause-leaf : goal.split-born-requires-clause-leaf
 split-born-requires-clause-leaf c =
     let valid = subst IsParts (ap (λ (z : QueuedState). z.parts) c.self.view_is) c.self.invariant in
-    let leaf = slot_leaf c.args.self.now.parts.pool c.in-Some.s.0 c.args.t valid.pool c.requires.leaf c.in-Some.ensures.some in
-    subst (λ (z : PartsState). is_leaf_at z.pool.pairs c.in-Some.s.0 ≡ true)
+    let leaf = slot_leaf c.args.self.now.parts.pool c.args.t.slot.0 c.args.t.tri valid.pool c.requires.leaf c.requires.at in
+    subst (λ (z : PartsState). is_leaf_at z.pool.pairs c.args.t.slot.0 ≡ true)
     (sym (ap (λ (z : QueuedState). z.parts) c.self.view_is))
-    (leaf_from c.args.self.now.parts.pool.pairs c.in-Some.s.0 leaf)
+    (leaf_from c.args.self.now.parts.pool.pairs c.args.t.slot.0 leaf)
 
 pub split-born-requires-clause-room : goal.split-born-requires-clause-room
 split-born-requires-clause-room c =
@@ -35,24 +34,17 @@ split-born-requires-clause-room c =
     let valid = subst IsParts (ap (λ (z : QueuedState). z.parts) c.self.view_is) c.self.invariant in
     let whole = subst IsWhole state c.self-inside.invariant.0 in
     subst (λ (z : PartsState). (gain : ℕ)
-    → IsGainOf z.pool.n z.pool.pairs (address_at z.pool.pairs c.in-Some.s.0) gain
+    → IsGainOf z.pool.n z.pool.pairs (address_at z.pool.pairs c.args.t.slot.0) gain
     → gain ≤ room_of z.pool.pairs) (sym (ap (λ (z : QueuedState). z.parts) c.self.view_is))
-    (λ gain grows. split_room c.args.self.now.parts.pool c.args.t gain valid.pool c.requires.splittable whole.pairs c.requires.room
-    (subst (λ t. IsGainOf c.args.self.now.parts.pool.n c.args.self.now.parts.pool.pairs t gain) c.in-Some.ensures.some grows))
+    (λ gain grows. split_room c.args.self.now.parts.pool c.args.t.tri gain valid.pool c.requires.splittable whole.pairs c.requires.room
+    (subst (λ t. IsGainOf c.args.self.now.parts.pool.n c.args.self.now.parts.pool.pairs t gain) c.requires.at grows))
 
-pub returns-in-Some-clause-split : goal.returns-in-Some-clause-split
-returns-in-Some-clause-split c =
-    subst (λ t. IsSplitOf (seen_parts c.args.self.now.parts) (seen_parts c.split-born.new.self) t) c.in-Some.ensures.some
+pub returns-clause-split : goal.returns-clause-split
+returns-clause-split c =
+    subst (λ t. IsSplitOf (seen_parts c.args.self.now.parts) (seen_parts c.split-born.new.self) t) c.requires.at
     (subst (λ (z : PartsState). IsSplitOf (seen_parts z) (seen_parts c.split-born.new.self)
-    (address_at z.pool.pairs c.in-Some.s.0)) (ap (λ (z : QueuedState). z.parts) c.self.view_is)
+    (address_at z.pool.pairs c.args.t.slot.0)) (ap (λ (z : QueuedState). z.parts) c.self.view_is)
     c.split-born.ensures.split)
-
-pub returns-in_default-clause-split : goal.returns-in_default-clause-split
-returns-in_default-clause-split c =
-    let pool : PoolState = c.args.self.now.parts.pool in
-    let valid = subst IsParts (ap (λ (z : QueuedState). z.parts) c.self.view_is) c.self.invariant in
-    let found = leaf_at-of pool c.args.t valid.pool c.requires.leaf in
-    absurd (c.slot.ensures.none (search rules) (slot_of pool.pairs c.args.t) (leaf_live pool.pairs (slot_of pool.pairs c.args.t) found.0) found.1)
 
 pub note_split-requires : goal.note_split-requires
 note_split-requires c = record {
@@ -60,8 +52,8 @@ note_split-requires c = record {
       (born_slots x)) (sym c.deref.ensures.0) c.split-born.ensures.born.low;
 }
 
-pub returns-in-Some-clause-log : goal.returns-in-Some-clause-log
-returns-in-Some-clause-log c =
+pub returns-clause-log : goal.returns-clause-log
+returns-clause-log c =
     let before = c.self.inside.parts.pool in
     let after = c.split-born.new.self.pool in
     let listed = c.note_split.ensures ∙ ap (λ (x : List Born). noted_all c.self.inside.log (parents_of after.pairs x)) c.deref.ensures.0 in
