@@ -1,7 +1,7 @@
 -- The line of a certificate that some bytes are. This project's own format; fields are cut as those of a script.
 --
--- Words: Word, word_of, is_coordinate, camera_of, address_in, camera_fields, leaf_fields, reason_fields, word_line,
--- fields_line, line_in, IsLineOf.
+-- Words: Word, line_word, is_camera_coordinate, camera_of, address_in, camera_fields, leaf_fields, reason_fields, word_line,
+-- cert_fields_line, read_cert_line, IsLineOf.
 use Rattle.std.specs.Prelude.{ℕ, ◌+◌, ◌*◌, ◌^◌, Bool, ◌&&◌, nat_le, nat_lt, if◌then◌else◌, List, [], ◌∷◌, length, Option, Some, None, option_map, codes, bytes_eq, ℤ, unsigned_abs}
 use Rattle.mesh_defs.specs.Triangle.{IsAddress, IsSplittable}
 use Rattle.text_laws.specs.Numbers.{number_in, signed_in}
@@ -15,8 +15,8 @@ use Rattle.cert_text.specs.declared.line.Word.{Word}
 use Rattle.cert_text.specs.declared.line.Word.TheVariants as word
 
 -- the word that the first field of a line is
-abbrev pub word_of : List ℕ → Option Word
-word_of field =
+abbrev pub line_word : List ℕ → Option Word
+line_word field =
     if bytes_eq field (codes "camera") then Some word.Camera
     else (if bytes_eq field (codes "leaf") then Some word.Leaf
     else (if bytes_eq field (codes "want") then Some (word.Because Want)
@@ -24,13 +24,13 @@ word_of field =
     else (if bytes_eq field (codes "mate") then Some (word.Because Mate) else None))))
 
 -- a coordinate of a camera is at most 2 ^ 30 in size
-abbrev pub is_coordinate : ℤ → Bool
-is_coordinate v = nat_le (unsigned_abs v) (2 ^ 30)
+abbrev pub is_camera_coordinate : ℤ → Bool
+is_camera_coordinate v = nat_le (unsigned_abs v) (2 ^ 30)
 
 -- the camera line of what its three fields are
 abbrev pub camera_of : Option ℤ → Option ℤ → Option ℤ → Option CertLine
 camera_of (Some x) (Some y) (Some z) =
-    if is_coordinate x && (is_coordinate y && is_coordinate z) then Some (CameraLine (record { x = x; y = y; z = z })) else None
+    if is_camera_coordinate x && (is_camera_coordinate y && is_camera_coordinate z) then Some (CameraLine (record { x = x; y = y; z = z })) else None
 camera_of _ _ _ = None
 
 -- the address that a field is: a number of at most 19 digits, from 2 to less than `end`
@@ -64,14 +64,14 @@ word_line n (Some word.Leaf) fields = leaf_fields n fields
 word_line n (Some (word.Because kind)) fields = reason_fields n kind fields
 
 -- the line of these fields; there is none without a field
-abbrev pub fields_line : ℕ → List (List ℕ) → Option CertLine
-fields_line n [] = None
-fields_line n (first ∷ fields) = word_line n (word_of first) fields
+abbrev pub cert_fields_line : ℕ → List (List ℕ) → Option CertLine
+cert_fields_line n [] = None
+cert_fields_line n (first ∷ fields) = word_line n (line_word first) fields
 
 -- The line that these bytes are, of a certificate of the grid with this n.
-unfoldable pub line_in : ℕ → List ℕ → Option CertLine
-line_in n bytes =
-    if nat_lt MOST_LINE_BYTES (length bytes) then None else fields_line n (fields_of (without_last_cr bytes))
+unfoldable pub read_cert_line : ℕ → List ℕ → Option CertLine
+read_cert_line n bytes =
+    if nat_lt MOST_LINE_BYTES (length bytes) then None else cert_fields_line n (fields_of (without_last_cr bytes))
 
 -- the triangle of the line is one of the grid with this n; that of a reason may be split
 abbrev pub IsLineOf : ℕ → CertLine → Type 0

@@ -1,5 +1,5 @@
 -- What a reader of a certificate has read, line after line. This project's own format.
--- Words: ReadSoFar, read_so_far, nothing_read, AreFew, taken, cert_line_in, Reading, finished.
+-- Words: ReadSoFar, read_so_far, nothing_read, AreFew, line_taken, cert_line_in, CertReading, finished.
 use Rattle.std.specs.Prelude.{ℕ, ◌≤◌, All, ◌&&◌, nat_lt, if◌then◌else◌, List, [], ◌∷◌, ◌++◌, length, ◌==◌, Option, Some, None, is_some, Result, Ok, Err}
 use Rattle.mesh_defs.specs.Triangle.{IsAddress, IsSplittable}
 use Rattle.mesh_defs.specs.BoundingBox.{CameraAt}
@@ -11,7 +11,7 @@ use Rattle.cert_text.specs.declared.line.CertLine.TheVariants.{CameraLine, LeafL
 use Rattle.cert_text.specs.declared.fault.CertFault.{CertFault}
 use Rattle.cert_text.specs.declared.fault.CertFault.TheVariants.{BadLine}
 use Rattle.cert_text.specs.Certificate.{Certificate}
-use Rattle.cert_text.specs.CertLine.{line_in}
+use Rattle.cert_text.specs.CertLine.{read_cert_line}
 
 -- what the lines so far said: the camera, once its line was read, the leaves and the reasons
 pub record ReadSoFar : Type 0 where
@@ -36,21 +36,21 @@ pub record AreFew (n : ℕ) (leaves : List ℕ) (reasons : List Reason) : Type 0
 
 -- Behind this line, where it may stand: the camera first and once, the leaves before the reasons, and neither too
 -- many.
-abbrev pub taken : ReadSoFar → CertLine → Option ReadSoFar
-taken read (CameraLine seen_from) = if is_some read.camera then None else Some (record read { camera = Some seen_from })
-taken read (LeafLine leaf) =
+abbrev pub line_taken : ReadSoFar → CertLine → Option ReadSoFar
+line_taken read (CameraLine seen_from) = if is_some read.camera then None else Some (record read { camera = Some seen_from })
+line_taken read (LeafLine leaf) =
     if is_some read.camera && ((length read.reasons == 0) && nat_lt (length read.leaves) MOST_LEAVES)
     then Some (record read { leaves = read.leaves ++ leaf ∷ [] }) else None
-taken read (ReasonLine reason) =
+line_taken read (ReasonLine reason) =
     if is_some read.camera && nat_lt (length read.reasons) MOST_REASONS
     then Some (record read { reasons = read.reasons ++ reason ∷ [] }) else None
 
 -- Behind the line that these bytes are, if they are one that may stand there; for the grid with this n.
 abbrev pub cert_line_in : ℕ → ReadSoFar → List ℕ → Option ReadSoFar
-cert_line_in n read bytes = elim (line_in n bytes) as (λ _. Option ReadSoFar) [ None ↦ None | Some line ↦ taken read line ]
+cert_line_in n read bytes = elim (read_cert_line n bytes) as (λ _. Option ReadSoFar) [ None ↦ None | Some line ↦ line_taken read line ]
 
 -- a reader: the n of its grid, what it has read, and its refusal, once it has refused
-pub record Reading : Type 0 where
+pub record CertReading : Type 0 where
   pub n : ℕ
   pub read : ReadSoFar
   pub refusal : Option CertFault

@@ -1,6 +1,6 @@
 -- The text of a certificate: a line for the camera, for each leaf and for each reason, in order, each with an LF (10)
 -- at its end. This project's own format.
--- Words: kind_text, number_text, address_text, line_text, ended, leaf_text, reason_text, cert_text, cert_lines.
+-- Words: kind_text, number_text, address_text, cert_line_text, ended_line, leaf_text, reason_text, cert_text, cert_lines.
 use Rattle.std.specs.Prelude.{ℕ, List, [], ◌∷◌, ◌++◌, map, codes, decimal, ℤ}
 use Rattle.std.specs.List.{flat_map}
 use Rattle.std.specs.Fmt.{signed_decimal}
@@ -26,28 +26,28 @@ abbrev pub address_text : List ℕ → ℕ → List ℕ
 address_text first a = first ++ 32 ∷ decimal a
 
 -- a line: its word and its numbers, with one blank before each of them
-abbrev pub line_text : CertLine → List ℕ
-line_text (CameraLine seen_from) = codes "camera" ++ number_text seen_from.x ++ number_text seen_from.y ++ number_text seen_from.z
-line_text (LeafLine leaf) = address_text (codes "leaf") leaf
-line_text (ReasonLine reason) = address_text (kind_text reason.kind) reason.triangle
+abbrev pub cert_line_text : CertLine → List ℕ
+cert_line_text (CameraLine seen_from) = codes "camera" ++ number_text seen_from.x ++ number_text seen_from.y ++ number_text seen_from.z
+cert_line_text (LeafLine leaf) = address_text (codes "leaf") leaf
+cert_line_text (ReasonLine reason) = address_text (kind_text reason.kind) reason.triangle
 
 -- a line with its LF
-abbrev pub ended : CertLine → List ℕ
-ended line = line_text line ++ 10 ∷ []
+abbrev pub ended_line : CertLine → List ℕ
+ended_line line = cert_line_text line ++ 10 ∷ []
 
 -- the line of a leaf, and that of a reason
 abbrev pub leaf_text : ℕ → List ℕ
-leaf_text leaf = ended (LeafLine leaf)
+leaf_text leaf = ended_line (LeafLine leaf)
 
 abbrev pub reason_text : Reason → List ℕ
-reason_text reason = ended (ReasonLine reason)
+reason_text reason = ended_line (ReasonLine reason)
 
 -- The text of a certificate: the camera, each leaf and each reason.
 abbrev pub cert_text : Certificate → List ℕ
-cert_text cert = ended (CameraLine cert.camera) ++ flat_map leaf_text cert.leaves ++ flat_map reason_text cert.reasons
+cert_text cert = ended_line (CameraLine cert.camera) ++ flat_map leaf_text cert.leaves ++ flat_map reason_text cert.reasons
 
 -- its lines, without their LFs
 abbrev pub cert_lines : Certificate → List (List ℕ)
 cert_lines cert =
-    line_text (CameraLine cert.camera) ∷ (map (λ a. line_text (LeafLine a)) cert.leaves
-    ++ map (λ r. line_text (ReasonLine r)) cert.reasons)
+    cert_line_text (CameraLine cert.camera) ∷ (map (λ a. cert_line_text (LeafLine a)) cert.leaves
+    ++ map (λ r. cert_line_text (ReasonLine r)) cert.reasons)

@@ -5,8 +5,8 @@ ghost use Rattle.arrayvec.specs.ArrayVec.{array_vec_len};
 ghost use Rattle.certificate_laws.specs.declared.reason.Kind.{Kind};
 ghost use Rattle.roam_edge.specs.Fault.{HasCause, IsInTime};
 ghost use Rattle.roam_edge.specs.Sink.{Appends};
-ghost use Rattle.cert_text.specs.CertText.{number_text, kind_text, address_text, line_text, ended};
-ghost use Rattle.page_laws.specs.Page.{IsPut, IsCutShort};
+ghost use Rattle.cert_text.specs.CertText.{number_text, kind_text, address_text, cert_line_text, ended_line};
+ghost use Rattle.page_laws.specs.Page.{IsPut, IsWrittenInPart};
 ghost use Rattle.cert_text.specs.declared.page.TheConstants.{PAGE_ROOM, LONGEST_LINE};
 
 use crate::line::CertLine;
@@ -28,9 +28,9 @@ pub(crate) type Page = ArrayVec<u8, PAGE_ROOM>;
 pub(crate) fn put_line<S: Sink>(page: &mut Page, line: CertLine, out: &mut S) -> Result<(), Failed>
     ensures ok { OnOk result ((before : Option (List ℕ)) (text : List ℕ) →
         IsPut before (S.contents out.old) page.old.items text →
-        IsPut before (S.contents out.new) page.new.items (text ++ ended line)) }
+        IsPut before (S.contents out.new) page.new.items (text ++ ended_line line)) }
     ensures err { OnErr result ((before : Option (List ℕ)) (text : List ℕ) →
-        IsPut before (S.contents out.old) page.old.items text → IsCutShort before (S.contents out.new) text) }
+        IsPut before (S.contents out.old) page.old.items text → IsWrittenInPart before (S.contents out.new) text) }
     ensures faults { HasCause (S.faults out.old) (S.faults out.new) result }
     ensures in_time { IsInTime (S.late out.old) (S.faults out.old) (S.late out.new) }
 {
@@ -45,7 +45,7 @@ fn make_room<S: Sink>(page: &mut Page, out: &mut S) -> Result<(), Failed>
     ensures ok { OnOk result ((before : Option (List ℕ)) (text : List ℕ) →
         IsPut before (S.contents out.old) page.old.items text → IsPut before (S.contents out.new) page.new.items text) }
     ensures err { OnErr result ((before : Option (List ℕ)) (text : List ℕ) →
-        IsPut before (S.contents out.old) page.old.items text → IsCutShort before (S.contents out.new) text) }
+        IsPut before (S.contents out.old) page.old.items text → IsWrittenInPart before (S.contents out.new) text) }
     ensures faults { HasCause (S.faults out.old) (S.faults out.new) result }
     ensures in_time { IsInTime (S.late out.old) (S.faults out.old) (S.late out.new) }
 {
@@ -73,7 +73,7 @@ pub(crate) fn put_rest<S: Sink>(page: &Page, out: &mut S) -> Result<(), Failed>
 /// Appends a line and its LF.
 fn push_line(page: &mut Page, line: CertLine)
     requires room { array_vec_len page.old + LONGEST_LINE ≤ PAGE_ROOM }
-    ensures { page.new.items ≡ page.old.items ++ ended line }
+    ensures { page.new.items ≡ page.old.items ++ ended_line line }
 {
     push_fields(page, line);
     push_bytes(page, b"\n");
@@ -82,7 +82,7 @@ fn push_line(page: &mut Page, line: CertLine)
 /// Appends a line.
 fn push_fields(page: &mut Page, line: CertLine)
     requires room { array_vec_len page.old + LONGEST_LINE ≤ PAGE_ROOM }
-    ensures items { page.new.items ≡ page.old.items ++ line_text line }
+    ensures items { page.new.items ≡ page.old.items ++ cert_line_text line }
     ensures len { array_vec_len page.new ≤ array_vec_len page.old + 69 }
 {
     match line {

@@ -4,7 +4,7 @@ ghost use Rattle.std.specs.Prelude.{◌≡◌, ◌≤◌, ◌++◌, ◌∷◌, [
 ghost use Rattle.mesh_defs.specs.Triangle.{IsAddress, IsSplittable};
 ghost use Rattle.mesh_defs.specs.declared.level.TheConstants.{GREATEST_LEVEL};
 ghost use Rattle.certificate_laws.specs.declared.reason.Reason.{Reason};
-ghost use Rattle.cert_text.specs.CertReader.{nothing_read, read_so_far, AreFew, taken, cert_line_in, finished};
+ghost use Rattle.cert_text.specs.CertReader.{nothing_read, read_so_far, AreFew, line_taken, cert_line_in, finished};
 ghost use Rattle.cert_text.specs.CertLine.{IsLineOf};
 ghost use Rattle.cert_text.specs.declared.fault.CertFault.{CertFault};
 
@@ -33,9 +33,9 @@ impl Model for CertReader {
     ghost use Rattle.std.specs.Prelude.{◌≤◌, length, All};
     ghost use Rattle.mesh_defs.specs.Triangle.{IsAddress, IsSplittable};
     ghost use Rattle.certificate_laws.specs.declared.reason.Reason.{Reason};
-    ghost use Rattle.cert_text.specs.CertReader.{Reading, AreFew};
+    ghost use Rattle.cert_text.specs.CertReader.{CertReading, AreFew};
 
-    ghost Value = { Reading };
+    ghost Value = { CertReading };
 
     ghost view = { λ r. record {
       n = r.n;
@@ -122,14 +122,14 @@ fn take(
     reasons: &mut Vec<Reason>,
     line: CertLine,
 ) -> Result<(), CertFault>
-    ensures ok { OnOk result (taken (read_so_far camera.old leaves.old.items reasons.old.items) line
+    ensures ok { OnOk result (line_taken (read_so_far camera.old leaves.old.items reasons.old.items) line
         ≡ Some (read_so_far camera.new leaves.new.items reasons.new.items)) }
     ensures err { OnErr result (read_so_far camera.new leaves.new.items reasons.new.items
         ≡ read_so_far camera.old leaves.old.items reasons.old.items) }
     ensures few { (n : ℕ) → AreFew n leaves.old.items reasons.old.items → IsLineOf n line →
         AreFew n leaves.new.items reasons.new.items }
     ensures bad_line { (result ≡ Err CertFault.BadLine)
-        ↔ (taken (read_so_far camera.old leaves.old.items reasons.old.items) line ≡ None) }
+        ↔ (line_taken (read_so_far camera.old leaves.old.items reasons.old.items) line ≡ None) }
 {
     match line {
         CertLine::CameraLine(seen_from) if camera.is_none() => *camera = Some(seen_from),

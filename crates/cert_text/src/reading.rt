@@ -3,7 +3,7 @@
 ghost use Rattle.std.specs.Prelude.{◌≡◌, ℕ, ◌+◌, ◌*◌, ◌^◌, ◌<◌, ◌≤◌, IfSome};
 ghost use Rattle.mesh_defs.specs.declared.level.TheConstants.{GREATEST_LEVEL};
 ghost use Rattle.text_laws.specs.Fields.{fields_of};
-ghost use Rattle.cert_text.specs.CertLine.{word_of, camera_of, address_in, camera_fields, leaf_fields, reason_fields, word_line, fields_line, line_in, IsLineOf};
+ghost use Rattle.cert_text.specs.CertLine.{line_word, camera_of, address_in, camera_fields, leaf_fields, reason_fields, word_line, cert_fields_line, read_cert_line, IsLineOf};
 
 use crate::line::{CertLine, Word};
 use bintree_addr::Tri;
@@ -17,7 +17,7 @@ use view_priority::Camera;
 /// Cost (not proved): a few steps a byte. Takes no memory.
 pub(crate) fn read_line(bytes: &[u8], n: u32) -> Option<CertLine>
     requires in_grid { (1 ≤ n) × (n ≤ GREATEST_LEVEL) }
-    ensures value { result ≡ line_in n bytes.now }
+    ensures value { result ≡ read_cert_line n bytes.now }
     ensures of_grid { IfSome result (IsLineOf n) }
 {
     if bytes.len() > MOST_LINE_BYTES {
@@ -29,7 +29,7 @@ pub(crate) fn read_line(bytes: &[u8], n: u32) -> Option<CertLine>
 /// The line of the fields of these bytes.
 fn line_of_fields(bytes: &[u8], n: u32) -> Option<CertLine>
     requires in_grid { (1 ≤ n) × (n ≤ GREATEST_LEVEL) }
-    ensures value { result ≡ fields_line n (fields_of bytes.now) }
+    ensures value { result ≡ cert_fields_line n (fields_of bytes.now) }
     ensures of_grid { IfSome result (IsLineOf n) }
 {
     let Some((first, rest)) = first_field(bytes) else {
@@ -45,7 +45,7 @@ fn line_of_fields(bytes: &[u8], n: u32) -> Option<CertLine>
 
 /// The word that a field is.
 fn named(field: &[u8]) -> Option<Word>
-    ensures { result ≡ word_of field.now }
+    ensures { result ≡ line_word field.now }
 {
     match field {
         b"camera" => Some(Word::Camera),

@@ -5,7 +5,7 @@ ghost use Rattle.std.specs.List.{flat_map};
 ghost use Rattle.roam_edge.specs.Fault.{HasCause, IsInTime};
 ghost use Rattle.roam_edge.specs.Sink.{Appends};
 ghost use Rattle.cert_text.specs.CertText.{leaf_text, reason_text, cert_text};
-ghost use Rattle.page_laws.specs.Page.{IsPut, IsCutShort};
+ghost use Rattle.page_laws.specs.Page.{IsPut, IsWrittenInPart};
 
 use crate::cert::Cert;
 use crate::line::CertLine;
@@ -37,7 +37,7 @@ fn put_leaves<S: Sink>(page: &mut Page, leaves: &[Tri], out: &mut S) -> Result<(
         IsPut before (S.contents out.new) page.new.items (text ++ flat_map leaf_text leaves.now)) }
     ensures err { OnErr result ((before : Option (List ℕ)) (text : List ℕ) →
         IsPut before (S.contents out.old) page.old.items text →
-        IsCutShort before (S.contents out.new) (text ++ flat_map leaf_text leaves.now)) }
+        IsWrittenInPart before (S.contents out.new) (text ++ flat_map leaf_text leaves.now)) }
     ensures faults { HasCause (S.faults out.old) (S.faults out.new) result }
     ensures in_time { IsInTime (S.late out.old) (S.faults out.old) (S.late out.new) }
 {
@@ -54,7 +54,7 @@ fn put_reasons<S: Sink>(page: &mut Page, reasons: &[Reason], out: &mut S) -> Res
         IsPut before (S.contents out.new) page.new.items (text ++ flat_map reason_text reasons.now)) }
     ensures err { OnErr result ((before : Option (List ℕ)) (text : List ℕ) →
         IsPut before (S.contents out.old) page.old.items text →
-        IsCutShort before (S.contents out.new) (text ++ flat_map reason_text reasons.now)) }
+        IsWrittenInPart before (S.contents out.new) (text ++ flat_map reason_text reasons.now)) }
     ensures faults { HasCause (S.faults out.old) (S.faults out.new) result }
     ensures in_time { IsInTime (S.late out.old) (S.faults out.old) (S.late out.new) }
 {

@@ -20,7 +20,7 @@ use Rattle.least_laws.specs.Least.{is_worse}
 use Rattle.least_laws.proofs.LeastLemmas.{worse-iff, least_found, least_within}
 use Rattle.certificate_laws.specs.declared.reason.Kind.TheVariants.{Want, Parent, Mate}
 use Rattle.certificate_laws.specs.declared.reason.Reason.{Reason}
-use Rattle.certificate_laws.specs.Certificate.{triangles_of, named_in, IsReason, AreReasons, IsSound, IsOptimal, AreAllReasons}
+use Rattle.certificate_laws.specs.Certificate.{reason_triangles, named_in, IsReason, AreReasons, IsSound, IsOptimal, AreAllReasons}
 use Rattle.certificate_laws.proofs.DistinctLemmas.{some_or_none, distinct-ascending, size_of-leaves}
 use Rattle.certificate_laws.proofs.SoundLemmas.{earlier_cases, reasons_next, reasons_inside, length-triangles_of}
 
@@ -30,18 +30,18 @@ use Rattle.certificate_laws.proofs.SoundLemmas.{earlier_cases, reasons_next, rea
 module _ (n tolerance : ℕ) (priority : ℕ → ℕ) (has : ℕ → Bool) (closure : IsLeastClosed n (is_worse n tolerance priority) has) where
   -- reasons of members
   abbrev pub AreInside : List Reason → Type 0
-  AreInside reasons = (a : ℕ) → IsIn a (triangles_of reasons) → IsTrue (has a)
+  AreInside reasons = (a : ℕ) → IsIn a (reason_triangles reasons) → IsTrue (has a)
 
   -- reasons that hold what is wanted, and with each triangle its parent and mate, are all: where a maker's queue ends
   pub all_listed : (reasons : List Reason) → AreInside reasons → IsSubset (is_worse n tolerance priority) (named_in reasons) →
-      ((b : ℕ) → IsIn b (triangles_of reasons) → 4 ≤ b → IsTrue (named_in reasons (b / 2))) →
-      ((b m : ℕ) → IsIn b (triangles_of reasons) → IsMate n b m → IsTrue (named_in reasons m)) →
+      ((b : ℕ) → IsIn b (reason_triangles reasons) → 4 ≤ b → IsTrue (named_in reasons (b / 2))) →
+      ((b m : ℕ) → IsIn b (reason_triangles reasons) → IsMate n b m → IsTrue (named_in reasons m)) →
       IsSubset has (named_in reasons)
   all_listed reasons inside wants parents mates = closure.least (named_in reasons)
       record {
-        splittable = λ a h. closure.closed.splittable a (inside a (IsIn-among a (triangles_of reasons) h));
-        parent = λ a h big. parents a (IsIn-among a (triangles_of reasons) h) big;
-        mate = λ a b h m. mates a b (IsIn-among a (triangles_of reasons) h) m;
+        splittable = λ a h. closure.closed.splittable a (inside a (IsIn-among a (reason_triangles reasons) h));
+        parent = λ a h big. parents a (IsIn-among a (reason_triangles reasons) h) big;
+        mate = λ a b h m. mates a b (IsIn-among a (reason_triangles reasons) h) m;
       }
       wants
 
@@ -109,7 +109,7 @@ module _ (n tolerance : ℕ) (priority : ℕ → ℕ) (has : ℕ → Bool) (clos
         },
       ))
       (λ (no_want : (a : ℕ) → IsIn a (list_of n has) → IsWanted reasons a → ⊥). ⊎_elim
-      (λ (p : (b : ℕ) × IsIn b (triangles_of reasons) × LacksParent reasons b).
+      (λ (p : (b : ℕ) × IsIn b (reason_triangles reasons) × LacksParent reasons b).
       let member : IsTrue (has (p.0 / 2)) = closure.closed.parent p.0 (inside p.0 p.1) p.2.0 in
       inl (
         record { kind = Parent; triangle = p.0 / 2 },
@@ -117,29 +117,29 @@ module _ (n tolerance : ℕ) (priority : ℕ → ℕ) (has : ℕ → Bool) (clos
         record {
           splittable = closure.closed.splittable (p.0 / 2) member;
           new = p.2.1;
-          why = (p.0, among-in p.0 (triangles_of reasons) p.1, p.2.0, refl);
+          why = (p.0, among-in p.0 (reason_triangles reasons) p.1, p.2.0, refl);
         },
       ))
-      (λ (no_parent : (b : ℕ) → IsIn b (triangles_of reasons) → LacksParent reasons b → ⊥). ⊎_elim
-      (λ (p : (b : ℕ) × IsIn b (triangles_of reasons) × LacksMate reasons b).
+      (λ (no_parent : (b : ℕ) → IsIn b (reason_triangles reasons) → LacksParent reasons b → ⊥). ⊎_elim
+      (λ (p : (b : ℕ) × IsIn b (reason_triangles reasons) × LacksMate reasons b).
       inl (
         record { kind = Mate; triangle = p.2.0 },
         closure.closed.mate p.0 p.2.0 (inside p.0 p.1) p.2.1,
         record {
           splittable = closure.closed.splittable p.2.0 (closure.closed.mate p.0 p.2.0 (inside p.0 p.1) p.2.1);
           new = p.2.2;
-          why = (p.0, among-in p.0 (triangles_of reasons) p.1, p.2.1);
+          why = (p.0, among-in p.0 (reason_triangles reasons) p.1, p.2.1);
         },
       ))
-      (λ (no_mate : (b : ℕ) → IsIn b (triangles_of reasons) → LacksMate reasons b → ⊥).
+      (λ (no_mate : (b : ℕ) → IsIn b (reason_triangles reasons) → LacksMate reasons b → ⊥).
       inr (all_listed reasons inside
       (λ a h. listed_if reasons a (λ missing. no_want a
       (IsIn-among a (list_of n has) (sym (among-list_of n has closure.closed a) ∙ closure.holds a h)) (h, missing)))
       (λ b i big. listed_if reasons (b / 2) (λ missing. no_parent b i (big, missing)))
       (λ b m i mate. listed_if reasons m (λ missing. no_mate b i (m, mate, missing)))))
-      (some_or_none (LacksMate reasons) (triangles_of reasons)
+      (some_or_none (LacksMate reasons) (reason_triangles reasons)
       (λ b i. lacks_mate_or_not reasons b (IsAddress-splittable n b (closure.closed.splittable b (inside b i))))))
-      (some_or_none (LacksParent reasons) (triangles_of reasons) (λ b i. lacks_parent_or_not reasons b)))
+      (some_or_none (LacksParent reasons) (reason_triangles reasons) (λ b i. lacks_parent_or_not reasons b)))
       (some_or_none (IsWanted reasons) (list_of n has) (λ a i. wanted_or_not reasons a))
 
   -- a list of so many reasons of members
@@ -166,7 +166,7 @@ module _ (n tolerance : ℕ) (priority : ℕ → ℕ) (has : ℕ → Bool) (clos
       })
       (λ (all : IsSubset has (named_in l.reasons)).
       let size = size_of-leaves n has closure.closed in
-      let most = length-distinct (list_of n has) (triangles_of l.reasons) (distinct-ascending (list_of n has) (ascending-list_of n has))
+      let most = length-distinct (list_of n has) (reason_triangles l.reasons) (distinct-ascending (list_of n has) (ascending-list_of n has))
       (λ a h. all a (among-list_of n has closure.closed a ∙ h)) in
       let same = length-triangles_of l.reasons in
       let f = l.long in
@@ -224,10 +224,10 @@ all-enough n budget priority leaves reasons falling is reasoned all some =
     [] reasons (λ a h. absurd h) reasoned in
     let listed = all_listed n tolerance priority c.0 c.1 reasons inside
     (λ a h. let w = (worse-iff n tolerance priority a).0 h in all.wants a w.0 (let high = w.1 in omega arith))
-    (λ b i big. all.parents b (among-in b (triangles_of reasons) i) big)
-    (λ b m i mate. all.mates b m (among-in b (triangles_of reasons) i) mate) in
+    (λ b i big. all.parents b (among-in b (reason_triangles reasons) i) big)
+    (λ b m i mate. all.mates b m (among-in b (reason_triangles reasons) i) mate) in
     let size = size_of-leaves n c.0 c.1.closed in
-    let most = length-distinct (list_of n c.0) (triangles_of reasons) (distinct-ascending (list_of n c.0) (ascending-list_of n c.0))
+    let most = length-distinct (list_of n c.0) (reason_triangles reasons) (distinct-ascending (list_of n c.0) (ascending-list_of n c.0))
     (λ a h. listed a (among-list_of n c.0 c.1.closed a ∙ h)) in
     let same = length-triangles_of reasons in
     ⊎_elim

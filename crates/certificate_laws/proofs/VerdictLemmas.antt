@@ -17,7 +17,7 @@ use Rattle.certificate_laws.specs.declared.reason.Verdict.{Verdict}
 use Rattle.certificate_laws.specs.declared.reason.Verdict.TheVariants.{Certified, Rejected}
 use Rattle.certificate_laws.specs.declared.reason.Kind.{Kind}
 use Rattle.certificate_laws.specs.declared.reason.Kind.TheVariants.{Want, Parent, Mate}
-use Rattle.certificate_laws.specs.Certificate.{triangles_of, named_in, IsWhy, IsReason, AreReasons, IsFirstBad, IsSound, IsRejected, IsVerdict}
+use Rattle.certificate_laws.specs.Certificate.{reason_triangles, named_in, IsWhy, IsReason, AreReasons, IsFirstBad, IsSound, IsRejected, IsVerdict}
 use Rattle.certificate_laws.proofs.SoundLemmas.{reasons_next, reasons_before}
 use Rattle.certificate_laws.proofs.CutLemmas.{conforming_or_not}
 
@@ -111,7 +111,7 @@ module _ (n : ℕ) (priority : ℕ → ℕ) (worst : ℕ) where
   -- reasons
 
   -- the triangles of reasons may be split
-  pub reasons-splittable : (before reasons : List Reason) → AreReasons n priority worst before reasons → (a : ℕ) → IsIn a (triangles_of reasons) → IsSplittable n a
+  pub reasons-splittable : (before reasons : List Reason) → AreReasons n priority worst before reasons → (a : ℕ) → IsIn a (reason_triangles reasons) → IsSplittable n a
   reasons-splittable before [] are a h = absurd h
   reasons-splittable before (x ∷ xs) are a (inl e) = subst (λ z. IsSplittable n z) e are.0.splittable
   reasons-splittable before (x ∷ xs) are a (inr h) = reasons-splittable (before ++ x ∷ []) xs are.1 a h
@@ -126,7 +126,7 @@ module _ (n : ℕ) (priority : ℕ → ℕ) (worst : ℕ) where
       (first_bad_from (good ++ x ∷ []) xs (reasons_next n priority worst [] good x are is)))
       (λ (fails : IsReason n priority worst (named_in good) x → ⊥).
       inr (length good + 1, record { good = good; bad = x; rest = xs; parts = refl; place = refl; reasoned = are; fails = fails }))
-      (reason_or_not (named_in good) (λ b h. IsAddress-splittable n b (reasons-splittable [] good are b (IsIn-among b (triangles_of good) h))) x)
+      (reason_or_not (named_in good) (λ b h. IsAddress-splittable n b (reasons-splittable [] good are b (IsIn-among b (reason_triangles good) h))) x)
 
   -- all are reasons, or some is the first that is none
   pub first_bad_or_none : (reasons : List Reason) → AreReasons n priority worst [] reasons ⊎ ((index : ℕ) × IsFirstBad n priority worst reasons index)

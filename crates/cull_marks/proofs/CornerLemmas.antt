@@ -5,7 +5,7 @@ use Rattle.std.proofs.lemmas.Int.{ints}
 use Rattle.text_laws.proofs.TestLemmas.{by_bool}
 use Rattle.mesh_defs.specs.BoundingBox.{BoundingBox}
 use Rattle.mesh_defs.specs.View.{ViewPlane, is_outside, outside_corners, is_all_outside, is_some_outside}
-use Rattle.cull_marks.specs.Plane.{value_of, far_end, far_value, near_value}
+use Rattle.cull_marks.specs.Plane.{plane_value, far_end, far_value, near_value}
 use Rattle.cull_marks.specs.Nesting.{IsOrdered}
 use Rattle.cull_marks.proofs.SlopeLemmas.{below_far, above_near}
 
@@ -38,7 +38,7 @@ pub record IsPointIn (box : BoundingBox) (x y z : ℤ) : Type 0 where
 
 -- no point of the box has a greater value than the far corner
 pub value_of-below_far : (p : ViewPlane) (box : BoundingBox) (x y z : ℤ) → IsPointIn box x y z →
-    value_of p x y z ≤ℤ far_value p box
+    plane_value p x y z ≤ℤ far_value p box
 value_of-below_far p box x y z within =
     omega (
       arith,
@@ -50,7 +50,7 @@ value_of-below_far p box x y z within =
 
 -- no point of the box has a lower value than the near corner
 pub value_of-above_near : (p : ViewPlane) (box : BoundingBox) (x y z : ℤ) → IsPointIn box x y z →
-    near_value p box ≤ℤ value_of p x y z
+    near_value p box ≤ℤ plane_value p x y z
 value_of-above_near p box x y z within =
     omega (
       arith,
@@ -168,11 +168,11 @@ some_outside-near p box o =
 -- the far value from the ends that the code finds, where q is p
 pub far_value-by_ends : (q p : ViewPlane) (box : BoundingBox) (x y z v : ℤ) → q ≡ p →
     x ≡ far_end q.a box.x0 box.x1 → y ≡ far_end q.b box.y0 box.y1 → z ≡ far_end q.c box.z0 box.z1 →
-    v ≡ value_of p x y z → v ≡ far_value p box
+    v ≡ plane_value p x y z → v ≡ far_value p box
 far_value-by_ends q p box x y z v same x_is y_is z_is value_is = value_is ∙ rw (x_is, y_is, z_is, same) refl
 
 -- the near value likewise
 pub near_value-by_ends : (q p : ViewPlane) (box : BoundingBox) (x y z v : ℤ) → q ≡ p →
     x ≡ far_end q.a box.x1 box.x0 → y ≡ far_end q.b box.y1 box.y0 → z ≡ far_end q.c box.z1 box.z0 →
-    v ≡ value_of p x y z → v ≡ near_value p box
+    v ≡ plane_value p x y z → v ≡ near_value p box
 near_value-by_ends q p box x y z v same x_is y_is z_is value_is = value_is ∙ rw (x_is, y_is, z_is, same) refl

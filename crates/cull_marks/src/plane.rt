@@ -3,7 +3,7 @@
 ghost use Rattle.std.specs.Prelude.{◌≡◌, ◌≤◌, ◌^◌, ◌↔◌, IsSome, IfSome, IsTrue, unsigned_abs, pos, int_lt};
 ghost use Rattle.mesh_defs.specs.View.{is_all_outside, is_some_outside};
 ghost use Rattle.cull_marks.specs.Cuboid.{as_box, IsWithinReach};
-ghost use Rattle.cull_marks.specs.Plane.{IsPlane, value_of, far_end, far_value, near_value};
+ghost use Rattle.cull_marks.specs.Plane.{IsPlane, plane_value, far_end, far_value, near_value};
 
 use bintree_addr::Cuboid;
 use std::marker::Model;
@@ -91,7 +91,7 @@ impl Plane {
         requires x_reach { unsigned_abs x ≤ 2 ^ 21 }
         requires y_reach { unsigned_abs y ≤ 2 ^ 21 }
         requires z_reach { unsigned_abs z ≤ 2 ^ 21 }
-        ensures { result ≡ value_of self.now x y z }
+        ensures { result ≡ plane_value self.now x y z }
     {
         self.a * x + (self.b * y + (self.c * z + self.d))
     }

@@ -8,13 +8,13 @@ use Rattle.mesh_defs.specs.ClosedSet.{leaves_of, among}
 use Rattle.mesh_defs.specs.Greedy.{with_triangle}
 use Rattle.tiling_laws.proofs.DescentLemmas.{IsAddress-splittable}
 use Rattle.mesh_defs.proofs.ListLemmas.{IsIn-among}
-use Rattle.deferred_loop.specs.Seen.{PoolSet, SeenMesh, best_key, worst_key, sure, IsHead, IsLastHead, IsTold, lower_of, upper_of}
+use Rattle.deferred_loop.specs.Seen.{PoolSet, SeenMesh, best_key, worst_key, sure, IsHead, IsLastHead, IsRated, lower_of, upper_of}
 use Rattle.mesh_defs.specs.GridSet.{IsGridSet}
 use Rattle.bintree_addr.specs.declared.rank.Rank.{Rank}
 use Rattle.bintree_addr.specs.RankOrder.{ComesFirst}
 use Rattle.closure_laws.specs.Diamond.{IsInDiamond, CanMerge}
 use Rattle.frame_steps.specs.Lead.{IsLastLead}
-use Rattle.frame_steps.specs.Steps.{leaf_count, too_many, Run}
+use Rattle.frame_steps.specs.Steps.{leaf_count, too_many, StepRun}
 use Rattle.mesh_defs.specs.Ranking.{IsBefore}
 use Rattle.closure_laws.specs.Order.{IsNoLater}
 use Rattle.frame_steps.specs.Deferred.{leaf, member, DiamondStraddles, zero_lower, DeferredFrame, IsDeferredFrame, IsOpen, open_leaf, open_member}
@@ -53,7 +53,7 @@ filter_shorter t xs there =
     let own = length-some t (filter (λ b. eqb t b) xs) (filter-in (λ b. eqb t b) t xs (IsIn-among t xs there) (eq-eqb t t refl)) in
     omega arith
 
-module _ (w : DeferredFrame) (before after : SeenMesh) (r : Rank) (t : ℕ) (told : IsTold before after r) (tri : r.tri ≡ t) where
+module _ (w : DeferredFrame) (before after : SeenMesh) (r : Rank) (t : ℕ) (told : IsRated before after r) (tri : r.tri ≡ t) where
   -- what is not known is another one, and was not known
   told_parts : (a : ℕ) → after.known a ≡ false → (before.known a ≡ false) × (eqb t a ≡ false)
   told_parts a new = or_parts (before.known a) (eqb t a) (sym (told.known a ∙ ap (λ z. with_triangle before.known z a) tri) ∙ new)
@@ -85,7 +85,7 @@ module _ (w : DeferredFrame) (before after : SeenMesh) (r : Rank) (t : ℕ) (tol
   charged_reserve : (evaluations added removed count more : ℕ) → more ≤ count + 1 → (c : IsCharged w evaluations before added removed count) → IsTrue (among c.reserve t) →
       IsCharged w evaluations after added removed more
   charged_reserve evaluations added removed count more counted c there = record {
-    run = subst (λ (z : PoolSet). Run w.n w.budget w.priority w.start z.members added removed) (sym told.set) c.run;
+    run = subst (λ (z : PoolSet). StepRun w.n w.budget w.priority w.start z.members added removed) (sym told.set) c.run;
     asked = c.asked;
     distinct = c.distinct;
     each = c.each;
@@ -109,7 +109,7 @@ module _ (w : DeferredFrame) (before after : SeenMesh) (r : Rank) (t : ℕ) (tol
   charged_open : (evaluations added removed count more : ℕ) → more ≤ count + 1 → (c : IsCharged w evaluations before added removed count) → IsOpen w t → (IsTrue (among c.asked t) → ⊥) →
       IsCharged w evaluations after added removed more
   charged_open evaluations added removed count more counted c is_open new_one = record {
-    run = subst (λ (z : PoolSet). Run w.n w.budget w.priority w.start z.members added removed) (sym told.set) c.run;
+    run = subst (λ (z : PoolSet). StepRun w.n w.budget w.priority w.start z.members added removed) (sym told.set) c.run;
     asked = t ∷ c.asked;
     distinct = IsDistinct-cons eqb t c.asked (apart t c.asked new_one) c.distinct;
     each = λ b i. ⊎_elim (λ same. subst (λ z. IsOpen w z) (eqb-true t b same) is_open) (λ there. c.each b there) (or_cases (eqb t b) (among c.asked b) i);

@@ -7,7 +7,7 @@ use Rattle.deferred_loop.specs.Seen.{PoolSet, SeenMesh, IsEntered, upper_of, low
 use Rattle.frame_steps.specs.Deferred.{DeferredFrame, IsEntry}
 use Rattle.frame_steps.specs.Stamps.{Stamp, Readings, stamp_now, ReadingsHold}
 use Rattle.frame_steps.proofs.KeyLemmas.{IsAddress-entry}
-use Rattle.deferred_loop.specs.Kept.{IsSound, IsCaughtUp}
+use Rattle.deferred_loop.specs.Kept.{HasTrueKeys, IsCaughtUp}
 use Rattle.deferred_loop.specs.declared.gauge.Reading.{Reading}
 
 -- the stamp of a reading
@@ -17,7 +17,7 @@ stamp_of reading odometer = record { odometer = odometer; slack = reading.slack;
 -- Half way: what was entered of the fresh entries of before, and what is still fresh.
 pub record IsEntering (w : DeferredFrame) (r : Readings) (odometer : ℕ) (before now : SeenMesh) (count more : ℕ) : Type 0 where
   pub set : now.set ≡ before.set
-  pub sound : IsSound w now
+  pub sound : HasTrueKeys w now
   pub rest : (a : ℕ) → IsTrue (among now.fresh a) → IsTrue (among before.fresh a)
   pub known : (a : ℕ) → now.known a ≡ before.known a
   pub stamp : (a : ℕ) → among now.fresh a ≡ false → now.stamps a ≡ cond (among before.fresh a) (Some (stamp_now r odometer a)) (before.stamps a)
@@ -25,7 +25,7 @@ pub record IsEntering (w : DeferredFrame) (r : Readings) (odometer : ℕ) (befor
   pub least : more < 2 ^ 64 - 1 → count + length before.fresh ≤ more + length now.fresh
 
 -- at first
-pub entering_first : (w : DeferredFrame) (r : Readings) (odometer : ℕ) (s : SeenMesh) (count : ℕ) → IsSound w s → IsEntering w r odometer s s count count
+pub entering_first : (w : DeferredFrame) (r : Readings) (odometer : ℕ) (s : SeenMesh) (count : ℕ) → HasTrueKeys w s → IsEntering w r odometer s s count count
 entering_first w r odometer s count sound = record {
   set = refl;
   sound = sound;
@@ -78,7 +78,7 @@ module _ (w : DeferredFrame) (r : Readings) (odometer : ℕ) (now after : SeenMe
   other_stamp a other = entered.stamp a ∙ cond-false (eqb t a) (Some (stamp_of reading odometer)) (now.stamps a) other
 
   -- the keys after it is entered
-  entered_sound : ReadingsHold w.n w.priority odometer r → ((a : ℕ) → IsTrue (among now.fresh a) → now.known a ≡ false) → IsSound w now → IsSound w after
+  entered_sound : ReadingsHold w.n w.priority odometer r → ((a : ℕ) → IsTrue (among now.fresh a) → now.known a ≡ false) → HasTrueKeys w now → HasTrueKeys w after
   entered_sound hold unknown s = record {
     grid = ap (λ (z : PoolSet). z.n) entered.set ∙ s.grid;
     valid = subst (λ (z : PoolSet). IsGridSet w.n z.members) (sym entered.set) s.valid;

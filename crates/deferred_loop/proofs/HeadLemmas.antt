@@ -17,7 +17,7 @@ use Rattle.frame_steps.proofs.NextLemmas.{some_lead}
 use Rattle.frame_steps.proofs.KeyLemmas.{IsAddress-entry, first_known, zero_head, lead_no_later_key, all_before, all_positive, upper_key-known}
 use Rattle.deferred_loop.specs.Choice.{Priorities, IsFirstRank, IsLastRank}
 use Rattle.deferred_loop.specs.Seen.{SeenMesh, best_key, worst_key, sure, IsDecided, IsToAsk, IsHead, IsLastHead}
-use Rattle.deferred_loop.specs.Kept.{told_of, IsSettled, IsMet, IsAllowed, IsNoneMet}
+use Rattle.deferred_loop.specs.Kept.{frame_priorities, IsSettled, IsMet, IsAllowed, IsNoneMet}
 use Rattle.deferred_loop.specs.declared.queued.Head.{Head}
 use Rattle.deferred_loop.specs.declared.queued.Last.{Last}
 use Rattle.deferred_loop.specs.declared.queued.Located.{Located}
@@ -26,11 +26,11 @@ use Rattle.deferred_loop.specs.declared.limit.Limit.TheVariants.{Over, After, Ze
 use Rattle.deferred_loop.proofs.KeyLemmas.{present, present_is, best_key-upper, worst_key-lower, sure_key, unsure, best_key-above, no_later_by, can_merge_with}
 
 -- the grid of a frame's gauge
-pub told_grid : (w : DeferredFrame) (told : Priorities) → told ≡ told_of w → told.n ≡ w.n
+pub told_grid : (w : DeferredFrame) (told : Priorities) → told ≡ frame_priorities w → told.n ≡ w.n
 told_grid w told same = ap (λ (z : Priorities). z.n) same
 
 -- an address may be asked
-pub asked_level : (w : DeferredFrame) (told : Priorities) (a : ℕ) → told ≡ told_of w → IsAddress w.n a → level_of a ≤ 2 * told.n
+pub asked_level : (w : DeferredFrame) (told : Priorities) (a : ℕ) → told ≡ frame_priorities w → IsAddress w.n a → level_of a ≤ 2 * told.n
 asked_level w told a same address = omega (arith, level-le w.n a address, told_grid w told same)
 
 -- a head with no triangle to ask is decided
@@ -85,7 +85,7 @@ module _ (w : DeferredFrame) (is : IsDeferredFrame w) (s : SeenMesh) (settled : 
     head_entry = leaf head.leaf
 
     -- and may be asked
-    pub head_level : (told : Priorities) → told ≡ told_of w → level_of h.rank.tri ≤ 2 * told.n
+    pub head_level : (told : Priorities) → told ≡ frame_priorities w → level_of h.rank.tri ≤ 2 * told.n
     head_level told same = asked_level w told h.rank.tri same (IsAddress-entry w.n s.set.members h.rank.tri set (leaf head_leaf))
 
     -- a head of key 0
@@ -192,7 +192,7 @@ module _ (w : DeferredFrame) (is : IsDeferredFrame w) (s : SeenMesh) (settled : 
         last.mergeable inside)
 
     -- and may be asked
-    pub last_level : (told : Priorities) (t : ℕ) → told ≡ told_of w → IsInDiamond s.set.n h.rank.tri t → level_of t ≤ 2 * told.n
+    pub last_level : (told : Priorities) (t : ℕ) → told ≡ frame_priorities w → IsInDiamond s.set.n h.rank.tri t → level_of t ≤ 2 * told.n
     last_level told t same inside = asked_level w told t same
         (IsAddress-entry w.n s.set.members t set
         (member (last_key t (subst (λ z. IsInDiamond z h.rank.tri t) settled.grid inside)).mergeable))

@@ -17,7 +17,7 @@ use Rattle.frame_steps.proofs.FrameLemmas.{frame_size, frame_no_merge, frame_no_
 use Rattle.deferred_loop.specs.Choice.{Priorities, IsSparing}
 use Rattle.frame_steps.specs.Stamps.{Readings, is_due, stamp_now, StampsHold, ReadingsHold}
 use Rattle.deferred_loop.specs.Seen.{SeenMesh}
-use Rattle.deferred_loop.specs.Kept.{told_of, IsFrameOf, IsStamped}
+use Rattle.deferred_loop.specs.Kept.{frame_priorities, IsFrameOf, IsStamped}
 use Rattle.deferred_loop.specs.Promise.{frame_of, IsAtMost, IsAtLeast, AreStampsGood}
 
 -- how many are chosen and their closure, for a budget that counts as at least 2
@@ -37,7 +37,7 @@ frame_now told r odometer s budget =
 
 module _ (told : Priorities) (r : Readings) (odometer : ℕ) (s : SeenMesh) (budget : ℕ) (grid : told.n ≡ s.set.n) where
   -- it is what the gauge tells
-  pub picked_told : told ≡ told_of (frame_now told r odometer s budget)
+  pub picked_told : told ≡ frame_priorities (frame_now told r odometer s budget)
   picked_told = ap (λ z. record { n = z; of = told.of }) grid
 
   -- it is that of the mesh

@@ -6,10 +6,10 @@ use Rattle.mesh_defs.specs.ClosedSet.{leaves_of, among}
 use Rattle.deferred_loop.specs.Seen.{PoolSet, SeenMesh, IsBegun, lower_of, upper_of}
 use Rattle.mesh_defs.specs.GridSet.{IsGridSet}
 use Rattle.closure_laws.specs.Diamond.{CanMerge}
-use Rattle.frame_steps.specs.Steps.{Run, begin}
+use Rattle.frame_steps.specs.Steps.{StepRun, begin}
 use Rattle.frame_steps.specs.Deferred.{IsEntry, leaf, member, DeferredFrame, IsDeferredFrame, due_entry}
 use Rattle.frame_steps.specs.Stamps.{Stamp, Readings, is_due, stamp_now, counted_stamp}
-use Rattle.deferred_loop.specs.Kept.{IsFrameOf, IsSound, IsCharged, IsCaughtUp, IsStamped}
+use Rattle.deferred_loop.specs.Kept.{IsFrameOf, HasTrueKeys, IsCharged, IsCaughtUp, IsStamped}
 use Rattle.deferred_loop.proofs.KeyLemmas.{can_merge_with}
 use Rattle.frame_steps.proofs.KeyLemmas.{IsAddress-entry}
 
@@ -35,7 +35,7 @@ module _ (w : DeferredFrame) (is : IsDeferredFrame w) (r : Readings) (odometer :
   valid = subst (λ z. IsGridSet w.n z) (of.start ∙ sym (ap (λ (z : PoolSet). z.members) begun.set)) is.set
 
   -- what is not due keeps its bounds
-  pub begun_sound : IsSound w mid
+  pub begun_sound : HasTrueKeys w mid
   begun_sound = record {
     grid = grid;
     valid = valid;
@@ -87,7 +87,7 @@ module _ (w : DeferredFrame) (is : IsDeferredFrame w) (r : Readings) (odometer :
     -- what is due is charged, twice at most
     pub start_charged : IsCharged w count after 0 0 more
     start_charged = record {
-      run = subst (λ z. Run w.n w.budget w.priority w.start z 0 0) path begin;
+      run = subst (λ z. StepRun w.n w.budget w.priority w.start z 0 0) path begin;
       asked = mid.fresh;
       distinct = begun.distinct;
       each = λ a i. due_entry

@@ -8,14 +8,14 @@ use Rattle.mesh_defs.proofs.ListLemmas.{IsIn-among, among-in, IsIn-append-left, 
 use Rattle.deferred_loop.specs.Seen.{PoolSet, SeenMesh, IsSame, IsRenewed, IsNewEntry, lower_of, upper_of, IsMergeOf, IsSplitOf}
 use Rattle.mesh_defs.specs.GridSet.{IsGridSet, IsForced}
 use Rattle.closure_laws.specs.Diamond.{IsInDiamond, CanMerge, IsWithoutDiamond}
-use Rattle.frame_steps.specs.Steps.{leaf_count, IsSplitStep, IsMergeStep, Run, split, merge}
+use Rattle.frame_steps.specs.Steps.{leaf_count, IsSplitStep, IsMergeStep, StepRun, split, merge}
 use Rattle.frame_steps.specs.Deferred.{IsEntry, leaf, member, DeferredFrame, IsDeferredFrame}
 use Rattle.closure_laws.proofs.ChangeLemmas.{one_forced}
 use Rattle.closure_laws.proofs.FirstLeafLemmas.{first_leaf_splittable}
 use Rattle.closure_laws.proofs.DiamondLemmas.{without_diamond-closed}
 use Rattle.deferred_loop.specs.Choice.{IsNextSplit, IsNextMerge}
 use Rattle.frame_steps.specs.Stamps.{Stamp, Readings, is_due, stamp_now}
-use Rattle.deferred_loop.specs.Kept.{IsTrueKey, IsSound, IsSettled, IsOldLeaf, IsOldMember, IsCharged, IsAskedOnly, IsCaughtUp, IsStamped}
+use Rattle.deferred_loop.specs.Kept.{IsTrueKey, HasTrueKeys, IsSettled, IsOldLeaf, IsOldMember, IsCharged, IsAskedOnly, IsCaughtUp, IsStamped}
 use Rattle.deferred_loop.proofs.KeyLemmas.{can_merge_with}
 use Rattle.frame_steps.proofs.KeyLemmas.{IsAddress-entry}
 use Rattle.deferred_loop.proofs.FreshLemmas.{NewRoles, split_roles, merge_roles, few_fresh}
@@ -35,7 +35,7 @@ same_key w before mid a same key = record {
 }
 
 -- so the keys are sound, but for what is fresh
-renewed_sound : (w : DeferredFrame) (before mid : SeenMesh) → IsSettled w before → mid.set.n ≡ before.set.n → IsRenewed before mid → IsGridSet w.n mid.set.members → IsSound w mid
+renewed_sound : (w : DeferredFrame) (before mid : SeenMesh) → IsSettled w before → mid.set.n ≡ before.set.n → IsRenewed before mid → IsGridSet w.n mid.set.members → HasTrueKeys w mid
 renewed_sound w before mid s same r valid = record {
   grid = same ∙ s.grid;
   valid = valid;
@@ -45,12 +45,12 @@ renewed_sound w before mid s same r valid = record {
 }
 
 -- so they are after a split
-pub split_sound : (w : DeferredFrame) (before mid : SeenMesh) (t : ℕ) → IsSettled w before → IsSplitOf before mid t → IsSound w mid
+pub split_sound : (w : DeferredFrame) (before mid : SeenMesh) (t : ℕ) → IsSettled w before → IsSplitOf before mid t → HasTrueKeys w mid
 split_sound w before mid t s step = renewed_sound w before mid s step.n step.renewed
     record { n_low = s.valid.n_low; n_high = s.valid.n_high; ascending = step.forced.ascending; closed = (subst (λ z. IsForced z before.set.members t mid.set.members) s.grid step.forced).least.closed }
 
 -- and after a merge
-pub merge_sound : (w : DeferredFrame) (before mid : SeenMesh) (d : ℕ) → IsSettled w before → CanMerge w.n (among before.set.members) d → IsMergeOf before mid d → IsSound w mid
+pub merge_sound : (w : DeferredFrame) (before mid : SeenMesh) (d : ℕ) → IsSettled w before → CanMerge w.n (among before.set.members) d → IsMergeOf before mid d → HasTrueKeys w mid
 merge_sound w before mid d s can step = renewed_sound w before mid s step.n step.renewed record {
   n_low = s.valid.n_low;
   n_high = s.valid.n_high;
@@ -59,7 +59,7 @@ merge_sound w before mid d s can step = renewed_sound w before mid s step.n step
 }
 
 -- what is fresh is an address
-pub fresh_address : (w : DeferredFrame) (before mid : SeenMesh) (a : ℕ) → IsSound w mid → IsRenewed before mid → IsTrue (among mid.fresh a) → IsAddress w.n a
+pub fresh_address : (w : DeferredFrame) (before mid : SeenMesh) (a : ℕ) → HasTrueKeys w mid → IsRenewed before mid → IsTrue (among mid.fresh a) → IsAddress w.n a
 fresh_address w before mid a sound r i =
     IsAddress-entry w.n mid.set.members a sound.valid
     (subst (λ z. IsEntry z (among mid.set.members) a) sound.grid (r.each a i).0)
@@ -130,10 +130,10 @@ module _ (w : DeferredFrame) (before mid after : SeenMesh) (settled : IsSettled 
 
     -- a step is charged: a reading for each fresh entry, and one call of rank ahead for each role that was given out
     step_charged : (evaluations added removed sum rest count more : ℕ) → IsClosed w.n (among before.set.members) → IsClosed w.n (among mid.set.members) →
-        Run w.n w.budget w.priority w.start mid.set.members sum rest → sum + rest ≡ added + removed + steps → more ≤ count + length mid.fresh →
+        StepRun w.n w.budget w.priority w.start mid.set.members sum rest → sum + rest ≡ added + removed + steps → more ≤ count + length mid.fresh →
         IsCharged w evaluations before added removed count → IsCharged w evaluations after sum rest more
     step_charged evaluations added removed sum rest count more closed shut run grown counted c = record {
-      run = subst (λ (z : PoolSet). Run w.n w.budget w.priority w.start z.members sum rest) (sym caught.set) run;
+      run = subst (λ (z : PoolSet). StepRun w.n w.budget w.priority w.start z.members sum rest) (sym caught.set) run;
       asked = c.asked;
       distinct = c.distinct;
       each = c.each;
@@ -159,7 +159,7 @@ module _ (w : DeferredFrame) (before mid after : SeenMesh) (settled : IsSettled 
   split_charged t evaluations added removed total count more set forced step counted summed c =
       step_charged (length mid.set.members - length before.set.members) (split_roles w.n before.set.members set t mid.set.members forced)
       evaluations added removed total removed count more set.closed forced.least.closed
-      (subst (λ z. Run w.n w.budget w.priority w.start mid.set.members z removed) (sym summed) (split before.set.members mid.set.members added removed c.run step))
+      (subst (λ z. StepRun w.n w.budget w.priority w.start mid.set.members z removed) (sym summed) (split before.set.members mid.set.members added removed c.run step))
       (omega (arith, summed)) counted c
 
   -- a merge
@@ -171,7 +171,7 @@ module _ (w : DeferredFrame) (before mid after : SeenMesh) (settled : IsSettled 
   merge_charged d evaluations added removed total count more set can merged step counted summed c =
       step_charged (length before.set.members - length mid.set.members) (merge_roles w.n before.set.members set d mid.set.members can merged)
       evaluations added removed added total count more set.closed (without_diamond-closed w.n before.set.members d mid.set.members set.closed can merged)
-      (subst (λ z. Run w.n w.budget w.priority w.start mid.set.members added z) (sym summed) (merge before.set.members mid.set.members added removed c.run step))
+      (subst (λ z. StepRun w.n w.budget w.priority w.start mid.set.members added z) (sym summed) (merge before.set.members mid.set.members added removed c.run step))
       (omega (arith, summed)) counted c
 
   -- each stamp is that of the start or was taken now

@@ -7,7 +7,7 @@ use Rattle.std.proofs.lemmas.List.{length-append}
 use Rattle.mesh_defs.specs.ClosedSet.{leaves_of, among}
 use Rattle.mesh_defs.specs.Greedy.{with_triangle}
 use Rattle.mesh_defs.proofs.ListLemmas.{IsIn, IsIn-contains, IsIn-among, IsIn-append-left, IsIn-append-right}
-use Rattle.deferred_loop.specs.Seen.{PoolSet, SeenMesh, IsTold, upper_of, lower_of}
+use Rattle.deferred_loop.specs.Seen.{PoolSet, SeenMesh, IsRated, upper_of, lower_of}
 use Rattle.bintree_addr.specs.declared.rank.Rank.{Rank}
 use Rattle.closure_laws.proofs.SetListLemmas.{count-less}
 use Rattle.frame_steps.specs.Deferred.{DeferredFrame, IsEntry, leaf, member}
@@ -38,7 +38,7 @@ told_other w before after t p a key other known exact stamp =
     }
 
 -- the keys stay those of the frame
-pub told_settled : (w : DeferredFrame) (before after : SeenMesh) (r : Rank) → IsSettled w before → IsTold before after r → r.p ≡ w.priority r.tri → IsSettled w after
+pub told_settled : (w : DeferredFrame) (before after : SeenMesh) (r : Rank) → IsSettled w before → IsRated before after r → r.p ≡ w.priority r.tri → IsSettled w after
 told_settled w before after r s told value = record {
   grid = ap (λ (z : PoolSet). z.n) told.set ∙ s.grid;
   valid = subst (λ (z : PoolSet). IsGridSet w.n z.members) (sym told.set) s.valid;
@@ -66,7 +66,7 @@ asked_then w before mid after count more most one two = record {
 }
 
 -- a told rank is asking only, where it is charged
-pub told_only : (w : DeferredFrame) (start before after : SeenMesh) (r : Rank) (first count more : ℕ) → IsAskedOnly w start before first count → IsTold before after r →
+pub told_only : (w : DeferredFrame) (start before after : SeenMesh) (r : Rank) (first count more : ℕ) → IsAskedOnly w start before first count → IsRated before after r →
     r.p ≡ w.priority r.tri → count ≤ more →
     ((evaluations added removed : ℕ) → IsCharged w evaluations before added removed count → IsCharged w evaluations after added removed more) →
     IsAskedOnly w start after first more
@@ -100,7 +100,7 @@ unfolding entries_of
 length-entries n members = length-append (leaves_of n (among members)) members
 
 -- each told rank lowers the measure
-pub told_less : (before after : SeenMesh) (r : Rank) (t : ℕ) → IsTold before after r → r.tri ≡ t → IsEntry before.set.n (among before.set.members) t → before.known t ≡ false →
+pub told_less : (before after : SeenMesh) (r : Rank) (t : ℕ) → IsRated before after r → r.tri ≡ t → IsEntry before.set.n (among before.set.members) t → before.known t ≡ false →
     unasked after < unasked before
 unfolding unasked
 told_less before after r t told tri entry new =

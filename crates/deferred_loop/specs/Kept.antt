@@ -1,6 +1,6 @@
 -- What the loop keeps, half way through a frame: keys that are true, charges for what was asked, and stamps that hold.
 -- All of it is this project's own.
--- Words: told_of, IsFrameOf, IsTrueKey, IsSound, IsSettled, IsOldLeaf, IsOldMember, IsCharged, IsAskedOnly, SplitsUnasked, IsStepAt,
+-- Words: frame_priorities, IsFrameOf, IsTrueKey, HasTrueKeys, IsSettled, IsOldLeaf, IsOldMember, IsCharged, IsAskedOnly, SplitsUnasked, IsStepAt,
 -- IsCaughtUp, IsStamped, IsMet, IsAllowed, IsNoneMet.
 use Rattle.std.specs.Prelude.{◌≡◌, ℕ, ◌+◌, ◌-◌, ◌*◌, ◌^◌, ◌<◌, ◌≤◌, ◌⊎◌, ⊤, true, false, cond, nat_eq, IsTrue, List, [], length, Contains, Some}
 use Rattle.std.specs.List.{IsDistinct}
@@ -11,7 +11,7 @@ use Rattle.bintree_addr.specs.declared.rank.Rank.{Rank}
 use Rattle.bintree_addr.specs.RankOrder.{ComesFirst}
 use Rattle.closure_laws.specs.Diamond.{IsInDiamond, CanMerge}
 use Rattle.frame_steps.specs.Lead.{IsLead}
-use Rattle.frame_steps.specs.Steps.{leaf_count, Run}
+use Rattle.frame_steps.specs.Steps.{leaf_count, StepRun}
 use Rattle.frame_steps.specs.Deferred.{IsEntry, DeferredFrame, IsOpen}
 use Rattle.frame_steps.specs.Stamps.{Readings, is_due, stamp_now, HasStamps}
 use Rattle.deferred_loop.specs.Choice.{Priorities, IsFirstRank}
@@ -22,8 +22,8 @@ use Rattle.deferred_loop.specs.declared.next.Next.TheVariants.{Split, Merge, End
 use Rattle.deferred_loop.specs.declared.limit.Limit.TheVariants.{Over, After, Zero}
 
 -- what the gauge of a frame tells
-abbrev pub told_of : DeferredFrame → Priorities
-told_of w = record { n = w.n; of = w.priority }
+abbrev pub frame_priorities : DeferredFrame → Priorities
+frame_priorities w = record { n = w.n; of = w.priority }
 
 -- w is the frame that begins at this mesh: what is due counts with a stamp that is taken now
 pub record IsFrameOf (w : DeferredFrame) (r : Readings) (odometer : ℕ) (s : SeenMesh) : Type 0 where
@@ -38,7 +38,7 @@ pub record IsTrueKey (w : DeferredFrame) (s : SeenMesh) (a : ℕ) : Type 0 where
   pub lower : s.known a ≡ false → lower_of (s.stamps a) ≤ w.priority a
 
 -- so it is for all entries but the fresh ones, in a closed set
-pub record IsSound (w : DeferredFrame) (s : SeenMesh) : Type 0 where
+pub record HasTrueKeys (w : DeferredFrame) (s : SeenMesh) : Type 0 where
   pub grid : s.set.n ≡ w.n
   pub valid : IsGridSet w.n s.set.members
   pub keys : (a : ℕ) → IsEntry w.n (among s.set.members) a → among s.fresh a ≡ false → IsTrueKey w s a
@@ -67,7 +67,7 @@ pub record IsOldMember (w : DeferredFrame) (s : SeenMesh) (asked : List ℕ) (a 
 -- Every evaluation so far is charged, and so is one more for each entry of the reserve: the entries that were due, and the roles
 -- that steps of this frame gave out. An entry that is not known is in the reserve, or has the role that it had at the start.
 pub record IsCharged (w : DeferredFrame) (evaluations : ℕ) (s : SeenMesh) (added removed count : ℕ) : Type 0 where
-  pub run : Run w.n w.budget w.priority w.start s.set.members added removed
+  pub run : StepRun w.n w.budget w.priority w.start s.set.members added removed
   pub asked : List ℕ
   pub distinct : IsDistinct nat_eq asked
   pub each : (a : ℕ) → IsTrue (among asked a) → IsOpen w a

@@ -2,7 +2,7 @@
 -- and what each call of the mesh does to these.
 -- Source: Duchaineau et al., "ROAMing Terrain", IEEE Visualization 1997, the parts on the two queues and on deferred
 -- priority lists; the list of fresh entries is this project's own.
--- Words: PoolSet, SeenMesh, upper_of, lower_of, best_key, worst_key, sure, IsHead, IsDecided, IsToAsk, IsLastHead, IsTold,
+-- Words: PoolSet, SeenMesh, upper_of, lower_of, best_key, worst_key, sure, IsHead, IsDecided, IsToAsk, IsLastHead, IsRated,
 -- IsEntered, IsSame, IsNewEntry, IsRenewed, HasRoom, IsCountedBy, IsSplitOf, IsMergeOf, IsQuiet, IsBegun, IsForgotten.
 use Rattle.std.specs.Prelude.{◌≡◌, ◌≢◌, ℕ, ◌+◌, ◌-◌, ◌*◌, ◌^◌, ◌≤◌, ◌⊎◌, Bool, true, false, cond, nat_eq, ◌||◌, IsTrue, List, [], ◌∷◌, length, Contains, Option, None, Some, MatchOption}
 use Rattle.std.specs.List.{IsDistinct}
@@ -92,7 +92,7 @@ pub record IsLastHead (s : SeenMesh) (h : Last) : Type 0 where
       (λ t. IsToAsk s h.rank.tri t.tri)
 
 -- a told rank is known from now on, and all else stays
-pub record IsTold (before after : SeenMesh) (r : Rank) : Type 0 where
+pub record IsRated (before after : SeenMesh) (r : Rank) : Type 0 where
   pub set : after.set ≡ before.set
   pub fresh : after.fresh ≡ before.fresh
   pub known : (a : ℕ) → after.known a ≡ with_triangle before.known r.tri a

@@ -6,8 +6,8 @@ ghost use Rattle.mesh_defs.specs.ClosedSet.{leaves_of, among};
 ghost use Rattle.frame_steps.specs.Steps.{leaf_count};
 ghost use Rattle.frame_steps.specs.Deferred.{DeferredFrame, IsDeferredFrame, IsEntry};
 ghost use Rattle.deferred_loop.specs.Choice.{IsFirstRank, IsLastRank};
-ghost use Rattle.deferred_loop.specs.Seen.{SeenMesh, IsTold};
-ghost use Rattle.deferred_loop.specs.Kept.{told_of, IsSettled, IsAskedOnly, IsMet, IsAllowed, IsNoneMet};
+ghost use Rattle.deferred_loop.specs.Seen.{SeenMesh, IsRated};
+ghost use Rattle.deferred_loop.specs.Kept.{frame_priorities, IsSettled, IsAskedOnly, IsMet, IsAllowed, IsNoneMet};
 
 use crate::gauge::Gauge;
 use crate::limit::Limit;
@@ -23,7 +23,7 @@ fn ask<M: QueuedMesh, G: Gauge>(mesh: &mut M, gauge: &mut G, t: Located)
     ensures told { G.told gauge.new ≡ G.told gauge.old }
     ensures readings { G.readings gauge.new ≡ G.readings gauge.old }
     ensures log { M.log mesh.new ≡ M.log mesh.old }
-    ensures known { IsTold (M.seen mesh.old) (M.seen mesh.new) (record { p = (G.told gauge.old).of t.tri; tri = t.tri }) }
+    ensures known { IsRated (M.seen mesh.old) (M.seen mesh.new) (record { p = (G.told gauge.old).of t.tri; tri = t.tri }) }
     ensures rises { G.count gauge.old ≤ G.count gauge.new }
     ensures most { G.count gauge.new ≤ G.count gauge.old + 1 }
 {
@@ -37,7 +37,7 @@ fn ask<M: QueuedMesh, G: Gauge>(mesh: &mut M, gauge: &mut G, t: Located)
 pub fn settle_first<M: QueuedMesh, G: Gauge>(mesh: &mut M, gauge: &mut G) -> Option<Head>
     ghost w: { DeferredFrame }
     requires frame { IsDeferredFrame w }
-    requires told { G.told gauge.old ≡ told_of w }
+    requires told { G.told gauge.old ≡ frame_priorities w }
     requires settled { IsSettled w (M.seen mesh.old) }
     requires within { leaf_count w.n (M.seen mesh.old).set.members ≤ w.budget }
     ensures told { G.told gauge.new ≡ G.told gauge.old }
@@ -72,7 +72,7 @@ pub fn settle_last<M: QueuedMesh, G: Gauge>(
 ) -> Option<Last>
     ghost w: { DeferredFrame }
     requires frame { IsDeferredFrame w }
-    requires told { G.told gauge.old ≡ told_of w }
+    requires told { G.told gauge.old ≡ frame_priorities w }
     requires settled { IsSettled w (M.seen mesh.old) }
     requires allowed { IsAllowed w (M.seen mesh.old).set.members limit.now }
     ensures told { G.told gauge.new ≡ G.told gauge.old }

@@ -6,7 +6,7 @@ ghost use Rattle.frame_steps.specs.Steps.{leaf_count};
 ghost use Rattle.frame_steps.specs.Deferred.{DeferredFrame, IsDeferredFrame};
 ghost use Rattle.deferred_loop.specs.Choice.{IsFirstRank, IsNext};
 ghost use Rattle.deferred_loop.specs.Seen.{SeenMesh};
-ghost use Rattle.deferred_loop.specs.Kept.{told_of, IsSettled, IsAskedOnly, SplitsUnasked, IsStepAt};
+ghost use Rattle.deferred_loop.specs.Kept.{frame_priorities, IsSettled, IsAskedOnly, SplitsUnasked, IsStepAt};
 
 use crate::asking::{settle_first, settle_last};
 use crate::gauge::Gauge;
@@ -19,7 +19,7 @@ use bintree_addr::Blocked;
 fn choose_over<M: QueuedMesh, G: Gauge>(mesh: &mut M, gauge: &mut G) -> Next
     ghost w: { DeferredFrame }
     requires frame { IsDeferredFrame w }
-    requires told { G.told gauge.old ≡ told_of w }
+    requires told { G.told gauge.old ≡ frame_priorities w }
     requires settled { IsSettled w (M.seen mesh.old) }
     requires over { w.budget < leaf_count w.n (M.seen mesh.old).set.members }
     ensures told { G.told gauge.new ≡ G.told gauge.old }
@@ -47,7 +47,7 @@ fn choose_with<M: QueuedMesh, G: Gauge>(
 ) -> Next
     ghost w: { DeferredFrame }
     requires frame { IsDeferredFrame w }
-    requires told { G.told gauge.old ≡ told_of w }
+    requires told { G.told gauge.old ≡ frame_priorities w }
     requires settled { IsSettled w (M.seen mesh.old) }
     requires budget { budget ≡ w.budget }
     requires within { leaf_count w.n (M.seen mesh.old).set.members ≤ w.budget }
@@ -81,7 +81,7 @@ fn choose_with<M: QueuedMesh, G: Gauge>(
 fn choose_without<M: QueuedMesh, G: Gauge>(mesh: &mut M, gauge: &mut G) -> Next
     ghost w: { DeferredFrame }
     requires frame { IsDeferredFrame w }
-    requires told { G.told gauge.old ≡ told_of w }
+    requires told { G.told gauge.old ≡ frame_priorities w }
     requires settled { IsSettled w (M.seen mesh.old) }
     requires within { leaf_count w.n (M.seen mesh.old).set.members ≤ w.budget }
     requires none { All (λ a. w.priority a ≡ 0) (leaves_of w.n (among (M.seen mesh.old).set.members)) }
@@ -105,7 +105,7 @@ fn choose_without<M: QueuedMesh, G: Gauge>(mesh: &mut M, gauge: &mut G) -> Next
 pub fn choose<M: QueuedMesh, G: Gauge>(mesh: &mut M, gauge: &mut G, budget: u32) -> Next
     ghost w: { DeferredFrame }
     requires frame { IsDeferredFrame w }
-    requires told { G.told gauge.old ≡ told_of w }
+    requires told { G.told gauge.old ≡ frame_priorities w }
     requires settled { IsSettled w (M.seen mesh.old) }
     requires budget { budget ≡ w.budget }
     ensures told { G.told gauge.new ≡ G.told gauge.old }

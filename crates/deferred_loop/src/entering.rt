@@ -7,7 +7,7 @@ ghost use Rattle.frame_steps.specs.Deferred.{DeferredFrame, IsDeferredFrame};
 ghost use Rattle.frame_steps.specs.Stamps.{ReadingsHold};
 ghost use Rattle.deferred_loop.specs.Seen.{SeenMesh, IsQuiet};
 ghost use Rattle.deferred_loop.specs.Log.{emptied};
-ghost use Rattle.deferred_loop.specs.Kept.{told_of, IsFrameOf, IsSound, IsSettled, IsCharged, IsCaughtUp, IsStamped};
+ghost use Rattle.deferred_loop.specs.Kept.{frame_priorities, IsFrameOf, HasTrueKeys, IsSettled, IsCharged, IsCaughtUp, IsStamped};
 
 use crate::gauge::Gauge;
 use crate::queued::QueuedMesh;
@@ -15,9 +15,9 @@ use crate::queued::QueuedMesh;
 /// Takes a stamp of each fresh entry, and puts it in its place. No priority is asked.
 pub fn enter_fresh<M: QueuedMesh, G: Gauge>(mesh: &mut M, gauge: &mut G, odometer: u64)
     ghost w: { DeferredFrame }
-    requires told { G.told gauge.old ≡ told_of w }
+    requires told { G.told gauge.old ≡ frame_priorities w }
     requires hold { ReadingsHold w.n w.priority odometer (G.readings gauge.old) }
-    requires sound { IsSound w (M.seen mesh.old) }
+    requires sound { HasTrueKeys w (M.seen mesh.old) }
     requires unknown { (a : ℕ) → IsTrue (among (M.seen mesh.old).fresh a) → (M.seen mesh.old).known a ≡ false }
     requires addresses { (a : ℕ) → IsTrue (among (M.seen mesh.old).fresh a) → IsAddress w.n a }
     requires far { odometer ≤ 2 ^ 62 }
@@ -41,7 +41,7 @@ pub fn enter_fresh<M: QueuedMesh, G: Gauge>(mesh: &mut M, gauge: &mut G, odomete
 pub fn begin_frame<M: QueuedMesh, G: Gauge>(mesh: &mut M, gauge: &mut G, odometer: u64)
     ghost w: { DeferredFrame }
     requires frame { IsDeferredFrame w }
-    requires told { G.told gauge.old ≡ told_of w }
+    requires told { G.told gauge.old ≡ frame_priorities w }
     requires of { IsFrameOf w (G.readings gauge.old) odometer (M.seen mesh.old) }
     requires hold { ReadingsHold w.n w.priority odometer (G.readings gauge.old) }
     requires quiet { IsQuiet (M.seen mesh.old) }

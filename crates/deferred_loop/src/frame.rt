@@ -11,7 +11,7 @@ ghost use Rattle.frame_steps.specs.Stamps.{StampsHold, ReadingsHold};
 ghost use Rattle.deferred_loop.specs.Choice.{IsSparing};
 ghost use Rattle.deferred_loop.specs.Seen.{SeenMesh, IsQuiet, HasRoom, IsCountedBy};
 ghost use Rattle.deferred_loop.specs.Log.{emptied, IsLogged, IsFrameLog};
-ghost use Rattle.deferred_loop.specs.Kept.{told_of, IsFrameOf, IsStamped};
+ghost use Rattle.deferred_loop.specs.Kept.{frame_priorities, IsFrameOf, IsStamped};
 ghost use Rattle.deferred_loop.specs.Promise.{IsAtMost, IsAtLeast, AreStampsGood};
 
 use crate::choice::choose;
@@ -44,7 +44,7 @@ fn advance_over<M: QueuedMesh, G: Gauge>(
 ) -> Steps
     ghost w: { DeferredFrame }
     requires frame { IsDeferredFrame w }
-    requires told { G.told gauge.old ≡ told_of w }
+    requires told { G.told gauge.old ≡ frame_priorities w }
     requires of { IsFrameOf w (G.readings gauge.old) odometer (M.seen mesh.old) }
     requires hold { ReadingsHold w.n w.priority odometer (G.readings gauge.old) }
     requires quiet { IsQuiet (M.seen mesh.old) }

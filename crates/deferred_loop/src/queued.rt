@@ -8,7 +8,7 @@ ghost use Rattle.mesh_defs.specs.GridSet.{IsForced, IsGain};
 ghost use Rattle.closure_laws.specs.Diamond.{CanMerge};
 ghost use Rattle.frame_steps.specs.Steps.{leaf_count};
 ghost use Rattle.frame_steps.specs.Deferred.{IsEntry};
-ghost use Rattle.deferred_loop.specs.Seen.{SeenMesh, IsHead, IsLastHead, IsTold, IsEntered, IsSplitOf, IsMergeOf, IsBegun, IsForgotten, IsQuiet};
+ghost use Rattle.deferred_loop.specs.Seen.{SeenMesh, IsHead, IsLastHead, IsRated, IsEntered, IsSplitOf, IsMergeOf, IsBegun, IsForgotten, IsQuiet};
 ghost use Rattle.deferred_loop.specs.Log.{Log, emptied, IsLogged};
 
 use crate::gauge::Reading;
@@ -111,7 +111,7 @@ pub trait QueuedMesh {
         requires settled { (seen self.old).fresh ≡ [] }
         requires entry { IsEntry (seen self.old).set.n (among (seen self.old).set.members) rank.tri }
         requires unknown { (seen self.old).known rank.tri ≡ false }
-        ensures told { IsTold (seen self.old) (seen self.new) rank }
+        ensures told { IsRated (seen self.old) (seen self.new) rank }
         ensures log { log self.new ≡ log self.old };
 
     fn next_fresh(&self) -> Option<Tri>

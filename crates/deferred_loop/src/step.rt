@@ -7,7 +7,7 @@ ghost use Rattle.frame_steps.specs.Stamps.{ReadingsHold};
 ghost use Rattle.deferred_loop.specs.Choice.{IsNextSplit, IsNextMerge};
 ghost use Rattle.deferred_loop.specs.Seen.{PoolSet, SeenMesh, HasRoom, IsCountedBy};
 ghost use Rattle.deferred_loop.specs.Log.{IsLogged};
-ghost use Rattle.deferred_loop.specs.Kept.{told_of, IsSettled, IsCharged, IsStamped};
+ghost use Rattle.deferred_loop.specs.Kept.{frame_priorities, IsSettled, IsCharged, IsStamped};
 
 use crate::entering::enter_fresh;
 use crate::gauge::Gauge;
@@ -23,7 +23,7 @@ pub fn split_at<M: QueuedMesh, G: Gauge>(
 )
     ghost w: { DeferredFrame }
     requires frame { IsDeferredFrame w }
-    requires told { G.told gauge.old ≡ told_of w }
+    requires told { G.told gauge.old ≡ frame_priorities w }
     requires settled { IsSettled w (M.seen mesh.old) }
     requires next { IsNextSplit w.n w.budget w.priority (M.seen mesh.old).set.members t.tri }
     requires hold { ReadingsHold w.n w.priority odometer (G.readings gauge.old) }
@@ -62,7 +62,7 @@ pub fn merge_at<M: QueuedMesh, G: Gauge>(
 )
     ghost w: { DeferredFrame }
     requires frame { IsDeferredFrame w }
-    requires told { G.told gauge.old ≡ told_of w }
+    requires told { G.told gauge.old ≡ frame_priorities w }
     requires settled { IsSettled w (M.seen mesh.old) }
     requires next { IsNextMerge w.n w.budget w.priority (M.seen mesh.old).set.members t.tri }
     requires hold { ReadingsHold w.n w.priority odometer (G.readings gauge.old) }

@@ -12,7 +12,7 @@ use Rattle.draw_buffer.specs.Times.{times, same}
 use Rattle.draw_buffer.specs.Places.{PlaceState}
 use Rattle.draw_buffer.specs.Vertices.{VertexState, AreTaken}
 use Rattle.draw_buffer.specs.Corners.{grid_indices, shown, corner_uses, uses_in}
-use Rattle.draw_buffer.specs.Exchange.{addresses_of, waiting_uses, IsReady, IsWhole}
+use Rattle.draw_buffer.specs.Exchange.{addresses_of, waiting_uses, IsReadyToWrite, IsWholeBuffer}
 use Rattle.draw_buffer.proofs.TimesLemmas.{same-one, same-other, times-none, times-push, times-set, times-swap_remove, length-swap_remove}
 use Rattle.draw_buffer.proofs.UseLemmas.{shown-stay, map-shown, uses_in-push, uses_in-set, uses_in-swap_remove, uses_in-at, waiting_uses-none, waiting_uses-push, waiting_uses-at}
 
@@ -54,7 +54,7 @@ map-swap_remove f xs k d e inside =
 -- ---- the changes
 
 module _ (n : ℕ) (places : PlaceState) (vertices : VertexState) (corners : List Indices) (waiting : List Waiting)
-    (r s w : ℕ) (whole : IsWhole n places vertices corners waiting r s w) where
+    (r s w : ℕ) (whole : IsWholeBuffer n places vertices corners waiting r s w) where
   pub whole-long : length corners ≡ length places.triangles
   whole-long = sym (length-map corners (shown vertices.points)) ∙ ap length whole.drawn ∙ length-map places.triangles (grid_indices n)
 
@@ -75,7 +75,7 @@ module _ (n : ℕ) (places : PlaceState) (vertices : VertexState) (corners : Lis
   -- a triangle comes, and waits
   pub whole-admit : (after : VertexState) (x : Waiting) (s' : ℕ) → s ≤ s' → x.tri < places.end
       → AreTaken vertices after (grid_indices n x.tri) x.corners
-      → times places.triangles x.tri + times (addresses_of waiting) x.tri ≡ 0 → IsWhole n places after corners (waiting ++ x ∷ []) r s' w
+      → times places.triangles x.tri + times (addresses_of waiting) x.tri ≡ 0 → IsWholeBuffer n places after corners (waiting ++ x ∷ []) r s' w
   whole-admit after x s' ls low taken away =
       let all : (v : ℕ) → uses_in corners v ≤ get_or vertices.uses v 0 = λ v. omega (arith, whole.used v) in
       record {
@@ -90,13 +90,13 @@ module _ (n : ℕ) (places : PlaceState) (vertices : VertexState) (corners : Lis
             let before = whole.ready k d h in
             let same_here = shown-stay vertices.points after.points vertices.uses (get_or waiting k d).corners
             (λ v. omega (arith, whole.used v, waiting_uses-at waiting k d v h)) taken.stay in
-            let still : IsReady n places.end after.points (get_or waiting k d) =
+            let still : IsReadyToWrite n places.end after.points (get_or waiting k d) =
             record { drawn = same_here ∙ before.drawn; low = before.low } in
-            subst (λ y. IsReady n places.end after.points y) (sym (get_or_append_left waiting (x ∷ []) d k h)) still)
+            subst (λ y. IsReadyToWrite n places.end after.points y) (sym (get_or_append_left waiting (x ∷ []) d k h)) still)
             (λ (h : length waiting ≤ k).
             let last : length waiting ≡ k = omega (arith, length_push waiting x) in
-            let new : IsReady n places.end after.points x = record { drawn = taken.here; low = low } in
-            subst (λ y. IsReady n places.end after.points y) (sym (get_or_push waiting x d k last)) new)
+            let new : IsReadyToWrite n places.end after.points x = record { drawn = taken.here; low = low } in
+            subst (λ y. IsReadyToWrite n places.end after.points y) (sym (get_or_push waiting x d k last)) new)
             (cases_lt k (length waiting));
         used = λ v. omega (arith, whole.used v, taken.uses v, waiting_uses-push waiting x v);
         total = (let h = whole.total in let more = taken.total in omega (arith, length_push waiting x));
@@ -132,15 +132,15 @@ module _ (n : ℕ) (places : PlaceState) (vertices : VertexState) (corners : Lis
         let one = same-one next.tri next.tri refl in
         omega (arith, whole.once next.tri, next-times next.tri)
 
-    pub next-ready : IsReady n places.end vertices.points next
+    pub next-ready : IsReadyToWrite n places.end vertices.points next
     next-ready =
-        subst (λ y. IsReady n places.end vertices.points y) (ap (λ ws. get_or ws (length rest) next) split
+        subst (λ y. IsReadyToWrite n places.end vertices.points y) (ap (λ ws. get_or ws (length rest) next) split
         ∙ get_or_push rest next next (length rest) refl)
         (whole.ready (length rest) next (let long = next-long in omega arith))
 
-    rest-ready : (k : ℕ) (d : Waiting) → k < length rest → IsReady n places.end vertices.points (get_or rest k d)
+    rest-ready : (k : ℕ) (d : Waiting) → k < length rest → IsReadyToWrite n places.end vertices.points (get_or rest k d)
     rest-ready k d inside =
-        subst (λ y. IsReady n places.end vertices.points y) (ap (λ ws. get_or ws k d) split
+        subst (λ y. IsReadyToWrite n places.end vertices.points y) (ap (λ ws. get_or ws k d) split
         ∙ get_or_append_left rest (next ∷ []) d k inside)
         (whole.ready k d (let long = next-long in omega arith))
 
@@ -149,7 +149,7 @@ module _ (n : ℕ) (places : PlaceState) (vertices : VertexState) (corners : Lis
         → after ≡ record places { triangles = set places.triangles at next.tri } → x ≡ get_or corners at x
         → less ≡ record vertices { uses = less.uses }
         → ((v : ℕ) → get_or less.uses v 0 + corner_uses x v ≡ get_or vertices.uses v 0) → sum less.uses + 3 ≡ sum vertices.uses
-        → IsWhole n after less (set corners at next.corners) rest r s' w'
+        → IsWholeBuffer n after less (set corners at next.corners) rest r s' w'
     whole-put after less at s' w' x ls lw inside is_after is_x is_less uses total =
         let points : less.points ≡ vertices.points = ap (λ (t : VertexState). t.points) is_less in
         let long = whole-long in
@@ -163,7 +163,7 @@ module _ (n : ℕ) (places : PlaceState) (vertices : VertexState) (corners : Lis
           drawn =
               ap (λ ps. map (shown ps) (set corners at next.corners)) points ∙ map-set f corners at next.corners
               ∙ ap₂ (λ xs y. set xs at y) whole.drawn next-ready.drawn ∙ sym (map-set (grid_indices n) places.triangles at next.tri);
-          ready = λ k d h. subst (λ ps. IsReady n places.end ps (get_or rest k d)) (sym points) (rest-ready k d h);
+          ready = λ k d h. subst (λ ps. IsReadyToWrite n places.end ps (get_or rest k d)) (sym points) (rest-ready k d h);
           used = λ v.
               let change = uses_in-set corners at next.corners x v (omega arith) in
               let here = ap (λ y. corner_uses y v) is_x in
@@ -180,7 +180,7 @@ module _ (n : ℕ) (places : PlaceState) (vertices : VertexState) (corners : Lis
     pub whole-push : (after : PlaceState) (xs : List Indices) (r' s' w' : ℕ) → r ≤ r' → s ≤ s' → w ≤ w'
         → length places.triangles < places.most
         → after ≡ record places { triangles = places.triangles ++ next.tri ∷ [] } → xs ≡ corners ++ next.corners ∷ []
-        → IsWhole n after vertices xs rest r' s' w'
+        → IsWholeBuffer n after vertices xs rest r' s' w'
     whole-push after xs r' s' w' lr ls lw room is_after is_xs = rw (is_after, is_xs) (record {
       n_low = whole.n_low;
       n_high = whole.n_high;
@@ -206,7 +206,7 @@ module _ (n : ℕ) (places : PlaceState) (vertices : VertexState) (corners : Lis
       → r ≤ r' → s ≤ s' → w ≤ w' → at < length places.triangles → after ≡ record places { triangles = swap_remove places.triangles at 0 }
       → xs ≡ swap_remove corners at x → x ≡ get_or corners at x → less ≡ record vertices { uses = less.uses }
       → ((v : ℕ) → get_or less.uses v 0 + corner_uses x v ≡ get_or vertices.uses v 0) → sum less.uses + 3 ≡ sum vertices.uses
-      → IsWhole n after less xs none r' s' w'
+      → IsWholeBuffer n after less xs none r' s' w'
   whole-close after less xs x at r' s' w' none is_none was_none lr ls lw inside is_after is_xs is_x is_less uses total =
       let points : less.points ≡ vertices.points = ap (λ (t : VertexState). t.points) is_less in
       let long = whole-long in

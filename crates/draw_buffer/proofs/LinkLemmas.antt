@@ -4,7 +4,7 @@ use Rattle.std.specs.List.{swap_remove}
 use Rattle.std.proofs.lemmas.Bool.{cases_eq}
 use Rattle.std.proofs.lemmas.List.{length-set, length_push, get_or-set_same, get_or-set_other, get_or_append_left, get_or_push, get_or-take, get_or_default}
 use Rattle.draw_buffer.specs.Times.{times}
-use Rattle.draw_buffer.specs.Places.{IsLinked}
+use Rattle.draw_buffer.specs.Places.{IsPlaceOfEach}
 use Rattle.draw_buffer.proofs.TimesLemmas.{times-at, times-place, length-swap_remove}
 
 -- what a link says of equal numbers
@@ -26,7 +26,7 @@ swap_remove-other ts k j within apart =
     get_or-take (length ts - 1) (set ts k (get_or ts (length ts - 1) 0)) j 0 within
     ∙ get_or-set_other ts k j (get_or ts (length ts - 1) 0) 0 apart
 
-module _ (ts ps : List ℕ) (linked : IsLinked ts ps) where
+module _ (ts ps : List ℕ) (linked : IsPlaceOfEach ts ps) where
   -- the place of a triangle that stands somewhere
   pub linked-place : (a : ℕ) → 0 < times ts a → (a < length ps) × (get_or ps a 0 < length ts) × (get_or ts (get_or ps a 0) 0 ≡ a)
   linked-place a some =
@@ -51,7 +51,7 @@ module _ (ts ps : List ℕ) (linked : IsLinked ts ps) where
   distinct : (i j : ℕ) → i < length ts → j < length ts → i ≢ j → get_or ts i 0 ≢ get_or ts j 0
   distinct i j hi hj u e = u (sym (linked i hi).1 ∙ ap (λ s. get_or ps s 0) e ∙ (linked j hj).1)
 
-  pub IsLinked-put : (at t : ℕ) → at < length ts → t < length ps → times ts t ≡ 0 → IsLinked (set ts at t) (set ps t at)
+  pub IsLinked-put : (at t : ℕ) → at < length ts → t < length ps → times ts t ≡ 0 → IsPlaceOfEach (set ts at t) (set ps t at)
   IsLinked-put at t inside within away k hk = ⊎_elim
       (λ (e : k ≡ at). moved (set ps t at) (get_or (set ts at t) k 0) t k
       (ap (λ j. get_or (set ts at t) j 0) e ∙ get_or-set_same ts at t 0 inside)
@@ -62,7 +62,7 @@ module _ (ts ps : List ℕ) (linked : IsLinked ts ps) where
       (omega (arith, length-set ps t at, (linked k h).0), get_or-set_other ps t (get_or ts k 0) at 0 (apart t k away h) ∙ (linked k h).1))
       (cases_eq k at)
 
-  pub IsLinked-push : (t : ℕ) → t < length ps → times ts t ≡ 0 → IsLinked (ts ++ t ∷ []) (set ps t (length ts))
+  pub IsLinked-push : (t : ℕ) → t < length ps → times ts t ≡ 0 → IsPlaceOfEach (ts ++ t ∷ []) (set ps t (length ts))
   IsLinked-push t within away k hk = ⊎_elim
       (λ (e : k ≡ length ts). moved (set ps t (length ts)) (get_or (ts ++ t ∷ []) k 0) t k (get_or_push ts t 0 k (sym e))
       (omega (arith, length-set ps t (length ts)), get_or-set_same ps t (length ts) 0 within ∙ sym e))
@@ -76,7 +76,7 @@ module _ (ts ps : List ℕ) (linked : IsLinked ts ps) where
       (cases_eq k (length ts))
 
   -- the last goes
-  pub IsLinked-last : (at : ℕ) → at < length ts → length ts ≤ at + 1 → IsLinked (swap_remove ts at 0) ps
+  pub IsLinked-last : (at : ℕ) → at < length ts → length ts ≤ at + 1 → IsPlaceOfEach (swap_remove ts at 0) ps
   IsLinked-last at inside last k hk =
       let short = length-swap_remove ts at 0 inside in
       moved ps (get_or (swap_remove ts at 0) k 0) (get_or ts k 0) k
@@ -84,7 +84,7 @@ module _ (ts ps : List ℕ) (linked : IsLinked ts ps) where
 
   -- another goes, and the last takes its place
   pub IsLinked-close : (at last : ℕ) → at + 1 < length ts → last ≡ get_or (swap_remove ts at 0) at 0
-      → IsLinked (swap_remove ts at 0) (set ps last at)
+      → IsPlaceOfEach (swap_remove ts at 0) (set ps last at)
   IsLinked-close at last inside is_last k hk =
       let short = length-swap_remove ts at 0 (omega arith) in
       let end : ℕ = length ts - 1 in

@@ -4,7 +4,7 @@ use Rattle.std.specs.List.{swap_remove}
 use Rattle.std.proofs.lemmas.List.{length-set, length_push, get_or-set_other, get_or_append_left, get_or-take}
 use Rattle.draw_buffer.specs.declared.indices.Indices.{Indices}
 use Rattle.draw_buffer.specs.Times.{times}
-use Rattle.draw_buffer.specs.Exchange.{ExchangeState, IsTold, IsGiven}
+use Rattle.draw_buffer.specs.Exchange.{ExchangeState, KeepsUntold, IsGiven}
 use Rattle.draw_buffer.proofs.TimesLemmas.{same-one, times-push, length-swap_remove}
 
 -- a place that is told last is not one that is not told
@@ -21,7 +21,7 @@ swap_remove-rest xs at e k d within u =
     get_or-take (length xs - 1) (set xs at (get_or xs (length xs - 1) e)) k d within
     ∙ get_or-set_other xs at k (get_or xs (length xs - 1) e) d u
 
-pub told-none : (e : ExchangeState) → IsTold e e
+pub told-none : (e : ExchangeState) → KeepsUntold e e
 told-none e = record {
   grows = λ k none. none;
   within = λ k inside none. inside;
@@ -29,7 +29,7 @@ told-none e = record {
   corners_stay = λ k d inside none. refl;
 }
 
-pub told-trans : (e f g : ExchangeState) → IsTold e f → IsTold f g → IsTold e g
+pub told-trans : (e f g : ExchangeState) → KeepsUntold e f → KeepsUntold f g → KeepsUntold e g
 told-trans e f g first second = record {
   grows = λ k none. first.grows k (second.grows k none);
   within = λ k inside none. first.within k (second.within k inside none) (second.grows k none);
@@ -41,7 +41,7 @@ told-trans e f g first second = record {
 
 -- a triangle is put behind the last
 pub told-push : (e f : ExchangeState) (t : ℕ) (x : Indices) → length e.corners ≡ length e.triangles
-    → f.written ≡ e.written ++ length e.triangles ∷ [] → f.triangles ≡ e.triangles ++ t ∷ [] → f.corners ≡ e.corners ++ x ∷ [] → IsTold e f
+    → f.written ≡ e.written ++ length e.triangles ∷ [] → f.triangles ≡ e.triangles ++ t ∷ [] → f.corners ≡ e.corners ++ x ∷ [] → KeepsUntold e f
 told-push e f t x long told triangles corners =
     let before : (k : ℕ) → k < length f.triangles → times f.written k ≡ 0 → k < length e.triangles = λ k inside none.
     let u = apart e.written (length e.triangles) k (rw (← told) none) in
@@ -59,7 +59,7 @@ told-push e f t x long told triangles corners =
 
 -- a triangle is put at a place
 pub told-put : (e f : ExchangeState) (at t : ℕ) (x : Indices) → f.written ≡ e.written ++ at ∷ [] → f.triangles ≡ set e.triangles at t
-    → f.corners ≡ set e.corners at x → IsTold e f
+    → f.corners ≡ set e.corners at x → KeepsUntold e f
 told-put e f at t x told triangles corners =
     let other : (k : ℕ) → times f.written k ≡ 0 → k ≢ at = λ k none. apart e.written at k (rw (← told) none) in
     record {
@@ -72,7 +72,7 @@ told-put e f at t x told triangles corners =
 -- the last takes the place of another, which is told where it is not the last itself
 pub told-close : (e f : ExchangeState) (at : ℕ) (x : Indices) → at < length e.triangles → length e.corners ≡ length e.triangles
     → ((k : ℕ) → times f.written k ≡ 0 → times e.written k ≡ 0) → ((k : ℕ) → k + 1 < length e.triangles → times f.written k ≡ 0 → k ≢ at)
-    → f.triangles ≡ swap_remove e.triangles at 0 → f.corners ≡ swap_remove e.corners at x → IsTold e f
+    → f.triangles ≡ swap_remove e.triangles at 0 → f.corners ≡ swap_remove e.corners at x → KeepsUntold e f
 told-close e f at x inside long grows other triangles corners =
     let short : length f.triangles + 1 ≡ length e.triangles =
     ap (λ ts. length ts + 1) triangles ∙ length-swap_remove e.triangles at 0 inside in
@@ -86,14 +86,14 @@ told-close e f at x inside long grows other triangles corners =
     }
 
 pub told-gap : (e f : ExchangeState) (at : ℕ) (x : Indices) → at < length e.triangles → length e.corners ≡ length e.triangles
-    → f.written ≡ e.written ++ at ∷ [] → f.triangles ≡ swap_remove e.triangles at 0 → f.corners ≡ swap_remove e.corners at x → IsTold e f
+    → f.written ≡ e.written ++ at ∷ [] → f.triangles ≡ swap_remove e.triangles at 0 → f.corners ≡ swap_remove e.corners at x → KeepsUntold e f
 told-gap e f at x inside long told triangles corners =
     told-close e f at x inside long (λ k none. fewer e.written at k (rw (← told) none))
     (λ k low none. apart e.written at k (rw (← told) none)) triangles corners
 
 pub told-last : (e f : ExchangeState) (at : ℕ) (x : Indices) → at < length e.triangles → length e.triangles ≤ at + 1
     → length e.corners ≡ length e.triangles
-    → f.written ≡ e.written → f.triangles ≡ swap_remove e.triangles at 0 → f.corners ≡ swap_remove e.corners at x → IsTold e f
+    → f.written ≡ e.written → f.triangles ≡ swap_remove e.triangles at 0 → f.corners ≡ swap_remove e.corners at x → KeepsUntold e f
 told-last e f at x inside last long told triangles corners =
     told-close e f at x inside long (λ k none. rw (← told) none) (λ k low none. omega arith) triangles corners
 

@@ -8,16 +8,16 @@ use Rattle.draw_buffer.specs.declared.indices.Indices.{Indices}
 use Rattle.draw_buffer.specs.Times.{same}
 
 -- the place of a grid point in file order
-abbrev pub index_of : ℕ → Point → ℕ
-index_of n p = place_of n p.x p.y
+abbrev pub point_index : ℕ → Point → ℕ
+point_index n p = place_of n p.x p.y
 
 -- the places of three corners in file order
-abbrev pub indices_at : ℕ → Corners → Indices
-indices_at n c = record { apex = index_of n c.apex; v0 = index_of n c.v0; v1 = index_of n c.v1 }
+abbrev pub corner_indices : ℕ → Corners → Indices
+corner_indices n c = record { apex = point_index n c.apex; v0 = point_index n c.v0; v1 = point_index n c.v1 }
 
 -- the places of a triangle's corners in file order
 unfoldable pub grid_indices : ℕ → ℕ → Indices
-grid_indices n a = indices_at n (corners_of n a)
+grid_indices n a = corner_indices n (corners_of n a)
 
 -- the grid points of three numbers
 unfoldable pub shown : List ℕ → Indices → Indices

@@ -32,12 +32,12 @@ unfoldable pub waiting_uses : List Waiting → ℕ → ℕ
 waiting_uses waiting v = sum_by (λ w. corner_uses w.corners v) waiting
 
 -- what waits has its corners, and an address within the table
-pub record IsReady (n end : ℕ) (points : List ℕ) (w : Waiting) : Type 0 where
+pub record IsReadyToWrite (n end : ℕ) (points : List ℕ) (w : Waiting) : Type 0 where
   pub drawn : shown points w.corners ≡ grid_indices n w.tri
   pub low : w.tri < end
 
 -- what is true of the fields
-pub record IsWhole (n : ℕ) (places : PlaceState) (vertices : VertexState) (corners : List Indices)
+pub record IsWholeBuffer (n : ℕ) (places : PlaceState) (vertices : VertexState) (corners : List Indices)
     (waiting : List Waiting) (corner_room waiting_room written_room : ℕ) : Type 0 where
   pub n_low : 1 ≤ n
   pub n_high : n ≤ GREATEST_LEVEL
@@ -45,7 +45,7 @@ pub record IsWhole (n : ℕ) (places : PlaceState) (vertices : VertexState) (cor
   pub point_end : vertices.end ≡ side_of n * side_of n
   pub point_most : vertices.most ≡ 6 * places.most
   pub drawn : map (shown vertices.points) corners ≡ map (grid_indices n) places.triangles
-  pub ready : (k : ℕ) (d : Waiting) → k < length waiting → IsReady n places.end vertices.points (slice_index_or waiting k d)
+  pub ready : (k : ℕ) (d : Waiting) → k < length waiting → IsReadyToWrite n places.end vertices.points (slice_index_or waiting k d)
   pub used : (v : ℕ) → slice_index vertices.uses v ≡ uses_in corners v + waiting_uses waiting v
   pub total : sum vertices.uses ≡ 3 * (length corners + length waiting)
   pub once : (a : ℕ) → times places.triangles a + times (addresses_of waiting) a ≤ 1
@@ -55,7 +55,7 @@ pub record IsWhole (n : ℕ) (places : PlaceState) (vertices : VertexState) (cor
   pub written_space : places.most ≤ written_room
 
 -- what is not told to be written is as before
-pub record IsTold (before after : ExchangeState) : Type 0 where
+pub record KeepsUntold (before after : ExchangeState) : Type 0 where
   pub grows : (k : ℕ) → times after.written k ≡ 0 → times before.written k ≡ 0
   pub within : (k : ℕ) → k < length after.triangles → times after.written k ≡ 0 → k < length before.triangles
   pub triangles_stay : (k : ℕ) → k < length after.triangles → times after.written k ≡ 0

@@ -9,13 +9,13 @@ pub record PlaceState : Type 0 where
   pub most : ℕ
 
 -- the place of each triangle is where it stands
-abbrev pub IsLinked : List ℕ → List ℕ → Type 0
-IsLinked triangles places =
+abbrev pub IsPlaceOfEach : List ℕ → List ℕ → Type 0
+IsPlaceOfEach triangles places =
     (k : ℕ) → k < length triangles → (slice_index triangles k < length places) × (slice_index places (slice_index triangles k) ≡ k)
 
 -- triangles and places agree, and there is room for the greatest number of triangles
-pub record IsSound (triangles places : List ℕ) (most capacity : ℕ) : Type 0 where
-  pub linked : IsLinked triangles places
+pub record AreSoundPlaces (triangles places : List ℕ) (most capacity : ℕ) : Type 0 where
+  pub linked : IsPlaceOfEach triangles places
   pub few : length triangles ≤ most
   pub room : most ≤ capacity
   pub small : most < 2 ^ 32

@@ -5,7 +5,7 @@ ghost use Rattle.mesh_defs.specs.Triangle.{level_of};
 ghost use Rattle.mesh_defs.specs.declared.level.TheConstants.{GREATEST_LEVEL};
 ghost use Rattle.draw_buffer.specs.Times.{times};
 ghost use Rattle.draw_buffer.specs.Corners.{grid_indices, shown, uses_in};
-ghost use Rattle.draw_buffer.specs.Exchange.{addresses_of, IsTold, IsGiven};
+ghost use Rattle.draw_buffer.specs.Exchange.{addresses_of, KeepsUntold, IsGiven};
 
 use crate::exchange::{Exchange, MOST_TRIANGLES};
 use crate::indices::Indices;
@@ -182,7 +182,7 @@ fn leave_all(exchange: &mut Exchange, gone: &[Tri])
     ensures waiting { length exchange.new.waiting ≡ length exchange.old.waiting - length gone.now }
     ensures count { length exchange.new.triangles + length exchange.new.waiting + length gone.now
         ≡ length exchange.old.triangles + length exchange.old.waiting }
-    ensures told { IsTold exchange.old exchange.new }
+    ensures told { KeepsUntold exchange.old exchange.new }
     ensures few { length exchange.new.written ≤ length gone.now }
 {
     for t in gone {
@@ -204,7 +204,7 @@ fn settle_all(exchange: &mut Exchange)
     ensures total { (a : ℕ) → times exchange.new.triangles a
         ≡ times exchange.old.triangles a + times (addresses_of exchange.old.waiting) a }
     ensures count { length exchange.new.triangles ≡ length exchange.old.triangles + length exchange.old.waiting }
-    ensures told { IsTold exchange.old exchange.new }
+    ensures told { KeepsUntold exchange.old exchange.new }
     ensures few { length exchange.new.written ≡ length exchange.old.written + length exchange.old.waiting }
 {
     while exchange.is_waiting() {

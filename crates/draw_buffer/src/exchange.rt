@@ -40,7 +40,7 @@ pub struct Exchange {
 
 impl Model for Exchange {
     ghost use Rattle.std.specs.Prelude.{vec_capacity};
-    ghost use Rattle.draw_buffer.specs.Exchange.{ExchangeState, IsWhole};
+    ghost use Rattle.draw_buffer.specs.Exchange.{ExchangeState, IsWholeBuffer};
 
     ghost Value = { ExchangeState };
 
@@ -56,13 +56,13 @@ impl Model for Exchange {
       given = e.vertices.given;
     } };
 
-    ghost invariant = { λ e. IsWhole e.n e.places e.vertices e.corners.items e.waiting.items
+    ghost invariant = { λ e. IsWholeBuffer e.n e.places e.vertices e.corners.items e.waiting.items
         (vec_capacity e.corners) (vec_capacity e.waiting) (vec_capacity e.written) };
 }
 
 impl Exchange {
     ghost use Rattle.draw_buffer.specs.Corners.{grid_indices, shown, uses_in};
-    ghost use Rattle.draw_buffer.specs.Exchange.{addresses_of, IsTold, IsGiven};
+    ghost use Rattle.draw_buffer.specs.Exchange.{addresses_of, KeepsUntold, IsGiven};
 
     /// No triangle at all.
     #[tactic(auto, using(bintree_laws::proofs::CornerLemmas::side_small))]
@@ -209,7 +209,7 @@ impl Exchange {
         ensures waiting { length self.new.waiting ≡ length self.old.waiting - 1 }
         ensures count { length self.new.triangles + length self.new.waiting + 1
             ≡ length self.old.triangles + length self.old.waiting }
-        ensures told { IsTold self.old self.new }
+        ensures told { KeepsUntold self.old self.new }
         ensures few { length self.new.written ≤ length self.old.written + 1 }
     {
         let at = self.places.place(gone);
@@ -245,7 +245,7 @@ impl Exchange {
             ≡ times self.old.triangles a + times (addresses_of self.old.waiting) a }
         ensures waiting { length self.new.waiting + 1 ≡ length self.old.waiting }
         ensures count { length self.new.triangles ≡ length self.old.triangles + 1 }
-        ensures told { IsTold self.old self.new }
+        ensures told { KeepsUntold self.old self.new }
         ensures few { length self.new.written ≡ length self.old.written + 1 }
     {
         let Some(next) = self.waiting.pop() else {

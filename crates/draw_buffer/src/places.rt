@@ -19,7 +19,7 @@ pub struct PlaceTable {
 
 impl Model for PlaceTable {
     ghost use Rattle.std.specs.Prelude.{length, vec_capacity};
-    ghost use Rattle.draw_buffer.specs.Places.{PlaceState, IsSound};
+    ghost use Rattle.draw_buffer.specs.Places.{PlaceState, AreSoundPlaces};
 
     ghost Value = { PlaceState };
 
@@ -30,7 +30,7 @@ impl Model for PlaceTable {
     } };
 
     ghost invariant = { λ p.
-        IsSound p.triangles.items p.places.items p.most (vec_capacity p.triangles) };
+        AreSoundPlaces p.triangles.items p.places.items p.most (vec_capacity p.triangles) };
 }
 
 impl PlaceTable {

@@ -5,7 +5,7 @@ use Rattle.std.proofs.Math.Seq.{drop-cons}
 use Rattle.std.proofs.lemmas.Option.{slice_get_read}
 use Rattle.roam_edge.specs.Shelf.{bytes_of}
 use Rattle.edge_doubles.specs.declared.stored_file.StoredFile.{StoredFile}
-use Rattle.edge_doubles.specs.StoredFile.{file_of, bytes_if, bytes_at, unread_at, IsPlace}
+use Rattle.edge_doubles.specs.StoredFile.{file_of, bytes_if, bytes_at, unread_at, IsFilePlace}
 
 -- the files that are there keep their places
 bytes_at-append : (files more : List StoredFile) (place : ℕ) → place < length files → bytes_at (files ++ more) place ≡ bytes_at files place
@@ -13,7 +13,7 @@ bytes_at-append [] more place within = absurd (omega arith)
 bytes_at-append (file ∷ files) more zero within = refl
 bytes_at-append (file ∷ files) more (suc place) within = bytes_at-append files more place (omega arith)
 
-unread_at-append : (files more : List StoredFile) (chosen : Option ℕ) (taken : ℕ) → IsPlace files chosen taken
+unread_at-append : (files more : List StoredFile) (chosen : Option ℕ) (taken : ℕ) → IsFilePlace files chosen taken
     → unread_at (files ++ more) chosen taken ≡ unread_at files chosen taken
 unread_at-append files more None taken is = refl
 unread_at-append files more (Some place) taken is = ap (λ (bytes : List ℕ). drop taken bytes) (bytes_at-append files more place (is place refl).0)
@@ -24,7 +24,7 @@ map-append (file ∷ files) more = ap (λ all. file_of file ∷ all) (map-append
 
 -- what is unread stays so where a file comes behind the others
 pub unread_at-grown : (now before : List StoredFile) (file : StoredFile) (chosen : Option ℕ) (taken : ℕ) → now ≡ before ++ file ∷ []
-    → IsPlace before chosen taken → unread_at now chosen taken ≡ unread_at before chosen taken
+    → IsFilePlace before chosen taken → unread_at now chosen taken ≡ unread_at before chosen taken
 unread_at-grown now before file chosen taken grown is =
     ap (λ (files : List StoredFile). unread_at files chosen taken) grown ∙ unread_at-append before (file ∷ []) chosen taken is
 

@@ -20,14 +20,14 @@ pub record KeptFiles : Type 0 where
   pub late : Bool
 
 -- one call is the other: of the same kind, with the same number
-abbrev pub is_same : ShelfCall → ShelfCall → Bool
-is_same (Open a) (Open b) = a == b
-is_same (Read a) (Read b) = a == b
-is_same _ _ = false
+abbrev pub is_same_call : ShelfCall → ShelfCall → Bool
+is_same_call (Open a) (Open b) = a == b
+is_same_call (Read a) (Read b) = a == b
+is_same_call _ _ = false
 
 -- the list names this call
-abbrev pub names : List ShelfCall → ShelfCall → Bool
-names calls call = list_any (λ named. is_same named call) calls
+abbrev pub names_call : List ShelfCall → ShelfCall → Bool
+names_call calls call = list_any (λ named. is_same_call named call) calls
 
 -- a file has this name
 abbrev pub has_name : List NamedFile → List ℕ → Bool
@@ -36,7 +36,7 @@ has_name (file ∷ files) name = if bytes_eq file.name name then true else has_n
 
 -- the next opening by this name fails: it is named, or no file has the name
 abbrev pub open_fails : KeptFiles → List ℕ → Bool
-open_fails kept name = names kept.fails (Open (next_count kept.opens)) || not (has_name kept.files name)
+open_fails kept name = names_call kept.fails (Open (next_count kept.opens)) || not (has_name kept.files name)
 
 -- the shelf after it: a failure is counted, and leaves nothing to read
 abbrev pub after_open : KeptFiles → List ℕ → KeptFiles
@@ -47,7 +47,7 @@ after_open kept name =
 
 -- the next read fails: it is named
 abbrev pub read_fails : KeptFiles → Bool
-read_fails kept = names kept.fails (Read (next_count kept.reads))
+read_fails kept = names_call kept.fails (Read (next_count kept.reads))
 
 -- the shelf after a read into so many places: a failure is counted and takes nothing
 abbrev pub after_read : KeptFiles → ℕ → KeptFiles

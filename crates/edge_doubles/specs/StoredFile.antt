@@ -23,6 +23,6 @@ unread_at files None taken = []
 unread_at files (Some place) taken = drop taken (bytes_at files place)
 
 -- a chosen file is there, and no more than its bytes were taken
-abbrev pub IsPlace : List StoredFile → Option ℕ → ℕ → Type 0
-IsPlace files chosen taken =
+abbrev pub IsFilePlace : List StoredFile → Option ℕ → ℕ → Type 0
+IsFilePlace files chosen taken =
     (place : ℕ) → chosen ≡ Some place → (place < length files) × (taken ≤ length (bytes_at files place))

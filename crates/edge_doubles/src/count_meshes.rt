@@ -2,7 +2,7 @@
 
 ghost use Rattle.std.specs.Prelude.{◌≡◌, ◌+◌, ◌-◌, ◌^◌, ◌<◌, ◌≤◌, None, true, false, IsOk, is_ok, is_err, length, min};
 ghost use Rattle.roam_edge.specs.Fault.{HasCause, next_count};
-ghost use Rattle.roam_edge.specs.MeshSink.{Begins, Writes, Finishes};
+ghost use Rattle.roam_edge.specs.MeshSink.{BeginsMesh, Writes, Finishes};
 ghost use Rattle.roam_edge.specs.declared.mesh_sink.TheConstants.{LONGEST_PREFIX, GREATEST_NUMBER};
 
 use roam_edge::{Failed, MeshSink};
@@ -74,7 +74,7 @@ impl MeshSink for CountMeshes {
         requires number_high { _number ≤ GREATEST_NUMBER }
         ensures ok { IsOk result }
         ensures after { self.new ≡ record self.old { under_way = true } }
-        ensures mesh { Begins None None _prefix.now _number result }
+        ensures mesh { BeginsMesh None None _prefix.now _number result }
         ensures under_way { self.new.under_way ≡ is_ok result }
         ensures faults { HasCause 0 0 result }
     {

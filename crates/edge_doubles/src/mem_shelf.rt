@@ -33,7 +33,7 @@ pub struct MemShelf {
 impl Model for MemShelf {
     ghost use Rattle.std.specs.Prelude.{map};
     ghost use Rattle.edge_doubles.specs.MemShelf.{KeptFiles};
-    ghost use Rattle.edge_doubles.specs.StoredFile.{file_of, unread_at, IsPlace};
+    ghost use Rattle.edge_doubles.specs.StoredFile.{file_of, unread_at, IsFilePlace};
 
     ghost Value = { KeptFiles };
 
@@ -48,7 +48,7 @@ impl Model for MemShelf {
       late = s.late;
     } };
 
-    ghost invariant = { λ s. IsPlace s.files.items s.chosen s.taken };
+    ghost invariant = { λ s. IsFilePlace s.files.items s.chosen s.taken };
 }
 
 impl MemShelf {

@@ -1,7 +1,7 @@
 //! A call of a shelf, by its kind and its number.
 
 ghost use Rattle.std.specs.Prelude.{◌≡◌};
-ghost use Rattle.edge_doubles.specs.MemShelf.{names};
+ghost use Rattle.edge_doubles.specs.MemShelf.{names_call};
 
 /// A call of a shelf that is to fail, counted from 1 among the calls of its kind.
 #[derive(Debug, Clone, Copy, PartialEq, Eq)]
@@ -14,7 +14,7 @@ pub enum ShelfCall {
 
 /// Whether the list names this call.
 pub(crate) fn is_named(calls: &[ShelfCall], call: ShelfCall) -> bool
-    ensures { result ≡ names calls.now call }
+    ensures { result ≡ names_call calls.now call }
 {
     calls.iter().any(|named| *named == call)
 }

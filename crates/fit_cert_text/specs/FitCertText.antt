@@ -1,6 +1,6 @@
 -- The text of a certificate of a fitted mesh: a line for the tolerance, for each reason before the mesh, for the mesh, and for
 -- each reason behind it, in order, each with an LF (10) at its end. This project's own format.
--- Words: number_text, line_text, ended, off_text, fit_cert_text, fit_cert_lines.
+-- Words: fit_number_text, fit_line_text, ended_fit_line, off_text, fit_cert_text, fit_cert_lines.
 use Rattle.std.specs.Prelude.{ℕ, List, [], ◌∷◌, ◌++◌, map, codes, decimal}
 use Rattle.std.specs.List.{flat_map}
 use Rattle.fit_certificate_laws.specs.declared.reason.Off.{Off}
@@ -9,30 +9,30 @@ use Rattle.fit_cert_text.specs.declared.line.FitLine.{FitLine}
 use Rattle.fit_cert_text.specs.declared.line.FitLine.TheVariants.{ToleranceLine, OffLine, MeshLine}
 
 -- a blank (32) and a number
-abbrev pub number_text : ℕ → List ℕ
-number_text k = 32 ∷ decimal k
+abbrev pub fit_number_text : ℕ → List ℕ
+fit_number_text k = 32 ∷ decimal k
 
 -- a line: its word and its numbers, with one blank before each of them
-abbrev pub line_text : FitLine → List ℕ
-line_text (ToleranceLine own) = codes "tolerance" ++ number_text own
-line_text (OffLine r) = codes "off" ++ number_text r.triangle ++ number_text r.x ++ number_text r.y
-line_text MeshLine = codes "mesh"
+abbrev pub fit_line_text : FitLine → List ℕ
+fit_line_text (ToleranceLine own) = codes "tolerance" ++ fit_number_text own
+fit_line_text (OffLine r) = codes "off" ++ fit_number_text r.triangle ++ fit_number_text r.x ++ fit_number_text r.y
+fit_line_text MeshLine = codes "mesh"
 
 -- a line with its LF
-abbrev pub ended : FitLine → List ℕ
-ended line = line_text line ++ 10 ∷ []
+abbrev pub ended_fit_line : FitLine → List ℕ
+ended_fit_line line = fit_line_text line ++ 10 ∷ []
 
 -- the line of a reason
 abbrev pub off_text : Off → List ℕ
-off_text r = ended (OffLine r)
+off_text r = ended_fit_line (OffLine r)
 
 -- The text of a certificate: the tolerance, each reason before the mesh, the mesh, and each reason behind it.
 abbrev pub fit_cert_text : FitCertificate → List ℕ
 fit_cert_text cert =
-    ended (ToleranceLine cert.tolerance) ++ flat_map off_text cert.needed ++ ended MeshLine ++ flat_map off_text cert.beyond
+    ended_fit_line (ToleranceLine cert.tolerance) ++ flat_map off_text cert.needed ++ ended_fit_line MeshLine ++ flat_map off_text cert.beyond
 
 -- its lines, without their LFs
 abbrev pub fit_cert_lines : FitCertificate → List (List ℕ)
 fit_cert_lines cert =
-    line_text (ToleranceLine cert.tolerance) ∷ (map (λ r. line_text (OffLine r)) cert.needed
-    ++ line_text MeshLine ∷ map (λ r. line_text (OffLine r)) cert.beyond)
+    fit_line_text (ToleranceLine cert.tolerance) ∷ (map (λ r. fit_line_text (OffLine r)) cert.needed
+    ++ fit_line_text MeshLine ∷ map (λ r. fit_line_text (OffLine r)) cert.beyond)

@@ -1,7 +1,7 @@
 -- The line of a certificate of a fitted mesh that some bytes are. This project's own format; fields are cut as those of a script.
 --
--- Words: word_of, number_below, address_in, tolerance_of, off_of, tolerance_fields, off_fields, mesh_fields, word_line, fields_line,
--- line_in.
+-- Words: fit_line_word, number_below, fit_address_in, tolerance_line, off_of, tolerance_fields, off_fields, mesh_fields, fit_word_line, fit_fields_line,
+-- read_fit_line.
 use Rattle.std.specs.Prelude.{ℕ, ◌+◌, ◌*◌, ◌^◌, ◌&&◌, nat_le, nat_lt, if◌then◌else◌, List, [], ◌∷◌, length, Option, Some, None, codes, bytes_eq}
 use Rattle.text_laws.specs.Numbers.{number_in}
 use Rattle.text_laws.specs.Fields.{fields_of, without_last_cr}
@@ -12,8 +12,8 @@ use Rattle.fit_cert_text.specs.declared.line.Word.{Word}
 use Rattle.fit_cert_text.specs.declared.line.Word.TheVariants.{ToleranceWord, OffWord, MeshWord}
 
 -- the word that the first field of a line is
-abbrev pub word_of : List ℕ → Option Word
-word_of field =
+abbrev pub fit_line_word : List ℕ → Option Word
+fit_line_word field =
     if bytes_eq field (codes "tolerance") then Some ToleranceWord
     else (if bytes_eq field (codes "off") then Some OffWord
     else (if bytes_eq field (codes "mesh") then Some MeshWord else None))
@@ -26,16 +26,16 @@ number_below end field = elim (number_in 19 field) as (λ _. Option ℕ) [
 ]
 
 -- the address that a field is: such a number, from 2 on
-abbrev pub address_in : ℕ → List ℕ → Option ℕ
-address_in end field = elim (number_in 19 field) as (λ _. Option ℕ) [
+abbrev pub fit_address_in : ℕ → List ℕ → Option ℕ
+fit_address_in end field = elim (number_in 19 field) as (λ _. Option ℕ) [
   | None ↦ None
   | Some a ↦ if nat_le 2 a && nat_lt a end then Some a else None
 ]
 
 -- the line of a tolerance
-abbrev pub tolerance_of : Option ℕ → Option FitLine
-tolerance_of None = None
-tolerance_of (Some tolerance) = Some (ToleranceLine tolerance)
+abbrev pub tolerance_line : Option ℕ → Option FitLine
+tolerance_line None = None
+tolerance_line (Some tolerance) = Some (ToleranceLine tolerance)
 
 -- the line of a reason
 abbrev pub off_of : Option ℕ → Option ℕ → Option ℕ → Option FitLine
@@ -44,13 +44,13 @@ off_of _ _ _ = None
 
 -- one number
 abbrev pub tolerance_fields : List (List ℕ) → Option FitLine
-tolerance_fields (field ∷ []) = tolerance_of (number_below (2 ^ 32) field)
+tolerance_fields (field ∷ []) = tolerance_line (number_below (2 ^ 32) field)
 tolerance_fields _ = None
 
 -- an address of a triangle that may be split, a column and a row of the grid
 abbrev pub off_fields : ℕ → List (List ℕ) → Option FitLine
 off_fields n (a ∷ (x ∷ (y ∷ []))) =
-    off_of (address_in (2 ^ (2 * n + 1)) a) (number_below (2 ^ n + 1) x) (number_below (2 ^ n + 1) y)
+    off_of (fit_address_in (2 ^ (2 * n + 1)) a) (number_below (2 ^ n + 1) x) (number_below (2 ^ n + 1) y)
 off_fields n _ = None
 
 -- nothing more
@@ -59,18 +59,18 @@ mesh_fields [] = Some MeshLine
 mesh_fields _ = None
 
 -- the line of a word and the fields behind it
-abbrev pub word_line : ℕ → Option Word → List (List ℕ) → Option FitLine
-word_line n None fields = None
-word_line n (Some ToleranceWord) fields = tolerance_fields fields
-word_line n (Some OffWord) fields = off_fields n fields
-word_line n (Some MeshWord) fields = mesh_fields fields
+abbrev pub fit_word_line : ℕ → Option Word → List (List ℕ) → Option FitLine
+fit_word_line n None fields = None
+fit_word_line n (Some ToleranceWord) fields = tolerance_fields fields
+fit_word_line n (Some OffWord) fields = off_fields n fields
+fit_word_line n (Some MeshWord) fields = mesh_fields fields
 
 -- the line of these fields; there is none without a field
-abbrev pub fields_line : ℕ → List (List ℕ) → Option FitLine
-fields_line n [] = None
-fields_line n (first ∷ fields) = word_line n (word_of first) fields
+abbrev pub fit_fields_line : ℕ → List (List ℕ) → Option FitLine
+fit_fields_line n [] = None
+fit_fields_line n (first ∷ fields) = fit_word_line n (fit_line_word first) fields
 
 -- The line that these bytes are, of a certificate of the grid with this n.
-unfoldable pub line_in : ℕ → List ℕ → Option FitLine
-line_in n bytes =
-    if nat_lt MOST_LINE_BYTES (length bytes) then None else fields_line n (fields_of (without_last_cr bytes))
+unfoldable pub read_fit_line : ℕ → List ℕ → Option FitLine
+read_fit_line n bytes =
+    if nat_lt MOST_LINE_BYTES (length bytes) then None else fit_fields_line n (fields_of (without_last_cr bytes))

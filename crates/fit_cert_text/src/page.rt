@@ -4,8 +4,8 @@ ghost use Rattle.std.specs.Prelude.{◌≡◌, ◌+◌, ◌≤◌, ◌++◌, ◌
 ghost use Rattle.arrayvec.specs.ArrayVec.{array_vec_len};
 ghost use Rattle.roam_edge.specs.Fault.{HasCause, IsInTime};
 ghost use Rattle.roam_edge.specs.Sink.{Appends};
-ghost use Rattle.fit_cert_text.specs.FitCertText.{number_text, line_text, ended};
-ghost use Rattle.page_laws.specs.Page.{IsPut, IsCutShort};
+ghost use Rattle.fit_cert_text.specs.FitCertText.{fit_number_text, fit_line_text, ended_fit_line};
+ghost use Rattle.page_laws.specs.Page.{IsPut, IsWrittenInPart};
 ghost use Rattle.fit_cert_text.specs.declared.page.TheConstants.{PAGE_ROOM, LONGEST_LINE};
 
 use crate::line::FitLine;
@@ -26,9 +26,9 @@ pub(crate) type Page = ArrayVec<u8, PAGE_ROOM>;
 pub(crate) fn put_line<S: Sink>(page: &mut Page, line: FitLine, out: &mut S) -> Result<(), Failed>
     ensures ok { OnOk result ((before : Option (List ℕ)) (text : List ℕ) →
         IsPut before (S.contents out.old) page.old.items text →
-        IsPut before (S.contents out.new) page.new.items (text ++ ended line)) }
+        IsPut before (S.contents out.new) page.new.items (text ++ ended_fit_line line)) }
     ensures err { OnErr result ((before : Option (List ℕ)) (text : List ℕ) →
-        IsPut before (S.contents out.old) page.old.items text → IsCutShort before (S.contents out.new) text) }
+        IsPut before (S.contents out.old) page.old.items text → IsWrittenInPart before (S.contents out.new) text) }
     ensures faults { HasCause (S.faults out.old) (S.faults out.new) result }
     ensures in_time { IsInTime (S.late out.old) (S.faults out.old) (S.late out.new) }
 {
@@ -43,7 +43,7 @@ fn make_room<S: Sink>(page: &mut Page, out: &mut S) -> Result<(), Failed>
     ensures ok { OnOk result ((before : Option (List ℕ)) (text : List ℕ) →
         IsPut before (S.contents out.old) page.old.items text → IsPut before (S.contents out.new) page.new.items text) }
     ensures err { OnErr result ((before : Option (List ℕ)) (text : List ℕ) →
-        IsPut before (S.contents out.old) page.old.items text → IsCutShort before (S.contents out.new) text) }
+        IsPut before (S.contents out.old) page.old.items text → IsWrittenInPart before (S.contents out.new) text) }
     ensures faults { HasCause (S.faults out.old) (S.faults out.new) result }
     ensures in_time { IsInTime (S.late out.old) (S.faults out.old) (S.late out.new) }
 {
@@ -71,7 +71,7 @@ pub(crate) fn put_rest<S: Sink>(page: &Page, out: &mut S) -> Result<(), Failed>
 /// Appends a line and its LF.
 fn push_line(page: &mut Page, line: FitLine)
     requires room { array_vec_len page.old + LONGEST_LINE ≤ PAGE_ROOM }
-    ensures { page.new.items ≡ page.old.items ++ ended line }
+    ensures { page.new.items ≡ page.old.items ++ ended_fit_line line }
 {
     push_fields(page, line);
     push_bytes(page, b"\n");
@@ -80,7 +80,7 @@ fn push_line(page: &mut Page, line: FitLine)
 /// Appends a line.
 fn push_fields(page: &mut Page, line: FitLine)
     requires room { array_vec_len page.old + LONGEST_LINE ≤ PAGE_ROOM }
-    ensures items { page.new.items ≡ page.old.items ++ line_text line }
+    ensures items { page.new.items ≡ page.old.items ++ fit_line_text line }
     ensures len { array_vec_len page.new ≤ array_vec_len page.old + 72 }
 {
     match line {
@@ -93,7 +93,7 @@ fn push_fields(page: &mut Page, line: FitLine)
 /// Appends the word of a tolerance and its number.
 fn push_tolerance(page: &mut Page, tolerance: u32)
     requires room { array_vec_len page.old + LONGEST_LINE ≤ PAGE_ROOM }
-    ensures items { page.new.items ≡ page.old.items ++ (codes "tolerance" ++ number_text tolerance) }
+    ensures items { page.new.items ≡ page.old.items ++ (codes "tolerance" ++ fit_number_text tolerance) }
     ensures len { array_vec_len page.new ≤ array_vec_len page.old + 30 }
 {
     push_bytes(page, b"tolerance");
@@ -104,7 +104,7 @@ fn push_tolerance(page: &mut Page, tolerance: u32)
 fn push_off(page: &mut Page, address: u32, x: u32, y: u32)
     requires room { array_vec_len page.old + LONGEST_LINE ≤ PAGE_ROOM }
     ensures items { page.new.items
-        ≡ page.old.items ++ (codes "off" ++ number_text address ++ number_text x ++ number_text y) }
+        ≡ page.old.items ++ (codes "off" ++ fit_number_text address ++ fit_number_text x ++ fit_number_text y) }
     ensures len { array_vec_len page.new ≤ array_vec_len page.old + 66 }
 {
     push_bytes(page, b"off");
@@ -116,7 +116,7 @@ fn push_off(page: &mut Page, address: u32, x: u32, y: u32)
 /// Appends a blank and a number.
 fn push_field(page: &mut Page, number: u32)
     requires room { array_vec_len page.old + 21 ≤ PAGE_ROOM }
-    ensures items { page.new.items ≡ page.old.items ++ number_text number }
+    ensures items { page.new.items ≡ page.old.items ++ fit_number_text number }
     ensures len { array_vec_len page.new ≤ array_vec_len page.old + 21 }
 {
     push_bytes(page, b" ");

@@ -2,7 +2,7 @@
 
 ghost use Rattle.std.specs.Prelude.{◌≡◌, ◌≤◌, ◌++◌, ◌∷◌, [], ◌↔◌, ℕ, None, Some, Ok, Err, OnOk, OnErr, IfErr};
 ghost use Rattle.mesh_defs.specs.declared.level.TheConstants.{GREATEST_LEVEL};
-ghost use Rattle.fit_cert_text.specs.FitCertReader.{nothing_read, read_so_far, AreFew, taken, fit_line_in, finished};
+ghost use Rattle.fit_cert_text.specs.FitCertReader.{nothing_fit_read, fit_read_so_far, AreFewFitReasons, fit_line_taken, fit_line_in, fit_finished};
 ghost use Rattle.fit_cert_text.specs.declared.fault.CertFault.{CertFault};
 
 use crate::fault::CertFault;
@@ -24,9 +24,9 @@ pub struct FitCertReader {
 }
 
 impl Model for FitCertReader {
-    ghost use Rattle.fit_cert_text.specs.FitCertReader.{Reading, AreFew};
+    ghost use Rattle.fit_cert_text.specs.FitCertReader.{FitCertReading, AreFewFitReasons};
 
-    ghost Value = { Reading };
+    ghost Value = { FitCertReading };
 
     ghost view = { λ r. record {
       n = r.n;
@@ -34,14 +34,14 @@ impl Model for FitCertReader {
       refusal = r.refusal;
     } };
 
-    ghost invariant = { λ r. AreFew r.n r.needed.items r.beyond.items };
+    ghost invariant = { λ r. AreFewFitReasons r.n r.needed.items r.beyond.items };
 }
 
 impl FitCertReader {
     /// A reader that has read nothing, for the grid of side 2^n. Takes no memory.
     pub fn new(alloc: Global, n: u32) -> FitCertReader
         requires in_grid { (1 ≤ n) × (n ≤ GREATEST_LEVEL) }
-        ensures { result ≡ record { n = n; read = nothing_read; refusal = None } }
+        ensures { result ≡ record { n = n; read = nothing_fit_read; refusal = None } }
     {
         FitCertReader {
             n,
@@ -92,7 +92,7 @@ impl FitCertReader {
 
     /// The certificate that was read, or the refusal. Takes no memory.
     pub fn finish(self) -> Result<FitCert, CertFault>
-        ensures { result ≡ finished self.refusal self.read }
+        ensures { result ≡ fit_finished self.refusal self.read }
     {
         let FitCertReader {
             n: _,
@@ -120,13 +120,13 @@ fn take(
     beyond: &mut Vec<Off>,
     line: FitLine,
 ) -> Result<(), CertFault>
-    ensures ok { OnOk result (taken (read_so_far tolerance.old mesh.old needed.old.items beyond.old.items) line
-        ≡ Some (read_so_far tolerance.new mesh.new needed.new.items beyond.new.items)) }
-    ensures err { OnErr result (read_so_far tolerance.new mesh.new needed.new.items beyond.new.items
-        ≡ read_so_far tolerance.old mesh.old needed.old.items beyond.old.items) }
-    ensures few { (n : ℕ) → AreFew n needed.old.items beyond.old.items → AreFew n needed.new.items beyond.new.items }
+    ensures ok { OnOk result (fit_line_taken (fit_read_so_far tolerance.old mesh.old needed.old.items beyond.old.items) line
+        ≡ Some (fit_read_so_far tolerance.new mesh.new needed.new.items beyond.new.items)) }
+    ensures err { OnErr result (fit_read_so_far tolerance.new mesh.new needed.new.items beyond.new.items
+        ≡ fit_read_so_far tolerance.old mesh.old needed.old.items beyond.old.items) }
+    ensures few { (n : ℕ) → AreFewFitReasons n needed.old.items beyond.old.items → AreFewFitReasons n needed.new.items beyond.new.items }
     ensures bad_line { (result ≡ Err CertFault.BadLine)
-        ↔ (taken (read_so_far tolerance.old mesh.old needed.old.items beyond.old.items) line ≡ None) }
+        ↔ (fit_line_taken (fit_read_so_far tolerance.old mesh.old needed.old.items beyond.old.items) line ≡ None) }
 {
     match line {
         FitLine::ToleranceLine(own) if tolerance.is_none() => *tolerance = Some(own),

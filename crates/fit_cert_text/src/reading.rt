@@ -3,7 +3,7 @@
 ghost use Rattle.std.specs.Prelude.{◌≡◌, ◌+◌, ◌*◌, ◌^◌, ◌≤◌};
 ghost use Rattle.mesh_defs.specs.declared.level.TheConstants.{GREATEST_LEVEL};
 ghost use Rattle.text_laws.specs.Fields.{fields_of};
-ghost use Rattle.fit_cert_text.specs.FitLine.{word_of, number_below, address_in, off_of, tolerance_of, tolerance_fields, off_fields, mesh_fields, fields_line, line_in};
+ghost use Rattle.fit_cert_text.specs.FitLine.{fit_line_word, number_below, fit_address_in, off_of, tolerance_line, tolerance_fields, off_fields, mesh_fields, fit_fields_line, read_fit_line};
 
 use crate::line::{FitLine, Word};
 use bintree_addr::Tri;
@@ -16,7 +16,7 @@ use roam_script::{MOST_LINE_BYTES, first_field, without_cr};
 /// Cost (not proved): a few steps a byte. Takes no memory.
 pub(crate) fn read_line(bytes: &[u8], n: u32) -> Option<FitLine>
     requires in_grid { (1 ≤ n) × (n ≤ GREATEST_LEVEL) }
-    ensures { result ≡ line_in n bytes.now }
+    ensures { result ≡ read_fit_line n bytes.now }
 {
     if bytes.len() > MOST_LINE_BYTES {
         return None;
@@ -27,7 +27,7 @@ pub(crate) fn read_line(bytes: &[u8], n: u32) -> Option<FitLine>
 /// The line of the fields of these bytes.
 fn line_of_fields(bytes: &[u8], n: u32) -> Option<FitLine>
     requires in_grid { (1 ≤ n) × (n ≤ GREATEST_LEVEL) }
-    ensures { result ≡ fields_line n (fields_of bytes.now) }
+    ensures { result ≡ fit_fields_line n (fields_of bytes.now) }
 {
     let Some((first, rest)) = first_field(bytes) else {
         return None;
@@ -42,7 +42,7 @@ fn line_of_fields(bytes: &[u8], n: u32) -> Option<FitLine>
 
 /// The word that a field is.
 fn named(field: &[u8]) -> Option<Word>
-    ensures { result ≡ word_of field.now }
+    ensures { result ≡ fit_line_word field.now }
 {
     match field {
         b"tolerance" => Some(Word::ToleranceWord),
@@ -67,7 +67,7 @@ fn tolerance_line(bytes: &[u8]) -> Option<FitLine>
 
 /// The line of a tolerance that is this number, if it is one.
 fn tolerance_of(number: Option<u32>) -> Option<FitLine>
-    ensures { result ≡ tolerance_of number }
+    ensures { result ≡ tolerance_line number }
 {
     match number {
         None => None,
@@ -123,7 +123,7 @@ fn off_of(triangle: Option<Tri>, x: Option<u32>, y: Option<u32>) -> Option<FitLi
 /// The triangle whose address the field is, if it is less than `end`.
 fn read_address(field: &[u8], end: u32) -> Option<Tri>
     requires in_grid { end ≤ 2 ^ 24 }
-    ensures { result ≡ address_in end field.now }
+    ensures { result ≡ fit_address_in end field.now }
 {
     match read_dec(field) {
         Some(number) if number < u64::from(end) => Tri::new(number as u32),

@@ -5,7 +5,7 @@ ghost use Rattle.std.specs.List.{flat_map};
 ghost use Rattle.roam_edge.specs.Fault.{HasCause, IsInTime};
 ghost use Rattle.roam_edge.specs.Sink.{Appends};
 ghost use Rattle.fit_cert_text.specs.FitCertText.{off_text, fit_cert_text};
-ghost use Rattle.page_laws.specs.Page.{IsPut, IsCutShort};
+ghost use Rattle.page_laws.specs.Page.{IsPut, IsWrittenInPart};
 
 use crate::line::FitLine;
 use crate::page::{Page, put_line, put_rest};
@@ -36,7 +36,7 @@ fn put_offs<S: Sink>(page: &mut Page, reasons: &[Off], out: &mut S) -> Result<()
         IsPut before (S.contents out.new) page.new.items (text ++ flat_map off_text reasons.now)) }
     ensures err { OnErr result ((before : Option (List ℕ)) (text : List ℕ) →
         IsPut before (S.contents out.old) page.old.items text →
-        IsCutShort before (S.contents out.new) (text ++ flat_map off_text reasons.now)) }
+        IsWrittenInPart before (S.contents out.new) (text ++ flat_map off_text reasons.now)) }
     ensures faults { HasCause (S.faults out.old) (S.faults out.new) result }
     ensures in_time { IsInTime (S.late out.old) (S.faults out.old) (S.late out.new) }
 {

@@ -17,7 +17,7 @@ use Rattle.fit_certificate_laws.specs.declared.reason.Reject.{Reject}
 use Rattle.fit_certificate_laws.specs.declared.reason.Reject.TheVariants.{OtherTolerance, BadReason, OverTolerance, OverBudget, TooFewReasons}
 use Rattle.fit_certificate_laws.specs.declared.reason.Verdict.{Verdict}
 use Rattle.fit_certificate_laws.specs.declared.reason.Verdict.TheVariants.{Certified, Rejected}
-use Rattle.fit_certificate_laws.specs.Certificate.{FitCertificate, IsOff, IsReason, LeadsTo, IsFitted, IsFor, IsWithin, IsEnough, IsSound, IsFirstBad, IsRejected, IsVerdict, IsVerdictOf}
+use Rattle.fit_certificate_laws.specs.Certificate.{FitCertificate, IsOff, IsFitReason, LeadsTo, LeadsToFit, IsFor, IsWithinTarget, IsEnough, IsFitSound, IsFirstBadFit, IsFitRejected, IsFitVerdict, IsVerdictOf}
 use Rattle.fit_certificate_laws.proofs.LeadLemmas.{reason-same, closure-same, leads-unique, leads-no_bad}
 use Rattle.fit_certificate_laws.proofs.SoundLemmas.{fitted-closed}
 use Rattle.fit_certificate_laws.proofs.VerdictLemmas.{sound-certified}
@@ -42,9 +42,9 @@ off_or_not n heights tolerance r = ⊎_elim
 
 -- whether it is one is decided
 reason_or_not : (n : ℕ) (heights : List ℕ) (tolerance : ℕ) (has : ℕ → Bool) (r : Off) →
-    IsReason n heights tolerance has r ⊎ (IsReason n heights tolerance has r → ⊥)
+    IsFitReason n heights tolerance has r ⊎ (IsFitReason n heights tolerance has r → ⊥)
 reason_or_not n heights tolerance has r = ⊎_elim
-    (λ small. inr (λ (is : IsReason n heights tolerance has r). let low = is.splittable.low in absurd (omega arith)))
+    (λ small. inr (λ (is : IsFitReason n heights tolerance has r). let low = is.splittable.low in absurd (omega arith)))
     (λ low. ⊎_elim
     (λ coarse. ⊎_elim
     (λ leaf. ⊎_elim
@@ -53,12 +53,12 @@ reason_or_not n heights tolerance has r = ⊎_elim
       leaf = Contains-in r.triangle (leaves_of n has) (IsIn-among r.triangle (leaves_of n has) leaf);
       off = off;
     })
-    (λ (near : IsOff n heights tolerance r → ⊥). inr (λ (is : IsReason n heights tolerance has r). near is.off))
+    (λ (near : IsOff n heights tolerance r → ⊥). inr (λ (is : IsFitReason n heights tolerance has r). near is.off))
     (off_or_not n heights tolerance r))
-    (λ other. inr (λ (is : IsReason n heights tolerance has r).
+    (λ other. inr (λ (is : IsFitReason n heights tolerance has r).
     both_ways (among (leaves_of n has) r.triangle) other (among-in r.triangle (leaves_of n has) (IsIn-contains r.triangle (leaves_of n has) is.leaf))))
     (cases_Bool (among (leaves_of n has) r.triangle)))
-    (λ fine. inr (λ (is : IsReason n heights tolerance has r). let coarse = splittable-lt n r.triangle is.splittable in absurd (omega arith)))
+    (λ fine. inr (λ (is : IsFitReason n heights tolerance has r). let coarse = splittable-lt n r.triangle is.splittable in absurd (omega arith)))
     (cases_lt r.triangle (2 ^ (2 * n + 1))))
     (cases_lt r.triangle 2)
 
@@ -66,8 +66,8 @@ reason_or_not n heights tolerance has r = ⊎_elim
 
 -- a bad reason behind a good one
 bad-behind : (n : ℕ) (heights : List ℕ) (tolerance : ℕ) (has next : ℕ → Bool) (r : Off) (reasons : List Off) (index : ℕ) →
-    IsReason n heights tolerance has r → IsLeastClosed n (with_triangle has r.triangle) next → IsFirstBad n heights tolerance next reasons index →
-    IsFirstBad n heights tolerance has (r ∷ reasons) (index + 1)
+    IsFitReason n heights tolerance has r → IsLeastClosed n (with_triangle has r.triangle) next → IsFirstBadFit n heights tolerance next reasons index →
+    IsFirstBadFit n heights tolerance has (r ∷ reasons) (index + 1)
 bad-behind n heights tolerance has next r reasons index is least b = record {
   good = r ∷ b.good;
   bad = b.bad;
@@ -81,17 +81,17 @@ bad-behind n heights tolerance has next r reasons index is least b = record {
 
 -- they lead to some set, or one is the first that is none
 pub leads_or_bad : (n : ℕ) (heights : List ℕ) (tolerance : ℕ) (has : ℕ → Bool) (reasons : List Off) → IsClosed n has →
-    ((after : ℕ → Bool) × LeadsTo n heights tolerance has reasons after) ⊎ ((index : ℕ) × IsFirstBad n heights tolerance has reasons index)
+    ((after : ℕ → Bool) × LeadsTo n heights tolerance has reasons after) ⊎ ((index : ℕ) × IsFirstBadFit n heights tolerance has reasons index)
 leads_or_bad n heights tolerance has [] closed = inl (has, λ a. refl)
 leads_or_bad n heights tolerance has (r ∷ reasons) closed = ⊎_elim
-    (λ (is : IsReason n heights tolerance has r).
+    (λ (is : IsFitReason n heights tolerance has r).
     let step = closure_of n has r.triangle closed is.splittable in
     ⊎_elim
     (λ (rest : (after : ℕ → Bool) × LeadsTo n heights tolerance step.0 reasons after). inl (rest.0, (step.0, is, step.1, rest.1)))
-    (λ (b : (index : ℕ) × IsFirstBad n heights tolerance step.0 reasons index).
+    (λ (b : (index : ℕ) × IsFirstBadFit n heights tolerance step.0 reasons index).
     inr (b.0 + 1, bad-behind n heights tolerance has step.0 r reasons b.0 is step.1 b.1))
     (leads_or_bad n heights tolerance step.0 reasons step.1.closed))
-    (λ (fails : IsReason n heights tolerance has r → ⊥).
+    (λ (fails : IsFitReason n heights tolerance has r → ⊥).
     inr (1, record { good = []; bad = r; rest = reasons; after = has; parts = refl; place = refl; leads = λ a. refl; fails = fails }))
     (reason_or_not n heights tolerance has r)
 
@@ -106,13 +106,13 @@ same_rest x y xs ys e = cc
 bad-place : (n : ℕ) (heights : List ℕ) (tolerance : ℕ) (has other : ℕ → Bool) (good fine : List Off) (bad worse : Off) (rest more : List Off)
     (mid late : ℕ → Bool) → ((a : ℕ) → has a ≡ other a) → good ++ bad ∷ rest ≡ fine ++ worse ∷ more →
     LeadsTo n heights tolerance has good mid → LeadsTo n heights tolerance other fine late →
-    (IsReason n heights tolerance mid bad → ⊥) → (IsReason n heights tolerance late worse → ⊥) → length good ≡ length fine
+    (IsFitReason n heights tolerance mid bad → ⊥) → (IsFitReason n heights tolerance late worse → ⊥) → length good ≡ length fine
 bad-place n heights tolerance has other [] [] bad worse rest more mid late same parts p q fails falls = refl
 bad-place n heights tolerance has other [] (s ∷ fine) bad worse rest more mid late same parts p q fails falls =
-    absurd (fails (subst (λ (z : Off). IsReason n heights tolerance mid z) (sym (same_first bad s rest (fine ++ worse ∷ more) parts))
+    absurd (fails (subst (λ (z : Off). IsFitReason n heights tolerance mid z) (sym (same_first bad s rest (fine ++ worse ∷ more) parts))
     (reason-same n heights tolerance other mid s (λ a. sym (same a) ∙ p a) q.1)))
 bad-place n heights tolerance has other (r ∷ good) [] bad worse rest more mid late same parts p q fails falls =
-    absurd (falls (subst (λ (z : Off). IsReason n heights tolerance late z) (same_first r worse (good ++ bad ∷ rest) more parts)
+    absurd (falls (subst (λ (z : Off). IsFitReason n heights tolerance late z) (same_first r worse (good ++ bad ∷ rest) more parts)
     (reason-same n heights tolerance has late r (λ a. same a ∙ q a) p.1)))
 bad-place n heights tolerance has other (r ∷ good) (s ∷ fine) bad worse rest more mid late same parts p q fails falls =
     let first : r ≡ s = same_first r s (good ++ bad ∷ rest) (fine ++ worse ∷ more) parts in
@@ -124,7 +124,7 @@ bad-place n heights tolerance has other (r ∷ good) (s ∷ fine) bad worse rest
     (same_rest r s (good ++ bad ∷ rest) (fine ++ worse ∷ more) parts) p.3 q.3 fails falls)
 
 bad-one : (n : ℕ) (heights : List ℕ) (tolerance : ℕ) (has other : ℕ → Bool) (reasons : List Off) (i j : ℕ) →
-    ((a : ℕ) → has a ≡ other a) → IsFirstBad n heights tolerance has reasons i → IsFirstBad n heights tolerance other reasons j → i ≡ j
+    ((a : ℕ) → has a ≡ other a) → IsFirstBadFit n heights tolerance has reasons i → IsFirstBadFit n heights tolerance other reasons j → i ≡ j
 bad-one n heights tolerance has other reasons i j same b d =
     let places = bad-place n heights tolerance has other b.good d.good b.bad d.bad b.rest d.rest b.after d.after same
     (sym b.parts ∙ d.parts) b.leads d.leads b.fails d.fails in
@@ -139,7 +139,7 @@ for_or_not (Error tolerance) own = ⊎_elim
     (cases_lt own tolerance)
 for_or_not (Budget triangles) own = inl tt
 
-within_or_not : (goal : Target) (count : ℕ) → IsWithin goal count ⊎ (IsWithin goal count → ⊥)
+within_or_not : (goal : Target) (count : ℕ) → IsWithinTarget goal count ⊎ (IsWithinTarget goal count → ⊥)
 within_or_not (Error tolerance) count = inl tt
 within_or_not (Budget triangles) count = ⊎_elim (λ over. inr (λ few. absurd (omega arith))) (λ few. inl few) (cases_lt triangles count)
 
@@ -162,11 +162,11 @@ module _ (n : ℕ) (heights : List ℕ) (goal : Target) (cert : FitCertificate) 
   abbrev HasVerdict : Type 0
   HasVerdict = (verdict : Verdict) × (mesh : List ℕ) × IsVerdictOf n heights goal cert verdict mesh
 
-  abbrev rejected : (why : Reject) → IsRejected n heights goal cert why → HasVerdict
+  abbrev rejected : (why : Reject) → IsFitRejected n heights goal cert why → HasVerdict
   rejected why is = (Rejected why, [], is)
 
   -- of a mesh within its tolerance and the budget
-  within-verdict : (has : ℕ → Bool) → IsFor goal cert.tolerance → IsFitted n heights cert has → IsWithin goal (length (leaves_of n has)) → HasVerdict
+  within-verdict : (has : ℕ → Bool) → IsFor goal cert.tolerance → LeadsToFit n heights cert has → IsWithinTarget goal (length (leaves_of n has)) → HasVerdict
   within-verdict has own fitted few = ⊎_elim
       (λ (over : (after : ℕ → Bool) × LeadsTo n heights (cert.tolerance - 1) has cert.beyond after). ⊎_elim
       (λ (enough : IsEnough goal cert.tolerance (length (leaves_of n over.0))).
@@ -178,7 +178,7 @@ module _ (n : ℕ) (heights : List ℕ) (goal : Target) (cert : FitCertificate) 
       (λ (short : IsEnough goal cert.tolerance (length (leaves_of n over.0)) → ⊥).
       rejected TooFewReasons (own, has, fitted, few, over.0, over.1, short))
       (enough_or_not goal cert.tolerance (length (leaves_of n over.0))))
-      (λ (b : (index : ℕ) × IsFirstBad n heights (cert.tolerance - 1) has cert.beyond index).
+      (λ (b : (index : ℕ) × IsFirstBadFit n heights (cert.tolerance - 1) has cert.beyond index).
       rejected (BadReason (length cert.needed + b.0)) (own, inr (has, fitted, few, b.0, b.1, refl)))
       (leads_or_bad n heights (cert.tolerance - 1) has cert.beyond (fitted-closed n heights cert has fitted))
 
@@ -187,10 +187,10 @@ module _ (n : ℕ) (heights : List ℕ) (goal : Target) (cert : FitCertificate) 
   mesh-verdict has own needed = ⊎_elim
       (λ over. rejected OverTolerance (own, has, needed, over))
       (λ within.
-      let fitted : IsFitted n heights cert has = record { needed = needed; within = within } in
+      let fitted : LeadsToFit n heights cert has = record { needed = needed; within = within } in
       ⊎_elim
-      (λ (few : IsWithin goal (length (leaves_of n has))). within-verdict has own fitted few)
-      (λ (many : IsWithin goal (length (leaves_of n has)) → ⊥). rejected OverBudget (own, has, fitted, many))
+      (λ (few : IsWithinTarget goal (length (leaves_of n has))). within-verdict has own fitted few)
+      (λ (many : IsWithinTarget goal (length (leaves_of n has)) → ⊥). rejected OverBudget (own, has, fitted, many))
       (within_or_not goal (length (leaves_of n has))))
       (cases_lt cert.tolerance (worst_of error (leaves_of n has)))
 
@@ -199,7 +199,7 @@ module _ (n : ℕ) (heights : List ℕ) (goal : Target) (cert : FitCertificate) 
   verdict_found = ⊎_elim
       (λ (own : IsFor goal cert.tolerance). ⊎_elim
       (λ (has : (after : ℕ → Bool) × LeadsTo n heights cert.tolerance (λ a. false) cert.needed after). mesh-verdict has.0 own has.1)
-      (λ (b : (index : ℕ) × IsFirstBad n heights cert.tolerance (λ a. false) cert.needed index). rejected (BadReason b.0) (own, inl b.1))
+      (λ (b : (index : ℕ) × IsFirstBadFit n heights cert.tolerance (λ a. false) cert.needed index). rejected (BadReason b.0) (own, inl b.1))
       (leads_or_bad n heights cert.tolerance (λ a. false) cert.needed (nothing_closed n)))
       (λ (other : IsFor goal cert.tolerance → ⊥). rejected OtherTolerance other)
       (for_or_not goal cert.tolerance)
@@ -211,18 +211,18 @@ module _ (n : ℕ) (heights : List ℕ) (goal : Target) (cert : FitCertificate) 
   Leads = (has : ℕ → Bool) × LeadsTo n heights cert.tolerance (λ a. false) cert.needed has
 
   abbrev Fits : Type 0
-  Fits = (has : ℕ → Bool) × IsFitted n heights cert has
+  Fits = (has : ℕ → Bool) × LeadsToFit n heights cert has
 
   abbrev FitsWithin : Type 0
-  FitsWithin = (has : ℕ → Bool) × IsFitted n heights cert has × IsWithin goal (length (leaves_of n has))
+  FitsWithin = (has : ℕ → Bool) × LeadsToFit n heights cert has × IsWithinTarget goal (length (leaves_of n has))
 
   -- the two ways to a bad reason
   abbrev BadBefore : ℕ → Type 0
-  BadBefore index = IsFirstBad n heights cert.tolerance (λ a. false) cert.needed index
+  BadBefore index = IsFirstBadFit n heights cert.tolerance (λ a. false) cert.needed index
 
   abbrev BadBehind : ℕ → Type 0
-  BadBehind index = (has : ℕ → Bool) × IsFitted n heights cert has × IsWithin goal (length (leaves_of n has))
-      × (place : ℕ) × IsFirstBad n heights (cert.tolerance - 1) has cert.beyond place × (index ≡ length cert.needed + place)
+  BadBehind index = (has : ℕ → Bool) × LeadsToFit n heights cert has × IsWithinTarget goal (length (leaves_of n has))
+      × (place : ℕ) × IsFirstBadFit n heights (cert.tolerance - 1) has cert.beyond place × (index ≡ length cert.needed + place)
 
   sets-one : (has other : ℕ → Bool) → LeadsTo n heights cert.tolerance (λ a. false) cert.needed has →
       LeadsTo n heights cert.tolerance (λ a. false) cert.needed other → (a : ℕ) → has a ≡ other a
@@ -241,11 +241,11 @@ module _ (n : ℕ) (heights : List ℕ) (goal : Target) (cert : FitCertificate) 
       subst (λ (l : List ℕ). cert.tolerance < worst_of error l) (leaves-one has f.0 leads f.1.needed) over in
       let within = f.1.within in absurd (omega arith)
 
-  not-many : (has : ℕ → Bool) → IsFitted n heights cert has → (IsWithin goal (length (leaves_of n has)) → ⊥) → FitsWithin → ⊥
+  not-many : (has : ℕ → Bool) → LeadsToFit n heights cert has → (IsWithinTarget goal (length (leaves_of n has)) → ⊥) → FitsWithin → ⊥
   not-many has fitted many f =
-      many (subst (λ (l : List ℕ). IsWithin goal (length l)) (leaves-one f.0 has f.1.needed fitted.needed) f.2)
+      many (subst (λ (l : List ℕ). IsWithinTarget goal (length l)) (leaves-one f.0 has f.1.needed fitted.needed) f.2)
 
-  not-behind : (index : ℕ) → BadBehind index → (has : ℕ → Bool) → IsFitted n heights cert has → (over : ℕ → Bool) →
+  not-behind : (index : ℕ) → BadBehind index → (has : ℕ → Bool) → LeadsToFit n heights cert has → (over : ℕ → Bool) →
       LeadsTo n heights (cert.tolerance - 1) has cert.beyond over → ⊥
   not-behind index b has fitted over leads =
       leads-no_bad n heights (cert.tolerance - 1) b.0 has cert.beyond b.3 over (sets-one b.0 has b.1.needed fitted.needed) b.4 leads
@@ -264,17 +264,17 @@ module _ (n : ℕ) (heights : List ℕ) (goal : Target) (cert : FitCertificate) 
   bad-over i (inl b) has leads over = not-before i b (has, leads)
   bad-over i (inr b) has leads over = not-over has leads over (b.0, b.1)
 
-  bad-many : (i : ℕ) → (BadBefore i ⊎ BadBehind i) → (has : ℕ → Bool) → IsFitted n heights cert has →
-      (IsWithin goal (length (leaves_of n has)) → ⊥) → ⊥
+  bad-many : (i : ℕ) → (BadBefore i ⊎ BadBehind i) → (has : ℕ → Bool) → LeadsToFit n heights cert has →
+      (IsWithinTarget goal (length (leaves_of n has)) → ⊥) → ⊥
   bad-many i (inl b) has fitted many = not-before i b (has, fitted.needed)
   bad-many i (inr b) has fitted many = not-many has fitted many (b.0, b.1, b.2)
 
-  bad-few : (i : ℕ) → (BadBefore i ⊎ BadBehind i) → (has : ℕ → Bool) → IsFitted n heights cert has → (over : ℕ → Bool) →
+  bad-few : (i : ℕ) → (BadBefore i ⊎ BadBehind i) → (has : ℕ → Bool) → LeadsToFit n heights cert has → (over : ℕ → Bool) →
       LeadsTo n heights (cert.tolerance - 1) has cert.beyond over → ⊥
   bad-few i (inl b) has fitted over leads = not-before i b (has, fitted.needed)
   bad-few i (inr b) has fitted over leads = not-behind i b has fitted over leads
 
-  rejected-one : (why other : Reject) → IsRejected n heights goal cert why → IsRejected n heights goal cert other → why ≡ other
+  rejected-one : (why other : Reject) → IsFitRejected n heights goal cert why → IsFitRejected n heights goal cert other → why ≡ other
   rejected-one OtherTolerance OtherTolerance p q = refl
   rejected-one OtherTolerance (BadReason j) p q = absurd (p q.0)
   rejected-one OtherTolerance OverTolerance p q = absurd (p q.0)
@@ -302,12 +302,12 @@ module _ (n : ℕ) (heights : List ℕ) (goal : Target) (cert : FitCertificate) 
   rejected-one TooFewReasons TooFewReasons p q = refl
 
   -- a verdict on a mesh is one
-  pub verdict-is : (verdict : Verdict) (mesh : List ℕ) → IsVerdictOf n heights goal cert verdict mesh → IsVerdict n heights goal cert verdict
+  pub verdict-is : (verdict : Verdict) (mesh : List ℕ) → IsVerdictOf n heights goal cert verdict mesh → IsFitVerdict n heights goal cert verdict
   verdict-is (Certified triangles deviation) mesh v = (mesh, v.0, v.1, v.2)
   verdict-is (Rejected why) mesh v = v
 
   -- two verdicts are the same
-  pub verdict_one : (verdict other : Verdict) → IsVerdict n heights goal cert verdict → IsVerdict n heights goal cert other → verdict ≡ other
+  pub verdict_one : (verdict other : Verdict) → IsFitVerdict n heights goal cert verdict → IsFitVerdict n heights goal cert other → verdict ≡ other
   verdict_one (Certified triangles deviation) other v w =
       ap₂ (λ i j. Certified i j) v.2 v.3 ∙ sym (sound-certified n heights goal cert v.0 v.1 other w)
   verdict_one (Rejected why) (Certified triangles deviation) v w =
@@ -315,5 +315,5 @@ module _ (n : ℕ) (heights : List ℕ) (goal : Target) (cert : FitCertificate) 
   verdict_one (Rejected why) (Rejected other) v w = ap Rejected (rejected-one why other v w)
 
   -- and so are two meshes of a sound certificate
-  pub mesh_one : (mesh other : List ℕ) → IsSound n heights goal cert mesh → IsSound n heights goal cert other → mesh ≡ other
+  pub mesh_one : (mesh other : List ℕ) → IsFitSound n heights goal cert mesh → IsFitSound n heights goal cert other → mesh ≡ other
   mesh_one mesh other p q = p.leaves ∙ leaves-one p.has q.has p.fitted.needed q.fitted.needed ∙ sym q.leaves

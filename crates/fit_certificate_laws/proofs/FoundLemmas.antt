@@ -22,7 +22,7 @@ use Rattle.fit_laws.proofs.BudgetLemmas.{budget_found}
 use Rattle.fit_certificate_laws.specs.declared.reason.Off.{Off}
 use Rattle.fit_certificate_laws.specs.declared.reason.Target.{Target}
 use Rattle.fit_certificate_laws.specs.declared.reason.Target.TheVariants.{Error, Budget}
-use Rattle.fit_certificate_laws.specs.Certificate.{FitCertificate, IsOff, IsReason, LeadsTo, IsSound}
+use Rattle.fit_certificate_laws.specs.Certificate.{FitCertificate, IsOff, IsFitReason, LeadsTo, IsFitSound}
 use Rattle.fit_certificate_laws.specs.Making.{IsPossible, IsBestTolerance, IsBelow}
 use Rattle.fit_certificate_laws.proofs.LeadLemmas.{leads-closed}
 use Rattle.fit_certificate_laws.proofs.MakeLemmas.{made-sound}
@@ -108,7 +108,7 @@ settles_from n heights tolerance (suc fuel) has closed enough = ⊎_elim
     let grown = step-grown n has next.0 t.0 closed outer next.1 in
     let r = error-point n heights tolerance t.0 above in
     let rest = settles_from n heights tolerance fuel next.0 next.1.closed (omega arith) in
-    let reason : IsReason n heights tolerance has r.0 =
+    let reason : IsFitReason n heights tolerance has r.0 =
     record {
       splittable = subst (λ k. IsSplittable n k) (sym r.1) splittable;
       leaf = subst (λ k. Contains (leaves_of n has) k) (sym r.1) (Contains-in t.0 (leaves_of n has) t.1);
@@ -143,7 +143,7 @@ below-of n heights (Budget triangles) lower leaves low = low
 
 -- each possible target has a sound certificate
 pub sound_found : (n : ℕ) (heights : List ℕ) (goal : Target) → IsPossible goal →
-    (cert : FitCertificate) × (mesh : List ℕ) × IsSound n heights goal cert mesh
+    (cert : FitCertificate) × (mesh : List ℕ) × IsFitSound n heights goal cert mesh
 sound_found n heights goal possible =
     let own = tolerance_found n heights goal possible in
     let before = settles n heights own.0 (λ a. false) (nothing_closed n) in

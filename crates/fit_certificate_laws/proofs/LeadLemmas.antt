@@ -12,7 +12,7 @@ use Rattle.fit_laws.specs.Settled.{IsNeeded}
 use Rattle.fit_laws.proofs.SettledLemmas.{outer-leaf, needed-step}
 use Rattle.fit_laws.proofs.FitLemmas.{closed-same, step-grown}
 use Rattle.fit_certificate_laws.specs.declared.reason.Off.{Off}
-use Rattle.fit_certificate_laws.specs.Certificate.{IsOff, IsReason, LeadsTo, IsFirstBad}
+use Rattle.fit_certificate_laws.specs.Certificate.{IsOff, IsFitReason, LeadsTo, IsFirstBadFit}
 
 -- a held point that is off by more than the tolerance shows that the triangle's error is above it
 pub off-error : (n : ℕ) (heights : List ℕ) (tolerance : ℕ) (r : Off) → IsOff n heights tolerance r
@@ -28,7 +28,7 @@ off-error n heights tolerance r off =
 
 -- have the same reasons
 pub reason-same : (n : ℕ) (heights : List ℕ) (tolerance : ℕ) (has other : ℕ → Bool) (r : Off) → ((a : ℕ) → has a ≡ other a) →
-    IsReason n heights tolerance has r → IsReason n heights tolerance other r
+    IsFitReason n heights tolerance has r → IsFitReason n heights tolerance other r
 reason-same n heights tolerance has other r same is = record {
   splittable = is.splittable;
   leaf = subst (λ (l : List ℕ). Contains l r.triangle) (leaves_of-same n has other same) is.leaf;
@@ -47,7 +47,7 @@ closure-same n has other next t same least = record {
 -- one reason more
 
 pub leads-next : (n : ℕ) (heights : List ℕ) (tolerance : ℕ) (has : ℕ → Bool) (reasons : List Off) (mid next : ℕ → Bool) (r : Off) →
-    LeadsTo n heights tolerance has reasons mid → IsReason n heights tolerance mid r → IsLeastClosed n (with_triangle mid r.triangle) next →
+    LeadsTo n heights tolerance has reasons mid → IsFitReason n heights tolerance mid r → IsLeastClosed n (with_triangle mid r.triangle) next →
     LeadsTo n heights tolerance has (reasons ++ r ∷ []) next
 leads-next n heights tolerance has [] mid next r leads is least = (
   next,
@@ -104,7 +104,7 @@ leads-same n heights tolerance has other (r ∷ reasons) after same leads = (
 
 -- so the first that is none is the first from the other
 pub bad-same : (n : ℕ) (heights : List ℕ) (tolerance : ℕ) (has other : ℕ → Bool) (reasons : List Off) (index : ℕ) →
-    ((a : ℕ) → has a ≡ other a) → IsFirstBad n heights tolerance has reasons index → IsFirstBad n heights tolerance other reasons index
+    ((a : ℕ) → has a ≡ other a) → IsFirstBadFit n heights tolerance has reasons index → IsFirstBadFit n heights tolerance other reasons index
 bad-same n heights tolerance has other reasons index same bad = record {
   good = bad.good;
   bad = bad.bad;
@@ -130,7 +130,7 @@ leads-unique n heights tolerance has other (r ∷ reasons) one two same p q =
 leads-good : (n : ℕ) (heights : List ℕ) (tolerance : ℕ) (has other : ℕ → Bool) (good : List Off) (bad : Off)
     (rest : List Off) (mid after : ℕ → Bool) →
     ((a : ℕ) → has a ≡ other a) → LeadsTo n heights tolerance has good mid → LeadsTo n heights tolerance other (good ++ bad ∷ rest) after →
-    IsReason n heights tolerance mid bad
+    IsFitReason n heights tolerance mid bad
 leads-good n heights tolerance has other [] bad rest mid after same p q =
     reason-same n heights tolerance other mid bad (λ a. sym (same a) ∙ p a) q.1
 leads-good n heights tolerance has other (r ∷ good) bad rest mid after same p q =
@@ -139,7 +139,7 @@ leads-good n heights tolerance has other (r ∷ good) bad rest mid after same p 
     (closure-same n other has q.0 r.triangle (λ a. sym (same a)) q.2)) p.3 q.3
 
 pub leads-no_bad : (n : ℕ) (heights : List ℕ) (tolerance : ℕ) (has other : ℕ → Bool) (reasons : List Off) (index : ℕ) (after : ℕ → Bool) →
-    ((a : ℕ) → has a ≡ other a) → IsFirstBad n heights tolerance has reasons index → LeadsTo n heights tolerance other reasons after → ⊥
+    ((a : ℕ) → has a ≡ other a) → IsFirstBadFit n heights tolerance has reasons index → LeadsTo n heights tolerance other reasons after → ⊥
 leads-no_bad n heights tolerance has other reasons index after same bad leads =
     bad.fails (leads-good n heights tolerance has other bad.good bad.bad bad.rest bad.after after same bad.leads
     (subst (λ (l : List Off). LeadsTo n heights tolerance other l after) bad.parts leads))

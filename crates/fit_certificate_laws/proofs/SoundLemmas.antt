@@ -15,16 +15,16 @@ use Rattle.fit_laws.proofs.BudgetLemmas.{budget_end, budget_exact}
 use Rattle.fit_laws.proofs.OrderLemmas.{leaves-order}
 use Rattle.fit_certificate_laws.specs.declared.reason.Target.{Target}
 use Rattle.fit_certificate_laws.specs.declared.reason.Target.TheVariants.{Error, Budget}
-use Rattle.fit_certificate_laws.specs.Certificate.{FitCertificate, IsFitted, IsSound}
+use Rattle.fit_certificate_laws.specs.Certificate.{FitCertificate, LeadsToFit, IsFitSound}
 use Rattle.fit_certificate_laws.proofs.LeadLemmas.{leads-closed, leads-needed}
 
 -- the set of the mesh is closed
-pub fitted-closed : (n : ℕ) (heights : List ℕ) (cert : FitCertificate) (has : ℕ → Bool) → IsFitted n heights cert has → IsClosed n has
+pub fitted-closed : (n : ℕ) (heights : List ℕ) (cert : FitCertificate) (has : ℕ → Bool) → LeadsToFit n heights cert has → IsClosed n has
 fitted-closed n heights cert has fitted = leads-closed n heights cert.tolerance (λ a. false) cert.needed has
     (nothing_closed n) fitted.needed
 
 -- and the least settled one
-pub fitted-least : (n : ℕ) (heights : List ℕ) (cert : FitCertificate) (has : ℕ → Bool) → IsFitted n heights cert has →
+pub fitted-least : (n : ℕ) (heights : List ℕ) (cert : FitCertificate) (has : ℕ → Bool) → LeadsToFit n heights cert has →
     IsLeastSettled n cert.tolerance (error_of n heights) has
 fitted-least n heights cert has fitted = record {
   settled = record { closed = fitted-closed n heights cert has fitted; within = fitted.within };
@@ -34,7 +34,7 @@ fitted-least n heights cert has fitted = record {
 
 -- so the mesh is the fewest triangles for the tolerance
 pub sound-least : (n : ℕ) (heights : List ℕ) (target : Target) (cert : FitCertificate) (mesh : List ℕ)
-    → IsSound n heights target cert mesh →
+    → IsFitSound n heights target cert mesh →
     IsLeastMesh n cert.tolerance (error_of n heights) mesh
 sound-least n heights target cert mesh sound =
     subst (λ (l : List ℕ). IsLeastMesh n cert.tolerance (error_of n heights) l) (sym sound.leaves)
@@ -42,14 +42,14 @@ sound-least n heights target cert mesh sound =
 
 -- which is that of the target
 pub sound-error : (n : ℕ) (heights : List ℕ) (tolerance : ℕ) (cert : FitCertificate) (mesh : List ℕ)
-    → IsSound n heights (Error tolerance) cert mesh →
+    → IsFitSound n heights (Error tolerance) cert mesh →
     IsLeastMesh n tolerance (error_of n heights) mesh
 sound-error n heights tolerance cert mesh sound =
     subst (λ k. IsLeastMesh n k (error_of n heights) mesh) sound.own (sound-least n heights (Error tolerance) cert mesh sound)
 
 -- and no mesh of the budget is off by less
 pub sound-budget : (n : ℕ) (heights : List ℕ) (triangles : ℕ) (cert : FitCertificate) (mesh : List ℕ) →
-    IsSound n heights (Budget triangles) cert mesh → IsBudgetMesh n triangles (error_of n heights) mesh
+    IsFitSound n heights (Budget triangles) cert mesh → IsBudgetMesh n triangles (error_of n heights) mesh
 sound-budget n heights triangles cert mesh sound =
     let e : ℕ → ℕ = error_of n heights in
     let has : ℕ → Bool = sound.has in
@@ -70,7 +70,7 @@ sound-budget n heights triangles cert mesh sound =
 
 -- the mesh stands depth first
 pub sound-order : (n : ℕ) (heights : List ℕ) (target : Target) (cert : FitCertificate) (mesh : List ℕ)
-    → IsSound n heights target cert mesh →
+    → IsFitSound n heights target cert mesh →
     leaves_of n (ancestors_of mesh) ≡ mesh
 sound-order n heights target cert mesh sound =
     ap (λ (l : List ℕ). leaves_of n (ancestors_of l)) sound.leaves

@@ -10,10 +10,10 @@ use Rattle.fit_certificate_laws.specs.declared.reason.Reject.{Reject}
 use Rattle.fit_certificate_laws.specs.declared.reason.Reject.TheVariants.{OtherTolerance, BadReason, OverTolerance, OverBudget, TooFewReasons}
 use Rattle.fit_certificate_laws.specs.declared.reason.Verdict.{Verdict}
 use Rattle.fit_certificate_laws.specs.declared.reason.Verdict.TheVariants.{Certified, Rejected}
-use Rattle.fit_certificate_laws.specs.Certificate.{FitCertificate, LeadsTo, IsFitted, IsWithin, IsEnough, IsSound, IsFirstBad, IsRejected, IsVerdict}
+use Rattle.fit_certificate_laws.specs.Certificate.{FitCertificate, LeadsTo, LeadsToFit, IsWithinTarget, IsEnough, IsFitSound, IsFirstBadFit, IsFitRejected, IsFitVerdict}
 use Rattle.fit_certificate_laws.proofs.LeadLemmas.{leads-unique, leads-no_bad}
 
-module _ (n : ℕ) (heights : List ℕ) (goal : Target) (cert : FitCertificate) (mesh : List ℕ) (sound : IsSound n heights goal cert mesh) where
+module _ (n : ℕ) (heights : List ℕ) (goal : Target) (cert : FitCertificate) (mesh : List ℕ) (sound : IsFitSound n heights goal cert mesh) where
   -- the set of the mesh is the one that the reasons before it lead to
   one-set : (has : ℕ → Bool) → LeadsTo n heights cert.tolerance (λ a. false) cert.needed has → (a : ℕ) → has a ≡ sound.has a
   one-set has leads = leads-unique n heights cert.tolerance (λ a. false) (λ a. false) cert.needed has sound.has
@@ -23,13 +23,13 @@ module _ (n : ℕ) (heights : List ℕ) (goal : Target) (cert : FitCertificate) 
   one-leaves has leads = leaves_of-same n has sound.has (one-set has leads)
 
   -- so no test fails
-  sound-accepted : (why : Reject) → IsRejected n heights goal cert why → ⊥
+  sound-accepted : (why : Reject) → IsFitRejected n heights goal cert why → ⊥
   sound-accepted OtherTolerance r = r sound.own
   sound-accepted (BadReason index) r = ⊎_elim
-      (λ (b : IsFirstBad n heights cert.tolerance (λ a. false) cert.needed index).
+      (λ (b : IsFirstBadFit n heights cert.tolerance (λ a. false) cert.needed index).
       leads-no_bad n heights cert.tolerance (λ a. false) (λ a. false) cert.needed index sound.has (λ a. refl) b sound.fitted.needed)
-      (λ (b : (has : ℕ → Bool) × IsFitted n heights cert has × IsWithin goal (length (leaves_of n has))
-      × (place : ℕ) × IsFirstBad n heights (cert.tolerance - 1) has cert.beyond place × (index ≡ length cert.needed + place)).
+      (λ (b : (has : ℕ → Bool) × LeadsToFit n heights cert has × IsWithinTarget goal (length (leaves_of n has))
+      × (place : ℕ) × IsFirstBadFit n heights (cert.tolerance - 1) has cert.beyond place × (index ≡ length cert.needed + place)).
       leads-no_bad n heights (cert.tolerance - 1) b.0 sound.has cert.beyond b.3 sound.over (one-set b.0 b.1.needed) b.4 sound.beyond)
       r.1
   sound-accepted OverTolerance r =
@@ -37,14 +37,14 @@ module _ (n : ℕ) (heights : List ℕ) (goal : Target) (cert : FitCertificate) 
       subst (λ (l : List ℕ). cert.tolerance < worst_of (error_of n heights) l) (one-leaves r.1 r.2) r.3 in
       let within = sound.fitted.within in absurd (omega arith)
   sound-accepted OverBudget r =
-      r.3 (subst (λ (l : List ℕ). IsWithin goal (length l)) (sym (one-leaves r.1 r.2.needed)) sound.few)
+      r.3 (subst (λ (l : List ℕ). IsWithinTarget goal (length l)) (sym (one-leaves r.1 r.2.needed)) sound.few)
   sound-accepted TooFewReasons r =
       let same : leaves_of n r.4 ≡ leaves_of n sound.over = leaves_of-same n r.4 sound.over
       (leads-unique n heights (cert.tolerance - 1) r.1 sound.has cert.beyond r.4 sound.over (one-set r.1 r.2.needed) r.5 sound.beyond) in
       r.6 (subst (λ (l : List ℕ). IsEnough goal cert.tolerance (length l)) (sym same) sound.enough)
 
   -- and the numbers are those of the mesh
-  pub sound-certified : (verdict : Verdict) → IsVerdict n heights goal cert verdict
+  pub sound-certified : (verdict : Verdict) → IsFitVerdict n heights goal cert verdict
       → verdict ≡ Certified (length mesh) (deviation_of n heights mesh)
   sound-certified (Certified triangles deviation) v =
       let same : v.0 ≡ mesh = v.1.leaves ∙ one-leaves v.1.has v.1.fitted.needed ∙ sym sound.leaves in

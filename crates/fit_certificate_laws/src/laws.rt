@@ -9,7 +9,7 @@ ghost use Rattle.fit_laws.specs.Error.{error_of};
 ghost use Rattle.fit_laws.specs.Budget.{IsBudgetMesh};
 ghost use Rattle.fit_certificate_laws.specs.declared.reason.Target.{Target};
 ghost use Rattle.fit_certificate_laws.specs.declared.reason.Verdict.{Verdict};
-ghost use Rattle.fit_certificate_laws.specs.Certificate.{FitCertificate, IsSound, IsVerdict, IsVerdictOf};
+ghost use Rattle.fit_certificate_laws.specs.Certificate.{FitCertificate, IsFitSound, IsFitVerdict, IsVerdictOf};
 ghost use Rattle.fit_certificate_laws.specs.Making.{IsPossible};
 
 /// A certificate is sound only for the best mesh of its target, whoever made the two.
@@ -20,25 +20,25 @@ ghost use Rattle.fit_certificate_laws.specs.Making.{IsPossible};
 /// certificate has a verdict, `one_verdict` and no other; `some` each target that is possible has a sound certificate.
 pub fn fit_certificate_laws()
     ensures least { (n : ℕ) (heights : List ℕ) (target : Target) (cert : FitCertificate) (mesh : List ℕ) →
-        IsSound n heights target cert mesh →
+        IsFitSound n heights target cert mesh →
         IsLeastMesh n cert.tolerance (error_of n heights) mesh }
     ensures error { (n : ℕ) (heights : List ℕ) (tolerance : ℕ) (cert : FitCertificate) (mesh : List ℕ) →
-        IsSound n heights (Target.Error tolerance) cert mesh →
+        IsFitSound n heights (Target.Error tolerance) cert mesh →
         IsLeastMesh n tolerance (error_of n heights) mesh }
     ensures budget { (n : ℕ) (heights : List ℕ) (triangles : ℕ) (cert : FitCertificate) (mesh : List ℕ) →
-        IsSound n heights (Target.Budget triangles) cert mesh →
+        IsFitSound n heights (Target.Budget triangles) cert mesh →
         IsBudgetMesh n triangles (error_of n heights) mesh }
     ensures order { (n : ℕ) (heights : List ℕ) (target : Target) (cert : FitCertificate) (mesh : List ℕ) →
-        IsSound n heights target cert mesh → leaves_of n (ancestors_of mesh) ≡ mesh }
+        IsFitSound n heights target cert mesh → leaves_of n (ancestors_of mesh) ≡ mesh }
     ensures certified { (n : ℕ) (heights : List ℕ) (target : Target) (cert : FitCertificate) (mesh : List ℕ)
         (verdict : Verdict) →
-        IsSound n heights target cert mesh → IsVerdict n heights target cert verdict →
+        IsFitSound n heights target cert mesh → IsFitVerdict n heights target cert verdict →
         verdict ≡ Verdict.Certified (length mesh) (deviation_of n heights mesh) }
     ensures verdict { (n : ℕ) (heights : List ℕ) (target : Target) (cert : FitCertificate) →
         (verdict : Verdict) × (mesh : List ℕ) × IsVerdictOf n heights target cert verdict mesh }
     ensures one_verdict { (n : ℕ) (heights : List ℕ) (target : Target) (cert : FitCertificate)
         (verdict other : Verdict) →
-        IsVerdict n heights target cert verdict → IsVerdict n heights target cert other → verdict ≡ other }
+        IsFitVerdict n heights target cert verdict → IsFitVerdict n heights target cert other → verdict ≡ other }
     ensures some { (n : ℕ) (heights : List ℕ) (target : Target) → IsPossible target →
-        (cert : FitCertificate) × (mesh : List ℕ) × IsSound n heights target cert mesh }
+        (cert : FitCertificate) × (mesh : List ℕ) × IsFitSound n heights target cert mesh }
 {}

@@ -4,7 +4,7 @@ use Rattle.std.proofs.lemmas.List.{take_more, take-append-drop, length-take-le}
 use Rattle.mesh_defs.specs.ClosedSet.{IsLeastClosed}
 use Rattle.mesh_defs.specs.Greedy.{with_triangle}
 use Rattle.fit_certificate_laws.specs.declared.reason.Off.{Off}
-use Rattle.fit_certificate_laws.specs.Certificate.{IsReason, LeadsTo, IsFirstBad}
+use Rattle.fit_certificate_laws.specs.Certificate.{IsFitReason, LeadsTo, IsFirstBadFit}
 use Rattle.fit_certificate_laws.proofs.LeadLemmas.{leads-next}
 
 -- the first ones with one more
@@ -16,14 +16,14 @@ module _ (n : ℕ) (heights : List ℕ) (tolerance : ℕ) (has mid : ℕ → Boo
     (within : k < length reasons)
     (is : r ≡ get_or reasons k r) (leads : LeadsTo n heights tolerance has (take k reasons) mid) where
   -- that is a reason, too
-  pub replay-next : (next : ℕ → Bool) → IsReason n heights tolerance mid r → IsLeastClosed n (with_triangle mid r.triangle) next →
+  pub replay-next : (next : ℕ → Bool) → IsFitReason n heights tolerance mid r → IsLeastClosed n (with_triangle mid r.triangle) next →
       LeadsTo n heights tolerance has (take (k + 1) reasons) next
   replay-next next reason least =
       subst (λ (l : List Off). LeadsTo n heights tolerance has l next) (sym (take-next reasons k r within is))
       (leads-next n heights tolerance has (take k reasons) mid next r leads reason least)
 
   -- or is the first that is none
-  pub replay-bad : (IsReason n heights tolerance mid r → ⊥) → IsFirstBad n heights tolerance has reasons (k + 1)
+  pub replay-bad : (IsFitReason n heights tolerance mid r → ⊥) → IsFirstBadFit n heights tolerance has reasons (k + 1)
   replay-bad fails = record {
     good = take k reasons;
     bad = r;

@@ -4,7 +4,7 @@ ghost use Rattle.std.specs.Prelude.{◌≡◌, ℕ, ◌+◌, ◌-◌, ◌*◌, �
 ghost use Rattle.mesh_defs.specs.ClosedSet.{IsClosed, leaves_of};
 ghost use Rattle.least_laws.specs.Sweep.{is_flagged};
 ghost use Rattle.fit_laws.specs.Error.{error_of};
-ghost use Rattle.fit_certificate_laws.specs.Certificate.{LeadsTo, IsSound};
+ghost use Rattle.fit_certificate_laws.specs.Certificate.{LeadsTo, IsFitSound};
 ghost use Rattle.fit_certificate_laws.specs.declared.limits.TheConstants.{MOST_REASONS};
 ghost use Rattle.fit_certificate_laws.specs.Making.{IsPossible, IsBestTolerance, IsBelow};
 
@@ -23,7 +23,7 @@ use std::alloc::Global;
 /// them, in each the error of each leaf; 12 bytes for each reason.
 pub fn make(alloc: Global, grid: &Grid, target: Target) -> Result<FitCert, NoMemory>
     requires possible { IsPossible target }
-    ensures sound { IfOk result (λ c. (mesh : List ℕ) × IsSound grid.now.n grid.now.heights target c mesh) }
+    ensures sound { IfOk result (λ c. (mesh : List ℕ) × IsFitSound grid.now.n grid.now.heights target c mesh) }
 {
     let tolerance = tolerance_for(alloc, grid, target)?;
     let mut flags = vec![in alloc; false; end(grid.n()) as usize]?;
@@ -41,7 +41,7 @@ fn cert_of(
     requires flags { length flags.old ≡ 2 ^ (2 * grid.now.n + 1) }
     requires empty { (a : ℕ) → is_flagged flags.old a ≡ false }
     requires best { IsBestTolerance grid.now.n (error_of grid.now.n grid.now.heights) target tolerance }
-    ensures sound { IfOk result (λ c. (mesh : List ℕ) × IsSound grid.now.n grid.now.heights target c mesh) }
+    ensures sound { IfOk result (λ c. (mesh : List ℕ) × IsFitSound grid.now.n grid.now.heights target c mesh) }
 {
     let _level = grid.n();
     let needed = settle(alloc, grid, tolerance, flags)?;

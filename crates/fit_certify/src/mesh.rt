@@ -4,7 +4,7 @@ ghost use Rattle.std.specs.Prelude.{◌≡◌, ℕ, ◌+◌, ◌*◌, ◌^◌, �
 ghost use Rattle.mesh_defs.specs.Triangle.{level_of};
 ghost use Rattle.least_laws.specs.Sweep.{is_flagged};
 ghost use Rattle.fit_certificate_laws.specs.declared.reason.Target.{Target};
-ghost use Rattle.fit_certificate_laws.specs.Certificate.{IsSound};
+ghost use Rattle.fit_certificate_laws.specs.Certificate.{IsFitSound};
 
 use crate::replay::replay;
 use address_flags::{end, list_leaves};
@@ -19,7 +19,7 @@ use std::alloc::Global;
 /// Of a certificate that is not sound nothing is said. Cost (not proved): that of `check` for these reasons.
 pub fn mesh_of(alloc: Global, grid: &Grid, cert: &FitCert) -> Result<Vec<Tri>, NoMemory>
     ensures mesh { IfOk result (λ v. (target : Target) (mesh : List ℕ) →
-        IsSound grid.now.n grid.now.heights target cert.now mesh → v.items ≡ mesh) }
+        IsFitSound grid.now.n grid.now.heights target cert.now mesh → v.items ≡ mesh) }
     ensures levels { IfOk result (λ v. All (λ a. level_of a ≤ 2 * grid.now.n) v.items) }
     ensures few { IfOk result (λ v. length v.items ≤ 2 ^ (2 * grid.now.n + 1)) }
 {
@@ -36,7 +36,7 @@ fn list_mesh(grid: &Grid, cert: &FitCert, flags: &mut [bool], room: &mut [Tri]) 
     requires room { length room.old ≡ 2 ^ (2 * grid.now.n + 1) }
     requires empty { (a : ℕ) → is_flagged flags.old a ≡ false }
     ensures mesh { (target : Target) (mesh : List ℕ) →
-        IsSound grid.now.n grid.now.heights target cert.now mesh → take result room.new ≡ mesh }
+        IsFitSound grid.now.n grid.now.heights target cert.now mesh → take result room.new ≡ mesh }
     ensures levels { All (λ a. level_of a ≤ 2 * grid.now.n) (take result room.new) }
     ensures within { result ≤ length room.new }
     ensures room { length room.new ≡ length room.old }

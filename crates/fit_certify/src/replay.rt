@@ -4,7 +4,7 @@ ghost use Rattle.std.specs.Prelude.{◌≡◌, ℕ, ◌+◌, ◌*◌, ◌^◌, �
 ghost use Rattle.mesh_defs.specs.Triangle.{IsSplittable};
 ghost use Rattle.mesh_defs.specs.ClosedSet.{IsClosed, leaves_of};
 ghost use Rattle.least_laws.specs.Sweep.{is_flagged};
-ghost use Rattle.fit_certificate_laws.specs.Certificate.{IsOff, IsReason, LeadsTo, IsFirstBad};
+ghost use Rattle.fit_certificate_laws.specs.Certificate.{IsOff, IsFitReason, LeadsTo, IsFirstBadFit};
 ghost use Rattle.fit_certificate_laws.specs.declared.limits.TheConstants.{MOST_REASONS};
 
 use crate::force::force;
@@ -30,7 +30,7 @@ pub(crate) fn replay(
     ensures closed { IsClosed grid.now.n (is_flagged flags.new) }
     ensures all { IfNone result (LeadsTo grid.now.n grid.now.heights tolerance
         (is_flagged flags.old) reasons.now (is_flagged flags.new)) }
-    ensures bad { IfSome result (λ k. IsFirstBad grid.now.n grid.now.heights tolerance
+    ensures bad { IfSome result (λ k. IsFirstBadFit grid.now.n grid.now.heights tolerance
         (is_flagged flags.old) reasons.now k) }
     ensures place { IfSome result (λ k. k ≤ MOST_REASONS) }
 {
@@ -57,7 +57,7 @@ fn reason_at(reasons: &[Off], index: usize) -> Off
 /// Whether this is a reason behind those that make the flagged set.
 fn is_reason(grid: &Grid, tolerance: u32, flags: &[bool], reason: Off) -> bool
     requires closed { IsClosed grid.now.n (is_flagged flags.now) }
-    ensures { IsTrue result ↔ IsReason grid.now.n grid.now.heights tolerance (is_flagged flags.now) reason }
+    ensures { IsTrue result ↔ IsFitReason grid.now.n grid.now.heights tolerance (is_flagged flags.now) reason }
 {
     reason.triangle.level() < 2 * grid.n()
         && is_leaf(flags, reason.triangle)

@@ -5,7 +5,7 @@ ghost use Rattle.mesh_defs.specs.ClosedSet.{IsClosed, leaves_of};
 ghost use Rattle.mesh_defs.specs.Priority.{worst_of};
 ghost use Rattle.least_laws.specs.Sweep.{is_flagged};
 ghost use Rattle.fit_laws.specs.Error.{error_of};
-ghost use Rattle.fit_certificate_laws.specs.Certificate.{LeadsTo, IsFor, IsWithin, IsEnough, IsVerdict};
+ghost use Rattle.fit_certificate_laws.specs.Certificate.{LeadsTo, IsFor, IsWithinTarget, IsEnough, IsFitVerdict};
 
 use crate::replay::replay;
 use address_flags::{end, list_leaves};
@@ -27,7 +27,7 @@ pub fn check(
     cert: &FitCert,
     target: Target,
 ) -> Result<Verdict, NoMemory>
-    ensures verdict { IfOk result (IsVerdict grid.now.n grid.now.heights target cert.now) }
+    ensures verdict { IfOk result (IsFitVerdict grid.now.n grid.now.heights target cert.now) }
 {
     let mut flags = vec![in alloc; false; end(grid.n()) as usize]?;
     let mut room = vec![in alloc; Tri::LOWER; end(grid.n()) as usize]?;
@@ -45,7 +45,7 @@ fn verdict(
     requires flags { length flags.old ≡ 2 ^ (2 * grid.now.n + 1) }
     requires room { length room.old ≡ 2 ^ (2 * grid.now.n + 1) }
     requires empty { (a : ℕ) → is_flagged flags.old a ≡ false }
-    ensures { IsVerdict grid.now.n grid.now.heights target cert.now result }
+    ensures { IsFitVerdict grid.now.n grid.now.heights target cert.now result }
 {
     let _level = grid.n();
     let tolerance = cert.tolerance();
@@ -72,7 +72,7 @@ fn mesh_verdict(
     requires closed { IsClosed grid.now.n (is_flagged flags.old) }
     requires leads { LeadsTo grid.now.n grid.now.heights cert.now.tolerance (λ a. false) cert.now.needed
         (is_flagged flags.old) }
-    ensures { IsVerdict grid.now.n grid.now.heights target cert.now result }
+    ensures { IsFitVerdict grid.now.n grid.now.heights target cert.now result }
 {
     let tolerance = cert.tolerance();
     let mesh = measure(grid, flags, room);
@@ -137,7 +137,7 @@ fn is_for(target: Target, own: u32) -> bool
 
 /// Whether so many triangles are within the budget, if there is one.
 fn is_within(target: Target, count: usize) -> bool
-    ensures { IsTrue result ↔ IsWithin target count }
+    ensures { IsTrue result ↔ IsWithinTarget target count }
 {
     match target {
         Target::Error { tolerance: _ } => true,

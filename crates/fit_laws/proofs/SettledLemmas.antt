@@ -12,7 +12,7 @@ use Rattle.tiling_laws.specs.Ancestors.{ancestors_of}
 use Rattle.tiling_laws.proofs.ConverseLemmas.{IsClosed-ancestors_of, AreLeaves-ancestors_of}
 use Rattle.closure_laws.proofs.ForcingLemmas.{with-cases}
 use Rattle.closure_laws.proofs.ClosureLemmas.{IsOuter, IsOuter-leaves_of, leaf-outer}
-use Rattle.fit_laws.specs.Settled.{both, IsSettled, IsNeeded}
+use Rattle.fit_laws.specs.Settled.{both, IsFineEnough, IsNeeded}
 
 -- leaves
 
@@ -21,14 +21,14 @@ pub outer-leaf : (n : ℕ) (has : ℕ → Bool) (a : ℕ) → IsClosed n has →
 outer-leaf n has a closed leaf = All-contains (IsOuter n has) (leaves_of n has) a (IsOuter-leaves_of n has closed) (Contains-in a (leaves_of n has) leaf)
 
 -- a leaf of a settled set has no error above the tolerance
-pub settled-outer : (n tolerance : ℕ) (error : ℕ → ℕ) (has : ℕ → Bool) (a : ℕ) → IsSettled n tolerance error has → IsOuter n has a → error a ≤ tolerance
+pub settled-outer : (n tolerance : ℕ) (error : ℕ → ℕ) (has : ℕ → Bool) (a : ℕ) → IsFineEnough n tolerance error has → IsOuter n has a → error a ≤ tolerance
 settled-outer n tolerance error has a settled outer =
     let low = le-worst error a (leaves_of n has) (leaf-outer n has a settled.closed outer) in
     let most = settled.within in omega arith
 
 -- a closed set whose outer triangles are within the tolerance is settled
 pub outer-settled : (n tolerance : ℕ) (error : ℕ → ℕ) (has : ℕ → Bool) → IsClosed n has →
-    ((a : ℕ) → IsOuter n has a → error a ≤ tolerance) → IsSettled n tolerance error has
+    ((a : ℕ) → IsOuter n has a → error a ≤ tolerance) → IsFineEnough n tolerance error has
 outer-settled n tolerance error has closed fits = record {
   closed = closed;
   within = worst-le error tolerance (leaves_of n has) (λ a leaf. fits a (outer-leaf n has a closed leaf));
@@ -61,8 +61,8 @@ module _ (n : ℕ) (some other : ℕ → Bool) where
       (cases_Bool (some a))
 
 -- of two settled sets it is settled
-pub settled-both : (n tolerance : ℕ) (error : ℕ → ℕ) (some other : ℕ → Bool) → IsSettled n tolerance error some → IsSettled n tolerance error other →
-    IsSettled n tolerance error (both some other)
+pub settled-both : (n tolerance : ℕ) (error : ℕ → ℕ) (some other : ℕ → Bool) → IsFineEnough n tolerance error some → IsFineEnough n tolerance error other →
+    IsFineEnough n tolerance error (both some other)
 settled-both n tolerance error some other s t =
     outer-settled n tolerance error (both some other) (closed-both n some other s.closed t.closed) (λ a o. ⊎_elim
     (λ one. settled-outer n tolerance error some a s one)
@@ -81,7 +81,7 @@ leaf-entry n others a conforming leaf =
 
 -- the ancestors of a conforming list within the tolerance are settled
 pub settled-ancestors : (n tolerance : ℕ) (error : ℕ → ℕ) (others : List ℕ) → IsConforming n others → worst_of error others ≤ tolerance →
-    IsSettled n tolerance error (ancestors_of others)
+    IsFineEnough n tolerance error (ancestors_of others)
 settled-ancestors n tolerance error others conforming within = record {
   closed = IsClosed-ancestors_of n others conforming;
   within = worst-le error tolerance (leaves_of n (ancestors_of others)) (λ a leaf.
@@ -102,7 +102,7 @@ needed-lower n tolerance error has less le needed other settled =
 
 -- a leaf above the tolerance of what is needed, too
 pub needed-leaf : (n tolerance : ℕ) (error : ℕ → ℕ) (has : ℕ → Bool) (t : ℕ) → IsNeeded n tolerance error has → IsOuter n has t → tolerance < error t →
-    (other : ℕ → Bool) → IsSettled n tolerance error other → IsTrue (other t)
+    (other : ℕ → Bool) → IsFineEnough n tolerance error other → IsTrue (other t)
 needed-leaf n tolerance error has t needed outer above other settled = ⊎_elim
     (λ is. is)
     (λ no.

@@ -10,7 +10,7 @@ ghost use Rattle.tiling_laws.specs.Ancestors.{ancestors_of};
 ghost use Rattle.deviation_laws.specs.PlaneHeight.{deviation_of};
 ghost use Rattle.least_laws.specs.Least.{is_worse, IsLeastMesh};
 ghost use Rattle.fit_laws.specs.Error.{error_of, IsExactAtFinest};
-ghost use Rattle.fit_laws.specs.Settled.{both, IsSettled, IsNeeded, IsLeastSettled, IsMadeBy};
+ghost use Rattle.fit_laws.specs.Settled.{both, IsFineEnough, IsNeeded, IsLeastSettled, IsMadeBy};
 ghost use Rattle.fit_laws.specs.Budget.{IsBudgetMesh};
 
 /// Settled sets: closed, and no leaf has an error above the tolerance.
@@ -21,10 +21,10 @@ ghost use Rattle.fit_laws.specs.Budget.{IsBudgetMesh};
 /// more leaves, and `most` there are never more than finest triangles, so splitting comes to an end.
 pub fn settled_laws()
     ensures meet { (n tolerance : ℕ) (error : ℕ → ℕ) (some other : ℕ → Bool) →
-        IsSettled n tolerance error some → IsSettled n tolerance error other →
-        IsSettled n tolerance error (both some other) }
+        IsFineEnough n tolerance error some → IsFineEnough n tolerance error other →
+        IsFineEnough n tolerance error (both some other) }
     ensures list { (n tolerance : ℕ) (error : ℕ → ℕ) (others : List ℕ) → IsConforming n others →
-        worst_of error others ≤ tolerance → IsSettled n tolerance error (ancestors_of others) }
+        worst_of error others ≤ tolerance → IsFineEnough n tolerance error (ancestors_of others) }
     ensures nothing { (n tolerance : ℕ) (error : ℕ → ℕ) → IsNeeded n tolerance error (λ a. false) }
     ensures step { (n tolerance : ℕ) (error : ℕ → ℕ) (has next : ℕ → Bool) (t : ℕ) →
         IsClosed n has → IsNeeded n tolerance error has →

@@ -22,21 +22,21 @@ use Rattle.fit_laws.proofs.SettledLemmas.{needed-step, needed-lower}
 use Rattle.fit_laws.specs.Error.{IsExactAtFinest}
 use Rattle.fit_laws.proofs.FitLemmas.{closed-same, step-grown, splittable-error}
 use Rattle.fit_laws.proofs.BudgetLemmas.{budget_end}
-use Rattle.fit_mesh.specs.Log.{Extends, IsGrown}
-use Rattle.fit_mesh.specs.Waiting.{pair_cmp, IsEntry, AreKept, AreLeft, IsFirst, IsWaiting}
+use Rattle.fit_mesh.specs.Log.{Extends, HasLog}
+use Rattle.fit_mesh.specs.Waiting.{pair_cmp, IsWaitingEntry, AreKept, AreLeft, IsFirst, IsWaiting}
 use Rattle.fit_mesh.specs.Grown.{IsNeededBelow, IsBest}
 use Rattle.fit_mesh.specs.Found.{IsFound}
 use Rattle.fit_mesh.proofs.PendingLemmas.{outer-of}
 
 -- there are two leaves more than entries of the log
-pub counted : (n : ℕ) (flags : List Bool) (log : List ℕ) → IsGrown n flags log → length (leaves_of n (is_flagged flags)) ≡ length log + 2
+pub counted : (n : ℕ) (flags : List Bool) (log : List ℕ) → HasLog n flags log → length (leaves_of n (is_flagged flags)) ≡ length log + 2
 counted n flags log g =
     ap (λ (l : List ℕ). length l) (leaves_of-same n (is_flagged flags) (among log) g.logged.same)
     ∙ length-leaves_once n log (λ a h. g.logged.once a (among-in a log h)) (closed-same n (is_flagged flags) (among log) g.logged.same g.closed)
 
 -- the first waiting leaf
 
-module _ (n : ℕ) (p : ℕ → ℕ) (flags : List Bool) (log : List ℕ) (items : List (ℕ × ℕ)) (g : IsGrown n flags log)
+module _ (n : ℕ) (p : ℕ → ℕ) (flags : List Bool) (log : List ℕ) (items : List (ℕ × ℕ)) (g : HasLog n flags log)
     (w : IsWaiting n p (is_flagged flags) items) where
   -- it is a leaf
   pub first-outer : (r : ℕ × ℕ) → IsFirst (is_flagged flags) items r → IsOuter n (is_flagged flags) r.1
@@ -89,7 +89,7 @@ module _ (n : ℕ) (p : ℕ → ℕ) (exact : IsExactAtFinest n p) (flags : List
 -- marks
 
 -- a new one
-pub best-mark : (n : ℕ) (p : ℕ → ℕ) (tolerance budget low least : ℕ) (flags : List Bool) (log : List ℕ) (mark : ℕ) → mark ≡ length log → IsGrown n flags log →
+pub best-mark : (n : ℕ) (p : ℕ → ℕ) (tolerance budget low least : ℕ) (flags : List Bool) (log : List ℕ) (mark : ℕ) → mark ≡ length log → HasLog n flags log →
     IsNeededBelow n p low (is_flagged flags) → least < low → tolerance < low → worst_of p (leaves_of n (is_flagged flags)) ≡ least →
     length log + 2 ≤ budget → IsBest n p tolerance budget least log mark
 best-mark n p tolerance budget low least flags log mark at g needed less above worst few =
@@ -127,7 +127,7 @@ pub below-step : (n : ℕ) (p : ℕ → ℕ) (low : ℕ) (has next : ℕ → Boo
 below-step n p low has next t needed outer above least k less = needed-step n k p has next t (needed k less) outer (omega arith) least
 
 -- it makes the log longer, and there is an end to that
-pub longer-step : (n : ℕ) (flags next : List Bool) (log more : List ℕ) (t : ℕ) → IsGrown n flags log → IsGrown n next more → IsOuter n (is_flagged flags) t →
+pub longer-step : (n : ℕ) (flags next : List Bool) (log more : List ℕ) (t : ℕ) → HasLog n flags log → HasLog n next more → IsOuter n (is_flagged flags) t →
     IsLeastClosed n (with_triangle (is_flagged flags) t) (is_flagged next) → (length log < length more) × (length more + 2 ≤ 2 * 4 ^ n)
 longer-step n flags next log more t g h outer least =
     let one = counted n flags log g in
@@ -151,7 +151,7 @@ address-small n a high address =
     (address.low, (let h = address.high in omega arith))
 
 module _ (n : ℕ) (p : ℕ → ℕ) (flags : List Bool) (empty : (a : ℕ) → is_flagged flags a ≡ false) where
-  pub start-grown : length flags ≡ 2 ^ (2 * n + 1) → IsGrown n flags []
+  pub start-grown : length flags ≡ 2 ^ (2 * n + 1) → HasLog n flags []
   start-grown room = record {
     room = room;
     logged = record { same = empty; once = λ a h. absurd (false≢true h) };
@@ -183,10 +183,10 @@ module _ (n : ℕ) (p : ℕ → ℕ) (flags : List Bool) (empty : (a : ℕ) → 
     entries = λ r h. ⊎_elim
         (λ early. ⊎_elim
         (λ (older : Contains none r). absurd (no_entry r (subst (λ (l : List (ℕ × ℕ)). Contains l r) nothing older)))
-        (λ new. subst (λ (z : ℕ × ℕ). IsEntry n p (is_flagged flags) z) (sym new.0)
+        (λ new. subst (λ (z : ℕ × ℕ). IsWaitingEntry n p (is_flagged flags) z) (sym new.0)
         record { address = lower; parent = λ big. absurd (omega arith); value = refl; some = new.1 })
         (only_one r early))
-        (λ new. subst (λ (z : ℕ × ℕ). IsEntry n p (is_flagged flags) z) (sym new.0)
+        (λ new. subst (λ (z : ℕ × ℕ). IsWaitingEntry n p (is_flagged flags) z) (sym new.0)
         record { address = upper; parent = λ big. absurd (omega arith); value = refl; some = new.1 })
         (only_two r h);
     leaves = λ a leaf some.

@@ -13,7 +13,7 @@ use Rattle.least_laws.specs.Sweep.{is_flagged}
 use Rattle.fit_laws.specs.Settled.{IsNeeded, IsLeastSettled}
 use Rattle.fit_laws.proofs.SettledLemmas.{outer-leaf, needed-step}
 use Rattle.fit_laws.proofs.FitLemmas.{fit_tight}
-use Rattle.fit_mesh.specs.Log.{IsLog, Extends, IsGrown}
+use Rattle.fit_mesh.specs.Log.{IsLog, Extends, HasLog}
 use Rattle.fit_mesh.specs.Grown.{AreSettled}
 use Rattle.fit_mesh.specs.Found.{IsFound}
 use Rattle.fit_mesh.proofs.LogLemmas.{extends-subset}
@@ -85,7 +85,7 @@ asked-next n e tolerance flags next log more place t before after extends below 
 -- the end
 
 -- where all members were asked, the set is the least settled one
-pub settled-end : (n : ℕ) (e : ℕ → ℕ) (tolerance : ℕ) (flags : List Bool) (log : List ℕ) → IsGrown n flags log →
+pub settled-end : (n : ℕ) (e : ℕ → ℕ) (tolerance : ℕ) (flags : List Bool) (log : List ℕ) → HasLog n flags log →
     IsNeeded n tolerance e (is_flagged flags) → AreSettled n e tolerance (is_flagged flags) log → IsLeastSettled n tolerance e (is_flagged flags)
 settled-end n e tolerance flags log g needed settled =
     let has : ℕ → Bool = is_flagged flags in

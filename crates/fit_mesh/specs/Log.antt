@@ -1,5 +1,5 @@
 -- A closed set as flags, and its members in the order in which they came.
--- Words: IsLog, Extends, IsGrown.
+-- Words: IsLog, Extends, HasLog.
 use Rattle.std.specs.Prelude.{◌≡◌, ℕ, ◌+◌, ◌*◌, ◌^◌, Bool, IsTrue, List, length, ◌++◌, nat_eq, count_by}
 use Rattle.mesh_defs.specs.ClosedSet.{IsClosed, among}
 use Rattle.least_laws.specs.Sweep.{is_flagged}
@@ -14,7 +14,7 @@ abbrev pub Extends : List ℕ → List ℕ → Type 0
 Extends some all = (more : List ℕ) × (all ≡ some ++ more)
 
 -- a closed set, in a table of its grid, with its log
-pub record IsGrown (n : ℕ) (flags : List Bool) (log : List ℕ) : Type 0 where
+pub record HasLog (n : ℕ) (flags : List Bool) (log : List ℕ) : Type 0 where
   pub room : length flags ≡ 2 ^ (2 * n + 1)
   pub logged : IsLog flags log
   pub closed : IsClosed n (is_flagged flags)

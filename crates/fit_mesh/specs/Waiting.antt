@@ -1,5 +1,5 @@
 -- The leaves that wait for a split, each with its error.
--- Words: pair_cmp, IsEntry, AreKept, AreLeft, IsFirst, IsPending, IsWaiting.
+-- Words: pair_cmp, IsWaitingEntry, AreKept, AreLeft, IsFirst, IsPending, IsWaiting.
 use Rattle.std.specs.Prelude.{◌≡◌, ℕ, ◌/◌, ◌<◌, ◌≤◌, ◌⊎◌, Bool, false, IsTrue, List, Contains, All}
 use Rattle.std.specs.declared.cmp.Ordering.{Ordering}
 use Rattle.std.specs.Ordering.{nat_cmp, ordering_then}
@@ -12,7 +12,7 @@ abbrev pub pair_cmp : ℕ × ℕ → ℕ × ℕ → Ordering
 pair_cmp x y = ordering_then (nat_cmp x.0 y.0) (nat_cmp x.1 y.1)
 
 -- an entry: the error of a triangle that has one and whose parent is split
-pub record IsEntry (n : ℕ) (error : ℕ → ℕ) (has : ℕ → Bool) (r : ℕ × ℕ) : Type 0 where
+pub record IsWaitingEntry (n : ℕ) (error : ℕ → ℕ) (has : ℕ → Bool) (r : ℕ × ℕ) : Type 0 where
   pub address : IsAddress n r.1
   pub parent : 4 ≤ r.1 → IsTrue (has (r.1 / 2))
   pub value : r.0 ≡ error r.1
@@ -35,12 +35,12 @@ pub record IsFirst (has : ℕ → Bool) (items : List (ℕ × ℕ)) (r : ℕ × 
 -- each leaf with an error waits
 pub record IsWaiting (n : ℕ) (error : ℕ → ℕ) (has : ℕ → Bool) (items : List (ℕ × ℕ)) : Type 0 where
   pub ordered : IsHeap pair_cmp items
-  pub entries : (r : ℕ × ℕ) → Contains items r → IsEntry n error has r
+  pub entries : (r : ℕ × ℕ) → Contains items r → IsWaitingEntry n error has r
   pub leaves : (a : ℕ) → Contains (leaves_of n has) a → 0 < error a → Contains items (error a, a)
 
 -- each leaf with an error waits, or is a child of one of the new members
 pub record IsPending (n : ℕ) (error : ℕ → ℕ) (has : ℕ → Bool) (fresh : List ℕ) (items : List (ℕ × ℕ)) : Type 0 where
   pub ordered : IsHeap pair_cmp items
-  pub entries : (r : ℕ × ℕ) → Contains items r → IsEntry n error has r
+  pub entries : (r : ℕ × ℕ) → Contains items r → IsWaitingEntry n error has r
   pub leaves : (a : ℕ) → Contains (leaves_of n has) a → 0 < error a →
       Contains items (error a, a) ⊎ ((4 ≤ a) × IsTrue (among fresh (a / 2)))

@@ -45,13 +45,13 @@ pub struct Fit {
 impl Model for Fit {
     ghost use Rattle.std.specs.Prelude.{take};
     ghost use Rattle.std.specs.BinaryHeap.{heap_capacity};
-    ghost use Rattle.fit_mesh.specs.Kept.{FitMesh, IsKept};
+    ghost use Rattle.fit_mesh.specs.Kept.{FitMesh, IsKeptForFit};
 
     ghost Value = { FitMesh };
 
     ghost view = { λ f. record { n = f.n; budget = f.budget; leaves = take f.count f.room.items } };
 
-    ghost invariant = { λ f. IsKept f.n f.budget f.flags.items f.room.items f.count f.numbers
+    ghost invariant = { λ f. IsKeptForFit f.n f.budget f.flags.items f.room.items f.count f.numbers
         (heap_capacity f.heap) };
 }
 

@@ -6,7 +6,7 @@ ghost use Rattle.mesh_defs.specs.Triangle.{IsAddress};
 ghost use Rattle.mesh_defs.specs.ClosedSet.{IsLeastClosed, leaves_of};
 ghost use Rattle.least_laws.specs.Sweep.{is_flagged};
 ghost use Rattle.fit_laws.specs.Error.{error_of};
-ghost use Rattle.fit_mesh.specs.Log.{IsGrown};
+ghost use Rattle.fit_mesh.specs.Log.{HasLog};
 ghost use Rattle.fit_mesh.specs.Waiting.{pair_cmp, IsPending, IsWaiting};
 ghost use Rattle.fit_mesh.specs.Grown.{IsNeededBelow, IsBest};
 ghost use Rattle.fit_mesh.specs.Found.{IsFound};
@@ -75,7 +75,7 @@ fn refine(
     requires capacity { 2 * budget ≤ heap_capacity heap.old }
     requires len { heap_len heap.old ≤ 2 }
     requires room { length room.old ≡ 2 ^ (2 * grid.now.n + 1) }
-    requires grown { IsGrown grid.now.n flags.old (take 0 room.old) }
+    requires grown { HasLog grid.now.n flags.old (take 0 room.old) }
     requires waiting { let e = error_of grid.now.n grid.now.heights in
         IsWaiting grid.now.n e (is_flagged flags.old) (heap_items heap.old) }
     requires needed { let e = error_of grid.now.n grid.now.heights in
@@ -84,7 +84,7 @@ fn refine(
         IsBest grid.now.n e tolerance budget first (take 0 room.old) 0 }
     ensures capacity { heap_capacity heap.old ≤ heap_capacity heap.new }
     ensures count { result.count ≤ length room.new }
-    ensures grown { IsGrown grid.now.n flags.new (take result.count room.new) }
+    ensures grown { HasLog grid.now.n flags.new (take result.count room.new) }
     ensures best { let e = error_of grid.now.n grid.now.heights in
         IsBest grid.now.n e tolerance budget result.low (take result.count room.new) result.mark }
     ensures end { let e = error_of grid.now.n grid.now.heights in
@@ -129,7 +129,7 @@ fn push_children(
     log: &[Tri],
     before: usize,
 )
-    requires grown { IsGrown grid.now.n flags.now log.now }
+    requires grown { HasLog grid.now.n flags.now log.now }
     requires place { before ≤ length log.now }
     requires room { heap_len heap.old + 2 * (length log.now - before) ≤ heap_capacity heap.old }
     requires pending { let e = error_of grid.now.n grid.now.heights in

@@ -6,7 +6,7 @@ ghost use Rattle.mesh_defs.specs.ClosedSet.{IsSubset};
 ghost use Rattle.least_laws.specs.Sweep.{is_flagged};
 ghost use Rattle.fit_laws.specs.Error.{error_of};
 ghost use Rattle.fit_laws.specs.Settled.{IsNeeded, IsLeastSettled};
-ghost use Rattle.fit_mesh.specs.Log.{Extends, IsGrown};
+ghost use Rattle.fit_mesh.specs.Log.{Extends, HasLog};
 
 use crate::error::is_worse;
 use crate::force::{clear, force};
@@ -48,14 +48,14 @@ fn ask_pair(
 ) -> usize
     requires room { length room.old ≡ 2 ^ (2 * grid.now.n + 1) }
     requires count { count ≤ length room.old }
-    requires grown { IsGrown grid.now.n flags.old (take count room.old) }
+    requires grown { HasLog grid.now.n flags.old (take count room.old) }
     requires needed { let e = error_of grid.now.n grid.now.heights in
         IsNeeded grid.now.n tolerance e (is_flagged flags.old) }
     requires splittable { IsSplittable grid.now.n t }
     requires member { IsTrue (is_flagged flags.old t) }
     ensures flags { length flags.new ≡ length flags.old }
     ensures count { result ≤ length room.new }
-    ensures grown { IsGrown grid.now.n flags.new (take result room.new) }
+    ensures grown { HasLog grid.now.n flags.new (take result room.new) }
     ensures needed { let e = error_of grid.now.n grid.now.heights in
         IsNeeded grid.now.n tolerance e (is_flagged flags.new) }
     ensures kept { Extends (take count room.old) (take result room.new) }
@@ -80,13 +80,13 @@ fn ask(
     requires address { IsAddress grid.now.n t }
     requires room { length room.old ≡ 2 ^ (2 * grid.now.n + 1) }
     requires count { count ≤ length room.old }
-    requires grown { IsGrown grid.now.n flags.old (take count room.old) }
+    requires grown { HasLog grid.now.n flags.old (take count room.old) }
     requires needed { let e = error_of grid.now.n grid.now.heights in
         IsNeeded grid.now.n tolerance e (is_flagged flags.old) }
     requires parent { 4 ≤ t → IsTrue (is_flagged flags.old (t / 2)) }
     ensures flags { length flags.new ≡ length flags.old }
     ensures count { result ≤ length room.new }
-    ensures grown { IsGrown grid.now.n flags.new (take result room.new) }
+    ensures grown { HasLog grid.now.n flags.new (take result room.new) }
     ensures needed { let e = error_of grid.now.n grid.now.heights in
         IsNeeded grid.now.n tolerance e (is_flagged flags.new) }
     ensures kept { Extends (take count room.old) (take result room.new) }

@@ -11,7 +11,7 @@ use Rattle.edge_laws.proofs.SlotLemmas.{parent_has_children, has_children-set, s
 use Rattle.edge_laws.specs.LeafAcross.{IsGrown}
 use Rattle.edge_laws.proofs.ChainLemmas.{least_step}
 use Rattle.closure_laws.proofs.ForcingLemmas.{with-old, with-new, with-cases}
-use Rattle.force_split.specs.Chain.{IsNext, IsChain, IsLow, IsChained}
+use Rattle.force_split.specs.Chain.{IsNextInChain, IsChain, IsLow, IsChained}
 
 -- ---- the sets along a chain
 
@@ -20,12 +20,12 @@ chained_closed n pairs [] now pool h = (same_closed n (split_set pairs) now (λ 
 chained_closed n pairs (s ∷ rest) now pool h = (h.forced.closed, (λ p m. h.forced.holds p (with-old (split_set pairs) (address_at pairs s) p m)))
 
 -- the parent of the mate is split by then
-pub chained_up : (n : ℕ) (pairs : List ℕ) (s : ℕ) (rest : List ℕ) (mid : ℕ → Bool) → IsNext pairs s rest → IsChained n pairs rest mid → 4 ≤ mate_of (address_at pairs s) →
+pub chained_up : (n : ℕ) (pairs : List ℕ) (s : ℕ) (rest : List ℕ) (mid : ℕ → Bool) → IsNextInChain pairs s rest → IsChained n pairs rest mid → 4 ≤ mate_of (address_at pairs s) →
     mid (mate_of (address_at pairs s) / 2) ≡ true
 chained_up n pairs s [] mid next h deep = h.forced (mate_of (address_at pairs s) / 2) ∙ has_children-set pairs (mate_of (address_at pairs s) / 2) (omega arith) (next (omega arith))
 chained_up n pairs s (t ∷ rest) mid next h deep = ap mid (sym next.1) ∙ h.forced.holds (address_at pairs t) (with-new (split_set pairs) (address_at pairs t))
 
-chained_least : (n : ℕ) (pairs : List ℕ) (s : ℕ) (rest : List ℕ) (mid other : ℕ → Bool) → IsNext pairs s rest → IsChain pairs rest → IsChained n pairs rest mid → IsClosed n other →
+chained_least : (n : ℕ) (pairs : List ℕ) (s : ℕ) (rest : List ℕ) (mid other : ℕ → Bool) → IsNextInChain pairs s rest → IsChain pairs rest → IsChained n pairs rest mid → IsClosed n other →
     IsSubset (split_set pairs) other → (4 ≤ mate_of (address_at pairs s) → other (mate_of (address_at pairs s) / 2) ≡ true) → IsSubset mid other
 chained_least n pairs s [] mid other next chain h closed sub up = λ p m. sub p (sym (h.forced p) ∙ m)
 chained_least n pairs s (t ∷ rest) mid other next chain h closed sub up = h.forced.least other closed
@@ -35,7 +35,7 @@ chained_least n pairs s (t ∷ rest) mid other next chain h closed sub up = h.fo
     ])
 
 -- what the rest of a chain adds is coarser than the first slot's triangle
-low_less : (pairs : List ℕ) (s : ℕ) (rest : List ℕ) (p : ℕ) → HasLeaf pairs s → IsNext pairs s rest → IsChain pairs rest → IsLow pairs rest p → level_of p < level_of (address_at pairs s)
+low_less : (pairs : List ℕ) (s : ℕ) (rest : List ℕ) (p : ℕ) → HasLeaf pairs s → IsNextInChain pairs s rest → IsChain pairs rest → IsLow pairs rest p → level_of p < level_of (address_at pairs s)
 low_less pairs s [] p leaf next chain low = absurd low
 low_less pairs s (t ∷ rest) p leaf next chain low =
     let a : ℕ = address_at pairs s in

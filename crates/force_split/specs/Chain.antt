@@ -10,14 +10,14 @@ use Rattle.triangle_pool.specs.Answer.{AreChildren, IsBorn}
 
 -- What follows a leaf in its chain: the coarser leaf across its base, and nothing where the leaf across is as fine as
 -- itself, or there is none.
-abbrev pub IsNext : List ℕ → ℕ → List ℕ → Type 0
-IsNext pairs s [] = IsMateLive pairs (address_at pairs s)
-IsNext pairs s (t ∷ _) = (1 ≤ mate_of (address_at pairs s)) × (address_at pairs t ≡ mate_of (address_at pairs s) / 2)
+abbrev pub IsNextInChain : List ℕ → ℕ → List ℕ → Type 0
+IsNextInChain pairs s [] = IsMateLive pairs (address_at pairs s)
+IsNextInChain pairs s (t ∷ _) = (1 ≤ mate_of (address_at pairs s)) × (address_at pairs t ≡ mate_of (address_at pairs s) / 2)
 
 -- a chain: leaves, each followed by the one that must be split before it
 abbrev pub IsChain : List ℕ → List ℕ → Type 0
 IsChain pairs [] = Unit {0}
-IsChain pairs (s ∷ rest) = HasLeaf pairs s × (IsNext pairs s rest × IsChain pairs rest)
+IsChain pairs (s ∷ rest) = HasLeaf pairs s × (IsNextInChain pairs s rest × IsChain pairs rest)
 
 -- how many triangles are split where each of these slots is split, with its mate
 abbrev pub chain_size : List ℕ → List ℕ → ℕ

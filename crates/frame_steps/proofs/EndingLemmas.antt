@@ -7,7 +7,7 @@ use Rattle.mesh_defs.proofs.ListLemmas.{IsIn-among, among-in}
 use Rattle.mesh_defs.specs.GridSet.{IsGridSet}
 use Rattle.mesh_defs.specs.Falling.{IsFalling}
 use Rattle.closure_laws.proofs.SetListLemmas.{count-no_more, count-less}
-use Rattle.frame_steps.specs.Steps.{IsSplitStep, IsMergeStep, IsFinished, Run, begin, split, merge}
+use Rattle.frame_steps.specs.Steps.{IsSplitStep, IsMergeStep, IsFinished, StepRun, begin, split, merge}
 use Rattle.frame_steps.proofs.ChosenLemmas.{split_is_chosen}
 use Rattle.frame_steps.proofs.RunLemmas.{split_set, merge_set, split_keeps, split_member, split_leaf_outside, merge_shorter, merge_keeps_chosen}
 use Rattle.frame_steps.proofs.NextLemmas.{splits, merges, ends, next}
@@ -21,7 +21,7 @@ pub record HasEnd (n budget : ℕ) (priority : ℕ → ℕ) (start : List ℕ) :
   pub last : List ℕ
   pub added : ℕ
   pub removed : ℕ
-  pub run : Run n budget priority start last added removed
+  pub run : StepRun n budget priority start last added removed
   pub finished : IsFinished n budget priority last
 
 module _ (n budget : ℕ) (priority : ℕ → ℕ) (ranking : List ℕ) (chosen : ℕ) (best : ℕ → Bool)
@@ -49,8 +49,8 @@ module _ (n budget : ℕ) (priority : ℕ → ℕ) (ranking : List ℕ) (chosen 
       (merge_keeps_chosen n budget priority ranking chosen best ranked falling closure before after set step c (among-in c (take chosen ranking) i) is))))
 
   ends_by_size : (size misses : ℕ) → 2 ≤ budget →
-      ((start now : List ℕ) (added removed : ℕ) → Run n budget priority start now added removed → IsGridSet n now → missing (take chosen ranking) now < misses → HasEnd n budget priority start) →
-      (start now : List ℕ) (added removed : ℕ) → Run n budget priority start now added removed → IsGridSet n now → missing (take chosen ranking) now ≤ misses → length now < size →
+      ((start now : List ℕ) (added removed : ℕ) → StepRun n budget priority start now added removed → IsGridSet n now → missing (take chosen ranking) now < misses → HasEnd n budget priority start) →
+      (start now : List ℕ) (added removed : ℕ) → StepRun n budget priority start now added removed → IsGridSet n now → missing (take chosen ranking) now ≤ misses → length now < size →
       HasEnd n budget priority start
   ends_by_size zero misses low fewer start now added removed run set most short = absurd (omega arith)
   ends_by_size (suc size) misses low fewer start now added removed run set most short =
@@ -68,7 +68,7 @@ module _ (n budget : ℕ) (priority : ℕ → ℕ) (ranking : List ℕ) (chosen 
       ]
 
   ends_by_missing : (misses : ℕ) → 2 ≤ budget →
-      (start now : List ℕ) (added removed : ℕ) → Run n budget priority start now added removed → IsGridSet n now → missing (take chosen ranking) now < misses → HasEnd n budget priority start
+      (start now : List ℕ) (added removed : ℕ) → StepRun n budget priority start now added removed → IsGridSet n now → missing (take chosen ranking) now < misses → HasEnd n budget priority start
   ends_by_missing zero low start now added removed run set most = absurd (omega arith)
   ends_by_missing (suc misses) low start now added removed run set most =
       ends_by_size (suc (length now)) misses low (ends_by_missing misses low) start now added removed run set (omega arith) (omega arith)

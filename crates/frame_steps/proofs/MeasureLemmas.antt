@@ -5,7 +5,7 @@ use Rattle.closure_laws.proofs.RankingLemmas.{ranking_of, IsRanking-of}
 use Rattle.mesh_defs.specs.GridSet.{IsGridSet}
 use Rattle.mesh_defs.specs.Falling.{IsFalling}
 use Rattle.closure_laws.proofs.SizeLemmas.{length-members}
-use Rattle.frame_steps.specs.Steps.{IsSplitStep, IsMergeStep, Run}
+use Rattle.frame_steps.specs.Steps.{IsSplitStep, IsMergeStep, StepRun}
 use Rattle.frame_steps.proofs.RunLemmas.{split_set, merge_shorter, run_set, run_size, run_removed}
 use Rattle.frame_steps.proofs.EndingLemmas.{missing, split_misses_less, merge_misses_same}
 use Rattle.closure_laws.proofs.ExistenceLemmas.{rank_closure_of}
@@ -45,7 +45,7 @@ module _ (n budget : ℕ) (priority : ℕ → ℕ) (falling : IsFalling n priori
       omega arith
 
   -- the counts of a run fit 32 bits
-  pub run_small : (start last : List ℕ) (added removed : ℕ) → IsGridSet n start → Run n budget priority start last added removed →
+  pub run_small : (start last : List ℕ) (added removed : ℕ) → IsGridSet n start → StepRun n budget priority start last added removed →
       (added ≤ 2 ^ 25) × (removed ≤ 2 ^ 24)
   run_small start last added removed set run =
       let c = closure_of_chosen n budget priority low in

@@ -9,7 +9,7 @@ use Rattle.tiling_laws.proofs.DescentLemmas.{IsAddress-splittable}
 use Rattle.mesh_defs.specs.GridSet.{IsAscending, IsGridSet}
 use Rattle.mesh_defs.specs.Falling.{IsFalling}
 use Rattle.closure_laws.proofs.ForcingLemmas.{with-old, with-new}
-use Rattle.frame_steps.specs.Steps.{IsSplitStep, IsMergeStep, Run, begin, split, merge, HoldsChosen, AreLoose}
+use Rattle.frame_steps.specs.Steps.{IsSplitStep, IsMergeStep, StepRun, begin, split, merge, HoldsChosen, AreLoose}
 use Rattle.closure_laws.proofs.SetListLemmas.{among-filter, filter-among, ascending-filter, length-parts, length-subset, length-less}
 use Rattle.closure_laws.proofs.DiamondLemmas.{diamond_symmetric, diamond_closed, leaf_outside, without_diamond-closed}
 use Rattle.closure_laws.proofs.ChangeLemmas.{forced_subset, union_closed}
@@ -58,13 +58,13 @@ module _ (n budget : ℕ) (priority : ℕ → ℕ) where
   -- what a run keeps
 
   -- it goes through closed sets
-  pub run_set : (start last : List ℕ) (added removed : ℕ) → IsGridSet n start → Run n budget priority start last added removed → IsGridSet n last
+  pub run_set : (start last : List ℕ) (added removed : ℕ) → IsGridSet n start → StepRun n budget priority start last added removed → IsGridSet n last
   run_set start last added removed set begin = set
   run_set start _ added removed set (split before after a r run step) = split_set before after (run_set start before a r set run) step
   run_set start _ added removed set (merge before after a r run step) = merge_set before after (run_set start before a r set run) step
 
   -- added less removed is the change of size
-  pub run_size : (start last : List ℕ) (added removed : ℕ) → IsGridSet n start → Run n budget priority start last added removed →
+  pub run_size : (start last : List ℕ) (added removed : ℕ) → IsGridSet n start → StepRun n budget priority start last added removed →
       length start + added ≡ length last + removed
   run_size start last added removed set begin = refl
   run_size start _ added removed set (split before after a r run step) =
@@ -77,7 +77,7 @@ module _ (n budget : ℕ) (priority : ℕ → ℕ) (ranking : List ℕ) (chosen 
   -- no needless change
 
   -- a run from within the rank closure stays there and merges nothing
-  pub run_inside : (start last : List ℕ) (added removed : ℕ) → IsGridSet n start → IsSubset (among start) best → Run n budget priority start last added removed →
+  pub run_inside : (start last : List ℕ) (added removed : ℕ) → IsGridSet n start → IsSubset (among start) best → StepRun n budget priority start last added removed →
       IsSubset (among last) best × (removed ≡ 0)
   run_inside start last added removed set sub begin = (sub, refl)
   run_inside start _ added removed set sub (split before after a r run step) =
@@ -102,7 +102,7 @@ module _ (n budget : ℕ) (priority : ℕ → ℕ) (ranking : List ℕ) (chosen 
 
   -- a run from around the chosen triangles keeps them and splits nothing
   pub run_outside : (start last : List ℕ) (added removed : ℕ) → IsGridSet n start → IsSubset (among (take chosen ranking)) (among start) →
-      Run n budget priority start last added removed → IsSubset (among (take chosen ranking)) (among last) × (added ≡ 0)
+      StepRun n budget priority start last added removed → IsSubset (among (take chosen ranking)) (among last) × (added ≡ 0)
   run_outside start last added removed set all begin = (all, refl)
   run_outside start _ added removed set all (split before after a r run step) =
       let rest = run_outside start before a r set all run in
@@ -191,7 +191,7 @@ module _ (n budget : ℕ) (priority : ℕ → ℕ) (ranking : List ℕ) (chosen 
         (cases_Bool (among before a));
   }
 
-  run_leftover : (most : ℕ) (start last : List ℕ) (added removed : ℕ) → IsGridSet n start → Leftover most start 0 → Run n budget priority start last added removed →
+  run_leftover : (most : ℕ) (start last : List ℕ) (added removed : ℕ) → IsGridSet n start → Leftover most start 0 → StepRun n budget priority start last added removed →
       Leftover most last removed
   run_leftover most start last added removed set l begin = l
   run_leftover most start _ added removed set l (split before after a r run step) =
@@ -201,7 +201,7 @@ module _ (n budget : ℕ) (priority : ℕ → ℕ) (ranking : List ℕ) (chosen 
 
   -- no more is merged than the members whose diamond holds no chosen triangle
   pub run_bound : (start last loose : List ℕ) (added removed : ℕ) → IsGridSet n start → AreLoose n ranking chosen start loose →
-      Run n budget priority start last added removed → removed ≤ length loose
+      StepRun n budget priority start last added removed → removed ≤ length loose
   run_bound start last loose added removed set o run =
       let l = run_leftover (length loose) start last added removed set record {
         left = loose;
@@ -221,7 +221,7 @@ module _ (n budget : ℕ) (priority : ℕ → ℕ) (ranking : List ℕ) (chosen 
       let count = l.count in omega arith
 
   -- and no more than there was
-  pub run_removed : (start last : List ℕ) (added removed : ℕ) → IsGridSet n start → Run n budget priority start last added removed → removed ≤ length start
+  pub run_removed : (start last : List ℕ) (added removed : ℕ) → IsGridSet n start → StepRun n budget priority start last added removed → removed ≤ length start
   run_removed start last added removed set run =
       let l = run_leftover (length start) start last added removed set record {
         left = start;

@@ -7,7 +7,7 @@ use Rattle.closure_laws.proofs.OrderLemmas.{before-no_later, no_later_back}
 use Rattle.closure_laws.proofs.ChangeLemmas.{one_forced, one_without_diamond}
 use Rattle.frame_steps.specs.Lead.{IsLastLead}
 use Rattle.closure_laws.proofs.FirstLeafLemmas.{first_not_zero, one_first}
-use Rattle.frame_steps.specs.Steps.{leaf_count, DoesNotFit, IsSplitStep, MustMerge, too_many, makes_room, needless, IsMergeStep, IsFinished, blocked, all_split, Run, begin, split, merge}
+use Rattle.frame_steps.specs.Steps.{leaf_count, DoesNotFit, IsSplitStep, MustMerge, too_many, makes_room, needless, IsMergeStep, IsFinished, blocked, all_split, StepRun, begin, split, merge}
 
 module _ (n : ℕ) (priority : ℕ → ℕ) where
   -- one last diamond in rank
@@ -65,7 +65,7 @@ module _ (n budget : ℕ) (priority : ℕ → ℕ) where
     merging : (s t : List ℕ) (added removed : ℕ) → IsMergeStep n budget priority s t → Rest last t added removed → Rest last s added (length s - length t + removed)
 
   -- a run, told from its beginning
-  rest_of : (s t last : List ℕ) (x y a b : ℕ) → Run n budget priority s t x y → Rest last t a b → Rest last s (x + a) (y + b)
+  rest_of : (s t last : List ℕ) (x y a b : ℕ) → StepRun n budget priority s t x y → Rest last t a b → Rest last s (x + a) (y + b)
   rest_of s t last x y a b begin r = subst (λ z. Rest last s (0 + a) z) (let e : b ≡ 0 + b = omega arith in e) (subst (λ z. Rest last s z b) (let e : a ≡ 0 + a = omega arith in e) r)
   rest_of s _ last x y a b (split t u c d h m) r =
       let e : c + (length u - length t + a) ≡ c + (length u - length t) + a = omega arith in
@@ -102,8 +102,8 @@ module _ (n budget : ℕ) (priority : ℕ → ℕ) where
       (rest.0, rest.1, omega (arith, rest.2))
 
   -- two whole runs from a set end at one set, with the same counts
-  pub one_run : (start last other : List ℕ) (a b c d : ℕ) → Run n budget priority start last a b → IsFinished n budget priority last →
-      Run n budget priority start other c d → IsFinished n budget priority other → (last ≡ other) × (a ≡ c) × (b ≡ d)
+  pub one_run : (start last other : List ℕ) (a b c d : ℕ) → StepRun n budget priority start last a b → IsFinished n budget priority last →
+      StepRun n budget priority start other c d → IsFinished n budget priority other → (last ≡ other) × (a ≡ c) × (b ≡ d)
   one_run start last other a b c d run finished run_too finished_too =
       let r = one_rest last other start start (a + 0) (b + 0) (c + 0) (d + 0) refl
       (rest_of start last last a b 0 0 run (over finished)) (rest_of start other other c d 0 0 run_too (over finished_too)) in

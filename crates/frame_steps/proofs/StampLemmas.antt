@@ -5,15 +5,15 @@ use Rattle.mesh_defs.specs.Ranking.{IsRanking, IsRankClosure}
 use Rattle.mesh_defs.specs.GridSet.{IsGridSet}
 use Rattle.mesh_defs.specs.Falling.{IsFalling}
 use Rattle.frame_steps.specs.Deferred.{DeferredFrame, IsDeferredFrame}
-use Rattle.frame_steps.specs.Stamps.{Stamp, Readings, is_due, counted_stamp, HasStamps, IsBetween, StampsHold, ReadingsHold}
+use Rattle.frame_steps.specs.Stamps.{Stamp, Readings, is_due, counted_stamp, HasStamps, IsInStamp, StampsHold, ReadingsHold}
 
 -- the stamp by which an entry counts has the priority between its ranks
 pub counted_between : (n : ℕ) (priority : ℕ → ℕ) (readings : Readings) (odometer : ℕ) (stamps : ℕ → Option Stamp) →
     StampsHold priority odometer stamps → ReadingsHold n priority odometer readings → (a : ℕ) → IsAddress n a →
-    IsBetween (counted_stamp readings odometer stamps a) (priority a)
+    IsInStamp (counted_stamp readings odometer stamps a) (priority a)
 counted_between n priority readings odometer stamps hold now a address = by_case (is_due odometer (stamps a)) (stamps a) refl refl
   where
-    by_case : (due : Bool) (stamp : Option Stamp) → is_due odometer (stamps a) ≡ due → stamps a ≡ stamp → IsBetween (counted_stamp readings odometer stamps a) (priority a)
+    by_case : (due : Bool) (stamp : Option Stamp) → is_due odometer (stamps a) ≡ due → stamps a ≡ stamp → IsInStamp (counted_stamp readings odometer stamps a) (priority a)
     by_case true stamp is_so has = rw (is_so) (now a address)
     by_case false None is_so has = rw (is_so, has) (now a address)
     by_case false (Some stamp) is_so has = rw (is_so, has) (hold a stamp has is_so)

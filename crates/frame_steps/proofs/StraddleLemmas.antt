@@ -13,7 +13,7 @@ use Rattle.closure_laws.specs.Order.{IsNoLater, RanksNoLater}
 use Rattle.closure_laws.specs.Diamond.{IsInDiamond}
 use Rattle.closure_laws.proofs.OrderLemmas.{before-no_later, no_later_from, no_later_trans, no_later_before, ranks_no_later}
 use Rattle.closure_laws.proofs.FirstLeafLemmas.{first_leaf_or_none, leaf_above, exceeds}
-use Rattle.frame_steps.specs.Steps.{leaf_count, IsMergeStep, Run, begin, split, merge}
+use Rattle.frame_steps.specs.Steps.{leaf_count, IsMergeStep, StepRun, begin, split, merge}
 use Rattle.frame_steps.specs.Deferred.{IsMergedInRun, LeafStraddles, DiamondStraddles, after_first, after_merged, DeferredFrame, IsDeferredFrame}
 use Rattle.closure_laws.proofs.DiamondLemmas.{diamond_test, leaf_outside}
 use Rattle.frame_steps.proofs.LeadLemmas.{lead_first}
@@ -71,7 +71,7 @@ module _ (w : DeferredFrame) (is : IsDeferredFrame w) where
   floor_down a b (by_merged d h l) k = by_merged d h (no_later_trans l k)
 
   -- no leaf of positive priority that a run comes to is above all of these
-  pub run_floor : (members : List ℕ) (added removed : ℕ) → Run w.n w.budget w.priority w.start members added removed →
+  pub run_floor : (members : List ℕ) (added removed : ℕ) → StepRun w.n w.budget w.priority w.start members added removed →
       (a : ℕ) → Contains (leaves_of w.n (among members)) a → 0 < w.priority a → Floor a
   run_floor members added removed begin a leaf some = ⊎_elim
       (λ (f : (f : ℕ) × IsFirstLeaf w.n w.priority (among w.start) f). by_first f.0 f.1 (ranks_no_later w.priority (⊎_elim
@@ -102,7 +102,7 @@ module _ (w : DeferredFrame) (is : IsDeferredFrame w) where
       (cases_Bool (t.0 a))
 
   -- a diamond whose lower bounds come after the first leaf in rank straddles
-  pub asked_diamond : (members : List ℕ) (added removed : ℕ) → Run w.n w.budget w.priority w.start members added removed →
+  pub asked_diamond : (members : List ℕ) (added removed : ℕ) → StepRun w.n w.budget w.priority w.start members added removed →
       (f : ℕ) → IsFirstLeaf w.n w.priority (among members) f → (lower : ℕ → ℕ) (a : ℕ) →
       ((b : ℕ) → IsInDiamond w.n a b → IsBefore (w.priority f) f (lower b) b) → DiamondStraddles w.n w.budget w.priority w.start lower a
   asked_diamond members added removed run f first lower a after =
@@ -112,7 +112,7 @@ module _ (w : DeferredFrame) (is : IsDeferredFrame w) where
       ]
 
   -- and so does one whose lower bounds come no earlier than the diamond that is then merged
-  pub asked_over : (members : List ℕ) (added removed : ℕ) (after : List ℕ) → Run w.n w.budget w.priority w.start members added removed →
+  pub asked_over : (members : List ℕ) (added removed : ℕ) (after : List ℕ) → StepRun w.n w.budget w.priority w.start members added removed →
       (step : IsMergeStep w.n w.budget w.priority members after) → (lower : ℕ → ℕ) (a : ℕ) →
       ((b : ℕ) → IsInDiamond w.n a b → IsNoLater (w.priority step.diamond) step.diamond (lower b) b) → DiamondStraddles w.n w.budget w.priority w.start lower a
   asked_over members added removed after run step lower a h =

@@ -11,7 +11,7 @@ use Rattle.mesh_defs.specs.GridSet.{IsGridSet}
 use Rattle.mesh_defs.specs.Falling.{IsFalling}
 use Rattle.closure_laws.specs.Order.{IsNoLater}
 use Rattle.closure_laws.specs.Diamond.{IsInDiamond, CanMerge}
-use Rattle.frame_steps.specs.Steps.{IsMergeStep, Run}
+use Rattle.frame_steps.specs.Steps.{IsMergeStep, StepRun}
 
 -- an entry of the queues of a set: a leaf, or a triangle of a diamond that can be merged
 pub data IsEntry (n : ℕ) (has : ℕ → Bool) (a : ℕ) : Type 0 where
@@ -24,7 +24,7 @@ pub record IsMergedInRun (n budget : ℕ) (priority : ℕ → ℕ) (start : List
   pub after : List ℕ
   pub added : ℕ
   pub removed : ℕ
-  pub run : Run n budget priority start before added removed
+  pub run : StepRun n budget priority start before added removed
   pub step : IsMergeStep n budget priority before after
   pub lead : step.diamond ≡ d
 

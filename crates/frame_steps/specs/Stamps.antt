@@ -1,7 +1,7 @@
 -- Stamps: the bounds that an entry keeps from the frame in which it was read, and how long they hold.
 -- Source: Duchaineau et al., "ROAMing Terrain", IEEE Visualization 1997, the part on deferred priority lists. That time is
 -- the way that the camera went, and that an edit expires stamps, is this project's own.
--- Words: Stamp, Readings, is_due, stamp_now, counted_stamp, HasStamps, IsBetween, StampsHold,
+-- Words: Stamp, Readings, is_due, stamp_now, counted_stamp, HasStamps, IsInStamp, StampsHold,
 -- ReadingsHold.
 use Rattle.std.specs.Prelude.{◌≡◌, ℕ, ◌+◌, ◌≤◌, Bool, true, false, ◌||◌, nat_lt, Option, None, Some}
 use Rattle.mesh_defs.specs.Triangle.{IsAddress}
@@ -47,16 +47,16 @@ pub record HasStamps (w : DeferredFrame) (readings : Readings) (odometer : ℕ) 
   pub lower : (a : ℕ) → w.lower a ≡ (counted_stamp readings odometer stamps a).lower
 
 -- a priority lies between the ranks of a stamp
-pub record IsBetween (stamp : Stamp) (priority : ℕ) : Type 0 where
+pub record IsInStamp (stamp : Stamp) (priority : ℕ) : Type 0 where
   pub below : stamp.lower ≤ priority
   pub above : priority ≤ stamp.upper
 
 -- each stamp that is not due has the priority between its ranks
 abbrev pub StampsHold : (ℕ → ℕ) → ℕ → (ℕ → Option Stamp) → Type 0
 StampsHold priority odometer stamps =
-    (a : ℕ) (stamp : Stamp) → stamps a ≡ Some stamp → is_due odometer (stamps a) ≡ false → IsBetween stamp (priority a)
+    (a : ℕ) (stamp : Stamp) → stamps a ≡ Some stamp → is_due odometer (stamps a) ≡ false → IsInStamp stamp (priority a)
 
 -- and so does each stamp that is taken now, of an address of this grid
 abbrev pub ReadingsHold : ℕ → (ℕ → ℕ) → ℕ → Readings → Type 0
 ReadingsHold n priority odometer readings =
-    (a : ℕ) → IsAddress n a → IsBetween (stamp_now readings odometer a) (priority a)
+    (a : ℕ) → IsAddress n a → IsInStamp (stamp_now readings odometer a) (priority a)

@@ -2,7 +2,7 @@
 -- Source: the dual-queue algorithm of Duchaineau et al., "ROAMing Terrain", IEEE Visualization 1997, the parts on
 -- the two queues; that a merge for room is made only where the merged diamond ranks later than what is split, and
 -- that diamonds of priority 0 are merged at the end, are this project's own.
--- Words: leaf_count, DoesNotFit, IsSplitStep, MustMerge, IsMergeStep, IsFinished, Run, HoldsChosen, AreLoose, IsFrameRun.
+-- Words: leaf_count, DoesNotFit, IsSplitStep, MustMerge, IsMergeStep, IsFinished, StepRun, HoldsChosen, AreLoose, IsFrameRun.
 use Rattle.std.specs.Prelude.{◌≡◌, ℕ, ◌+◌, ◌-◌, ◌<◌, ◌≤◌, ◌↔◌, IsTrue, List, length, take, All}
 use Rattle.mesh_defs.specs.ClosedSet.{leaves_of, among}
 use Rattle.mesh_defs.specs.Ranking.{RanksBefore}
@@ -56,12 +56,12 @@ pub data IsFinished (n budget : ℕ) (priority : ℕ → ℕ) (members : List �
 
 -- Steps from start to another set, with the numbers of addresses that they added and took away: counts of the steps, and
 -- not of the difference of the two sets, since a diamond may be merged and come back by force.
-pub data Run (n budget : ℕ) (priority : ℕ → ℕ) (start : List ℕ) : List ℕ → ℕ → ℕ → Type 0 where
-  begin : Run n budget priority start start 0 0
-  split : (before after : List ℕ) (added removed : ℕ) → Run n budget priority start before added removed →
-      IsSplitStep n budget priority before after → Run n budget priority start after (added + (length after - length before)) removed
-  merge : (before after : List ℕ) (added removed : ℕ) → Run n budget priority start before added removed →
-      IsMergeStep n budget priority before after → Run n budget priority start after added (removed + (length before - length after))
+pub data StepRun (n budget : ℕ) (priority : ℕ → ℕ) (start : List ℕ) : List ℕ → ℕ → ℕ → Type 0 where
+  begin : StepRun n budget priority start start 0 0
+  split : (before after : List ℕ) (added removed : ℕ) → StepRun n budget priority start before added removed →
+      IsSplitStep n budget priority before after → StepRun n budget priority start after (added + (length after - length before)) removed
+  merge : (before after : List ℕ) (added removed : ℕ) → StepRun n budget priority start before added removed →
+      IsMergeStep n budget priority before after → StepRun n budget priority start after added (removed + (length before - length after))
 
 -- the diamond of a holds one of the chosen triangles
 pub record HoldsChosen (n : ℕ) (ranking : List ℕ) (chosen a : ℕ) : Type 0 where
@@ -76,5 +76,5 @@ pub record AreLoose (n : ℕ) (ranking : List ℕ) (chosen : ℕ) (members loose
 
 -- A frame's run: from start by steps to a set that has no next one, with all that it added and took away.
 pub record IsFrameRun (n budget : ℕ) (priority : ℕ → ℕ) (start last : List ℕ) (added removed : ℕ) : Type 0 where
-  pub run : Run n budget priority start last added removed
+  pub run : StepRun n budget priority start last added removed
   pub finished : IsFinished n budget priority last

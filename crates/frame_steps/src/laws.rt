@@ -11,7 +11,7 @@ ghost use Rattle.closure_laws.specs.Diamond.{IsInDiamond};
 ghost use Rattle.bintree_addr.specs.declared.blocked.Blocked.{Blocked};
 ghost use Rattle.closure_laws.specs.Frame.{IsFrame};
 ghost use Rattle.frame_steps.specs.Lead.{IsLead};
-ghost use Rattle.frame_steps.specs.Steps.{leaf_count, IsSplitStep, IsMergeStep, IsFinished, Run, HoldsChosen, AreLoose, IsFrameRun};
+ghost use Rattle.frame_steps.specs.Steps.{leaf_count, IsSplitStep, IsMergeStep, IsFinished, StepRun, HoldsChosen, AreLoose, IsFrameRun};
 ghost use Rattle.frame_steps.specs.Deferred.{LeafStraddles, DiamondStraddles, DeferredFrame, IsDeferredFrame};
 ghost use Rattle.frame_steps.specs.Keys.{upper_key, lower_key, IsLastKey};
 ghost use Rattle.frame_steps.specs.Stamps.{Stamp, Readings, HasStamps, StampsHold, ReadingsHold};
@@ -87,10 +87,10 @@ pub fn loop_laws()
         (IsSplitStep n budget priority before after ⊎ IsMergeStep n budget priority before after) →
         steps_left after < steps_left before)) }
     ensures splits { (n budget : ℕ) (priority : ℕ → ℕ) (start last : List ℕ) (added removed : ℕ) →
-        IsFalling n priority → 2 ≤ budget → IsGridSet n start → Run n budget priority start last added removed →
+        IsFalling n priority → 2 ≤ budget → IsGridSet n start → StepRun n budget priority start last added removed →
         added ≤ 2 * MOST_MEMBERS }
     ensures merges { (n budget : ℕ) (priority : ℕ → ℕ) (start last : List ℕ) (added removed : ℕ) →
-        IsFalling n priority → 2 ≤ budget → IsGridSet n start → Run n budget priority start last added removed →
+        IsFalling n priority → 2 ≤ budget → IsGridSet n start → StepRun n budget priority start last added removed →
         removed ≤ MOST_MEMBERS }
 {}
 
@@ -106,12 +106,12 @@ pub fn straddling_laws()
         ((l : ℕ) → Contains (leaves_of w.n (among members)) l → IsNoLater (key a) a (key l) l) → 0 < key a →
         LeafStraddles w.priority w.ranking w.chosen key a }
     ensures room { (w : DeferredFrame) → IsDeferredFrame w → (members : List ℕ) (added removed : ℕ) →
-        Run w.n w.budget w.priority w.start members added removed →
+        StepRun w.n w.budget w.priority w.start members added removed →
         (f : ℕ) → IsFirstLeaf w.n w.priority (among members) f → (lower : ℕ → ℕ) (a : ℕ) →
         ((b : ℕ) → IsInDiamond w.n a b → IsBefore (w.priority f) f (lower b) b) →
         DiamondStraddles w.n w.budget w.priority w.start lower a }
     ensures over { (w : DeferredFrame) → IsDeferredFrame w → (members : List ℕ) (added removed : ℕ) (after : List ℕ) →
-        Run w.n w.budget w.priority w.start members added removed →
+        StepRun w.n w.budget w.priority w.start members added removed →
         (step : IsMergeStep w.n w.budget w.priority members after) → (lower : ℕ → ℕ) (a : ℕ) →
         ((b : ℕ) → IsInDiamond w.n a b → IsNoLater (w.priority step.diamond) step.diamond (lower b) b) →
         DiamondStraddles w.n w.budget w.priority w.start lower a }

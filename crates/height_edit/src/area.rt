@@ -7,7 +7,7 @@ ghost use Rattle.mesh_defs.specs.BoundingBox.{box_of};
 ghost use Rattle.mesh_defs.specs.State.{raised_heights};
 ghost use Rattle.mesh_defs.specs.declared.level.TheConstants.{GREATEST_LEVEL};
 ghost use Rattle.bintree_laws.specs.Areas.{MeetsArea};
-ghost use Rattle.wedgie_tree.specs.Edits.{area_of};
+ghost use Rattle.wedgie_tree.specs.Edits.{area_between};
 
 use bintree_addr::Tri;
 use bintree_laws::{corner_laws, level_laws};
@@ -22,7 +22,7 @@ pub fn meets(t: Tri, n: u32, x0: u32, y0: u32, x1: u32, y1: u32) -> bool
     requires level { level_of t ≤ 2 * n }
     requires columns { x0 ≤ x1 }
     requires rows { y0 ≤ y1 }
-    ensures { IsTrue result ↔ MeetsArea (corners_of n t) (area_of x0 y0 x1 y1) }
+    ensures { IsTrue result ↔ MeetsArea (corners_of n t) (area_between x0 y0 x1 y1) }
 {
     Area::new(x0, y0, x1, y1).meets(t.corners(n))
 }
@@ -39,13 +39,13 @@ pub fn raise_area(wedges: &mut Wedges, x0: u32, y0: u32, x1: u32, y1: u32, dz: i
     requires at_least { negsuc 65534 ≤ℤ dz }
     requires at_most { dz ≤ℤ pos 65535 }
     ensures value { wedges.new
-        ≡ record wedges.old { heights = raised_heights wedges.old (area_of x0 y0 x1 y1) dz } }
+        ≡ record wedges.old { heights = raised_heights wedges.old (area_between x0 y0 x1 y1) dz } }
     // A triangle that does not meet the area keeps its thickness and its box.
     ensures same_thickness { (a : ℕ) → IsAddress wedges.old.n a
-        → (MeetsArea (corners_of wedges.old.n a) (area_of x0 y0 x1 y1) → ⊥)
+        → (MeetsArea (corners_of wedges.old.n a) (area_between x0 y0 x1 y1) → ⊥)
         → thickness_of wedges.old.n wedges.new.heights a ≡ thickness_of wedges.old.n wedges.old.heights a }
     ensures same_box { (a spacing : ℕ) → IsAddress wedges.old.n a
-        → (MeetsArea (corners_of wedges.old.n a) (area_of x0 y0 x1 y1) → ⊥)
+        → (MeetsArea (corners_of wedges.old.n a) (area_between x0 y0 x1 y1) → ⊥)
         → box_of wedges.old.n wedges.new.heights spacing a ≡ box_of wedges.old.n wedges.old.heights spacing a }
 {
     corner_laws();

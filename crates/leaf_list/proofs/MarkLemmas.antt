@@ -8,7 +8,7 @@ use Rattle.tiling_laws.proofs.ConformityLemmas.{IsUnder, self, below}
 use Rattle.closure_laws.proofs.SizeLemmas.{under-true, true-under}
 use Rattle.leaf_list.specs.Below.{is_at_or_below}
 use Rattle.leaf_list.specs.List.{IsCovered}
-use Rattle.leaf_list.specs.Walk.{WalkState, AreUntouched, IsMarked}
+use Rattle.leaf_list.specs.Walk.{WalkState, AreUntouched, IsPathMarked}
 
 -- a mark is set, and others stay
 pub set_here : (xs : List Bool) (s : ℕ) → get_or (set xs s true) s true ≡ true
@@ -36,7 +36,7 @@ above_cases v t (below x deep under) = inr (deep, under)
 
 -- a mark at a half of the square
 pub marked_half : (n : ℕ) (pairs : List ℕ) (t s : ℕ) (before : List Bool) → IsPool n pairs → t < 4 → IsLive pairs s → address_at pairs s ≡ t →
-    IsMarked pairs t before (set before s true)
+    IsPathMarked pairs t before (set before s true)
 marked_half n pairs t s before pool half live is = record {
   grows = λ r marked. set_stays before s r marked;
   above = λ r other under. ⊎_elim
@@ -47,7 +47,7 @@ marked_half n pairs t s before pool half live is = record {
 
 -- a mark at a child, after those of its parent
 pub marked_child : (n : ℕ) (pairs : List ℕ) (t s : ℕ) (before middle : List Bool) → IsPool n pairs → 4 ≤ t → address_at pairs s ≡ t →
-    IsMarked pairs (t / 2) before middle → IsMarked pairs t before (set middle s true)
+    IsPathMarked pairs (t / 2) before middle → IsPathMarked pairs t before (set middle s true)
 marked_child n pairs t s before middle pool deep is parent = record {
   grows = λ r marked. set_stays middle s r (parent.grows r marked);
   above = λ r other under. ⊎_elim
@@ -58,7 +58,7 @@ marked_child n pairs t s before middle pool deep is parent = record {
 
 -- the marks of the parent, where the triangle is not live
 pub marked_absent : (pairs : List ℕ) (t : ℕ) (before after : List Bool) → ((r : ℕ) → address_at pairs r ≡ t → ⊥) →
-    IsMarked pairs (t / 2) before after → IsMarked pairs t before after
+    IsPathMarked pairs (t / 2) before after → IsPathMarked pairs t before after
 marked_absent pairs t before after absent parent = record {
   grows = parent.grows;
   above = λ r other under. ⊎_elim
@@ -85,13 +85,13 @@ deep_by t half = ⊎_elim (λ low. absurd (true≢false (half low))) (λ deep. d
 
 -- the marks after the child's step
 pub marked_by : (n : ℕ) (pairs : List ℕ) (t : ℕ) (w middle after : WalkState) (found : Option Slot) → IsPool n pairs → 4 ≤ t →
-    IsMarked pairs (t / 2) w.touched middle.touched →
+    IsPathMarked pairs (t / 2) w.touched middle.touched →
     IfSome found (λ r. (address_at pairs r.0 ≡ t) × (after ≡ record middle { touched = set middle.touched r.0 true })) →
-    (IsNone found → (r : ℕ) → address_at pairs r ≡ t → ⊥) → (IsNone found → after ≡ middle) → IsMarked pairs t w.touched after.touched
+    (IsNone found → (r : ℕ) → address_at pairs r ≡ t → ⊥) → (IsNone found → after ≡ middle) → IsPathMarked pairs t w.touched after.touched
 marked_by n pairs t w middle after None pool deep parent there absent same =
-    subst (λ (z : WalkState). IsMarked pairs t w.touched z.touched) (sym (same refl)) (marked_absent pairs t w.touched middle.touched (absent refl) parent)
+    subst (λ (z : WalkState). IsPathMarked pairs t w.touched z.touched) (sym (same refl)) (marked_absent pairs t w.touched middle.touched (absent refl) parent)
 marked_by n pairs t w middle after (Some r) pool deep parent there absent same =
-    subst (λ (z : WalkState). IsMarked pairs t w.touched z.touched) (sym there.1) (marked_child n pairs t r.0 w.touched middle.touched pool deep there.0 parent)
+    subst (λ (z : WalkState). IsPathMarked pairs t w.touched z.touched) (sym there.1) (marked_child n pairs t r.0 w.touched middle.touched pool deep there.0 parent)
 
 -- where what is above each triangle of a list has marks, what has none has not changed
 pub untouched_by : (pairs changed : List ℕ) (touched : List Bool) (before : ℕ → Bool) → IsCovered before (split_set pairs) changed →

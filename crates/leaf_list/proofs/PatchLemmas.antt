@@ -12,7 +12,7 @@ use Rattle.closure_laws.proofs.SizeLemmas.{true-under}
 use Rattle.leaf_list.specs.Order.{run_length, begins_with}
 use Rattle.leaf_list.specs.Below.{is_at_or_below}
 use Rattle.leaf_list.specs.Change.{alone, IsChange}
-use Rattle.leaf_list.specs.Walk.{WalkState, AreUntouched, IsReady, IsPatched, IsBegun}
+use Rattle.leaf_list.specs.Walk.{WalkState, AreUntouched, IsReady, IsPatched, IsWalkBegun}
 use Rattle.leaf_list.proofs.SlotLemmas.{leaves_halves}
 use Rattle.leaf_list.proofs.OrderLemmas.{AreHalved, halved, run-own, run-behind, run-end, begins-in}
 use Rattle.leaf_list.proofs.UnderLemmas.{leaves-some, leaves-within, leaves-above, leaves-same, leaves-apart, halves-apart, halves_meet, leaves-shared}
@@ -242,7 +242,7 @@ module _ (pairs : List ℕ) (touched : List Bool) (levels t : ℕ) (w : WalkStat
 
 -- the whole
 
-module _ (n : ℕ) (pairs : List ℕ) (levels : ℕ) (w : WalkState) (few : n ≤ 11) (all : levels ≡ 2 * n) (begun : IsBegun n pairs w) where
+module _ (n : ℕ) (pairs : List ℕ) (levels : ℕ) (w : WalkState) (few : n ≤ 11) (all : levels ≡ 2 * n) (begun : IsWalkBegun n pairs w) where
   abbrev was : ℕ → List ℕ
   was a = leaves_under levels begun.before a
 

@@ -1,5 +1,5 @@
 -- A list of leaves in the middle of a patch. This project's own.
--- Words: WalkState, IsRoomy, AreUntouched, IsReady, IsPatched, IsMarked, IsBegun.
+-- Words: WalkState, IsRoomy, AreUntouched, IsReady, IsPatched, IsPathMarked, IsWalkBegun.
 use Rattle.std.specs.Prelude.{◌≡◌, ℕ, ◌*◌, ◌≤◌, Bool, true, false, List, [], ◌++◌, length, take, drop, slice_index_or}
 use Rattle.mesh_defs.specs.ClosedSet.{leaves_under, leaves_of}
 use Rattle.edge_laws.specs.Slots.{address_at, split_set, IsLive}
@@ -56,12 +56,12 @@ pub record IsPatched (now : List ℕ) (t : ℕ) (before after : WalkState) : Typ
   pub most : after.most ≡ before.most
 
 -- the slots of t and of all above it have marks, beside those that had one
-pub record IsMarked (pairs : List ℕ) (t : ℕ) (before after : List Bool) : Type 0 where
+pub record IsPathMarked (pairs : List ℕ) (t : ℕ) (before after : List Bool) : Type 0 where
   pub grows : (r : ℕ) → slice_index_or before r true ≡ true → slice_index_or after r true ≡ true
   pub above : (r : ℕ) → IsLive pairs r → is_at_or_below (address_at pairs r) t ≡ true → slice_index_or after r true ≡ true
 
 -- nothing is written yet, and what is to be read are the leaves of a set that differs from the pool's at slots with marks alone
-pub record IsBegun (n : ℕ) (pairs : List ℕ) (w : WalkState) : Type 0 where
+pub record IsWalkBegun (n : ℕ) (pairs : List ℕ) (w : WalkState) : Type 0 where
   pub none : w.leaves ≡ []
   pub gone : w.gone ≡ []
   pub come : w.come ≡ []

@@ -6,7 +6,7 @@ ghost use Rattle.edge_laws.specs.Slots.{split_set};
 ghost use Rattle.triangle_pool.specs.declared.pool.TheConstants.{MOST_LEAVES};
 ghost use Rattle.leaf_list.specs.Change.{IsChange};
 ghost use Rattle.leaf_list.specs.List.{IsLeafListOf, IsListBefore};
-ghost use Rattle.leaf_list.specs.Walk.{IsBegun};
+ghost use Rattle.leaf_list.specs.Walk.{IsWalkBegun};
 
 use crate::marks::mark_changed;
 use crate::patch::{patch_under, put_under};
@@ -126,7 +126,7 @@ impl LeafList {
 fn patch_halves(walk: &mut Walk, pool: &Pool)
     requires root { slice_index pool.now.pairs 0 ≡ 1 }
     requires room { pool.now.most ≤ walk.old.most }
-    requires before { IsBegun pool.now.n pool.now.pairs walk.old }
+    requires before { IsWalkBegun pool.now.n pool.now.pairs walk.old }
     ensures leaves { walk.new.leaves ≡ leaves_of pool.now.n (split_set pool.now.pairs) }
     ensures change { IsChange walk.old.rest walk.new.leaves walk.new.gone walk.new.come }
     ensures most { walk.new.most ≡ walk.old.most }

@@ -4,7 +4,7 @@ ghost use Rattle.std.specs.Prelude.{◌≡◌, ℕ, Bool, ◌*◌, ◌/◌, ◌�
 ghost use Rattle.edge_laws.specs.Slots.{address_at, split_set, IsLive};
 ghost use Rattle.leaf_list.specs.Below.{is_at_or_below};
 ghost use Rattle.leaf_list.specs.List.{IsCovered};
-ghost use Rattle.leaf_list.specs.Walk.{AreUntouched, IsMarked};
+ghost use Rattle.leaf_list.specs.Walk.{AreUntouched, IsPathMarked};
 
 use crate::walk::Walk;
 use bintree_addr::{Slot, Tri};
@@ -44,7 +44,7 @@ fn mark(walk: &mut Walk, pool: &Pool, t: Tri) -> Option<Slot>
     ensures there { IfSome result (λ s. address_at pool.now.pairs s.0 ≡ t) }
     ensures absent { IsNone result → (r : ℕ) → address_at pool.now.pairs r ≡ t → ⊥ }
     ensures rest { walk.new ≡ record walk.old { touched = walk.new.touched } }
-    ensures marked { IsMarked pool.now.pairs t walk.old.touched walk.new.touched }
+    ensures marked { IsPathMarked pool.now.pairs t walk.old.touched walk.new.touched }
 {
     let _n = pool.n();
     match t.parent() {

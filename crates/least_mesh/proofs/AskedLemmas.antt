@@ -7,11 +7,11 @@ use Rattle.least_laws.proofs.FlagLemmas.{flagged-set, flagged-unset}
 use Rattle.least_laws.proofs.SweepLemmas.{splittable-lt}
 use Rattle.least_laws.proofs.LeastLemmas.{not_worse}
 use Rattle.closure_laws.proofs.ForcingLemmas.{with-new}
-use Rattle.least_mesh.specs.Asked.{AreFlagged}
+use Rattle.least_mesh.specs.Asked.{AreWantedFlagged}
 use Rattle.mesh_defs.proofs.TestLemmas.{or_none}
 
 -- at first none is set, and below 2 none is worse
-pub asked-none : (n tolerance count : ℕ) (priority : ℕ → ℕ) (flags : List Bool) → flags ≡ replicate count false → AreFlagged (is_worse n tolerance priority) flags 2
+pub asked-none : (n tolerance count : ℕ) (priority : ℕ → ℕ) (flags : List Bool) → flags ≡ replicate count false → AreWantedFlagged (is_worse n tolerance priority) flags 2
 asked-none n tolerance count priority flags e = record {
   below = λ a small. none a ∙ sym (not_worse n tolerance priority a (λ s. let low = s.low in omega arith));
   above = λ a _. none a;
@@ -21,8 +21,8 @@ asked-none n tolerance count priority flags e = record {
     none a = subst (λ (l : List Bool). is_flagged l a ≡ false) (sym e) (flagged-unset count a)
 
 -- the next one is wanted, and its flag is set
-pub asked-yes : (wanted : ℕ → Bool) (flags : List Bool) (k : ℕ) → AreFlagged wanted flags k → k < length flags → wanted k ≡ true →
-    AreFlagged wanted (set flags k true) (k + 1)
+pub asked-yes : (wanted : ℕ → Bool) (flags : List Bool) (k : ℕ) → AreWantedFlagged wanted flags k → k < length flags → wanted k ≡ true →
+    AreWantedFlagged wanted (set flags k true) (k + 1)
 asked-yes wanted flags k p room is = record {
   below = λ a small. ⊎_elim
       (λ less. other a (λ e. omega arith) ∙ p.below a less)
@@ -37,7 +37,7 @@ asked-yes wanted flags k p room is = record {
     other a differ = flagged-set flags k a room ∙ or_none (is_flagged flags a) _ (ne_eqb k a differ)
 
 -- the next one is not wanted
-pub asked-no : (wanted : ℕ → Bool) (flags : List Bool) (k : ℕ) → AreFlagged wanted flags k → wanted k ≡ false → AreFlagged wanted flags (k + 1)
+pub asked-no : (wanted : ℕ → Bool) (flags : List Bool) (k : ℕ) → AreWantedFlagged wanted flags k → wanted k ≡ false → AreWantedFlagged wanted flags (k + 1)
 asked-no wanted flags k p none = record {
   below = λ a small. ⊎_elim
       (λ less. p.below a less)
@@ -47,7 +47,7 @@ asked-no wanted flags k p none = record {
 }
 
 -- past the last splittable address none is worse
-pub asked-all : (n tolerance k : ℕ) (priority : ℕ → ℕ) (flags : List Bool) → k ≡ 2 ^ (2 * n + 1) → AreFlagged (is_worse n tolerance priority) flags k →
+pub asked-all : (n tolerance k : ℕ) (priority : ℕ → ℕ) (flags : List Bool) → k ≡ 2 ^ (2 * n + 1) → AreWantedFlagged (is_worse n tolerance priority) flags k →
     (a : ℕ) → is_flagged flags a ≡ is_worse n tolerance priority a
 asked-all n tolerance k priority flags end p a = ⊎_elim
     (λ less. p.below a less)

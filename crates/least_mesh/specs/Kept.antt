@@ -1,5 +1,5 @@
 -- The mesh that is kept, in room for every mesh of its grid. This project's own words.
--- Words: GridMesh, IsKept.
+-- Words: GridMesh, IsKeptForLeast.
 use Rattle.std.specs.Prelude.{◌≡◌, ℕ, ◌+◌, ◌*◌, ◌^◌, ◌≤◌, Bool, List, length, take}
 use Rattle.mesh_defs.specs.HeightField.{side_of}
 use Rattle.mesh_defs.specs.Tiling.{IsConforming}
@@ -13,7 +13,7 @@ pub record GridMesh : Type 0 where
 
 -- a flag for each address below the finest level, room for all finest triangles, of which the first are the mesh, and
 -- the numbers of its vertices
-pub record IsKept (n : ℕ) (flags : List Bool) (room : List ℕ) (count : ℕ) (numbers : List ℕ) : Type 0 where
+pub record IsKeptForLeast (n : ℕ) (flags : List Bool) (room : List ℕ) (count : ℕ) (numbers : List ℕ) : Type 0 where
   pub n_low : 1 ≤ n
   pub n_high : n ≤ GREATEST_LEVEL
   pub flagged : length flags ≡ 2 ^ (2 * n + 1)

@@ -44,13 +44,13 @@ pub struct Least {
 
 impl Model for Least {
     ghost use Rattle.std.specs.Prelude.{take};
-    ghost use Rattle.least_mesh.specs.Kept.{GridMesh, IsKept};
+    ghost use Rattle.least_mesh.specs.Kept.{GridMesh, IsKeptForLeast};
 
     ghost Value = { GridMesh };
 
     ghost view = { λ l. record { n = l.n; leaves = take l.count l.room.items } };
 
-    ghost invariant = { λ l. IsKept l.n l.flags.items l.room.items l.count l.numbers };
+    ghost invariant = { λ l. IsKeptForLeast l.n l.flags.items l.room.items l.count l.numbers };
 }
 
 /// What a frame tells of its mesh.

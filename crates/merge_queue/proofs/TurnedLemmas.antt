@@ -8,7 +8,7 @@ use Rattle.bintree_addr.specs.declared.rank.Rank.{Rank}
 use Rattle.bintree_addr.specs.declared.slot.Slot.{Slot}
 use Rattle.bintree_addr.specs.RankOrder.{rank_cmp, ComesFirst}
 use Rattle.slot_heap.specs.Keys.{key_of, IsEmpty, IsLeastKey}
-use Rattle.merge_queue.specs.Last.{IsLastRank}
+use Rattle.merge_queue.specs.Last.{IsLastEntry}
 use Rattle.merge_queue.specs.Turned.{ranks_of}
 
 -- the rank of a key, if there is one
@@ -48,7 +48,7 @@ pub IsEmpty-from_ranks_of : (keys : List (Option (Reverse Rank))) → IsEmpty (r
 IsEmpty-from_ranks_of keys empty slot = rank_of-none (key_of keys slot) (sym (get_or-ranks_of keys slot.0) ∙ empty slot)
 
 -- the least turned key is the last rank
-pub IsLastRank-least : ((r s : Rank) → is_lt (rank_cmp r s) ≡ false → ¬ (ComesFirst r s)) → (keys : List (Option (Reverse Rank))) (slot : Slot) (key : Reverse Rank) → IsLeastKey (λ x y. rank_cmp y.0 x.0) keys slot key → IsLastRank (ranks_of keys) slot key.0
+pub IsLastRank-least : ((r s : Rank) → is_lt (rank_cmp r s) ≡ false → ¬ (ComesFirst r s)) → (keys : List (Option (Reverse Rank))) (slot : Slot) (key : Reverse Rank) → IsLeastKey (λ x y. rank_cmp y.0 x.0) keys slot key → IsLastEntry (ranks_of keys) slot key.0
 IsLastRank-least not_before keys slot key least = (
   get_or-ranks_of keys slot.0 ∙ ap rank_of least.0,
   λ other it e. not_before key.0 it (least.1 other (record { 0 = it }) (rank_of-some (key_of keys other) it (sym (get_or-ranks_of keys other.0) ∙ e))),

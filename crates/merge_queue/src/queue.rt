@@ -2,7 +2,7 @@
 
 ghost use Rattle.std.specs.Prelude.{◌≡◌, ◌<◌, ◌↔◌, Some, None, IfOk, IfSome, IsSome, IsNone, length, replicate, slice_set};
 ghost use Rattle.slot_heap.specs.Keys.{key_of, IsEmpty};
-ghost use Rattle.merge_queue.specs.Last.{IsLastRank};
+ghost use Rattle.merge_queue.specs.Last.{IsLastEntry};
 
 use bintree_addr::{Rank, Slot, rank_order_laws};
 use roam_errors::NoMemory;
@@ -79,7 +79,7 @@ impl MergeQueue {
     /// An entry that ranks before no other.
     pub fn last(&self) -> Option<(Slot, Rank)>
         ensures empty { IsNone result ↔ IsEmpty self.now }
-        ensures last { IfSome result (λ last. IsLastRank self.now last.0 last.1) }
+        ensures last { IfSome result (λ last. IsLastEntry self.now last.0 last.1) }
     {
         rank_order_laws();
         match self.heap.head() {

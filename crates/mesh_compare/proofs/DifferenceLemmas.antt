@@ -4,7 +4,7 @@ use Rattle.std.specs.Prelude.{option_map, ◌==◌}
 use Rattle.std.proofs.Math.Seq.{drop-cons}
 use Rattle.std.proofs.lemmas.Bool.{cond-true, cond-false, ne_eqb}
 use Rattle.std.proofs.lemmas.List.{length-take-le, take_more}
-use Rattle.mesh_compare.specs.Differs.{first_difference, FindsDifference, HasFront, Gives, Matches, Agrees, IsCutShort}
+use Rattle.mesh_compare.specs.Differs.{first_difference, FindsDifference, HasFront, Gives, Matches, Agrees, IsReadInPart}
 use Rattle.mesh_compare.proofs.FileLemmas.{front-then}
 
 -- a place moved on by so many, and by one more
@@ -69,7 +69,7 @@ module _ (piece : List ℕ) (file left left' : Option (List ℕ)) (i d : ℕ) (b
 
 -- a piece that was cut short
 pub piece-cut : (piece : List ℕ) (file left unread : Option (List ℕ)) (i : ℕ) → HasFront (take i piece) file left → left ≡ unread →
-    IsCutShort piece file unread
+    IsReadInPart piece file unread
 piece-cut piece file left unread i has same = record {
   read = take i piece;
   of_text = record { back = drop i piece; joined = sym (take-append-drop i piece) };
@@ -122,8 +122,8 @@ module _ (text : List ℕ) (file : Option (List ℕ)) (to_come : List ℕ) (left
   differs-nowhere left' none gives = differs-later None (λ bytes is. rw (none, (gives bytes is).0) refl)
 
   -- a read failed in the next piece
-  pub cut-in : (piece more : List ℕ) (unread : Option (List ℕ)) → to_come ≡ piece ++ more → IsCutShort piece left unread →
-      IsCutShort text file unread
+  pub cut-in : (piece more : List ℕ) (unread : Option (List ℕ)) → to_come ≡ piece ++ more → IsReadInPart piece left unread →
+      IsReadInPart text file unread
   cut-in piece more unread is cut = record {
     read = agrees.front ++ cut.read;
     of_text = record {

@@ -1,5 +1,5 @@
 -- Where a file differs from a text, and how far the two go together. This project's own words.
--- Words: first_difference, FindsDifference, HasFront, Gives, Matches, Agrees, IsCutShort, left_of.
+-- Words: first_difference, FindsDifference, HasFront, Gives, Matches, Agrees, IsReadInPart, left_of.
 use Rattle.std.specs.Prelude.{◌≡◌, ℕ, suc, ◌<◌, ◌==◌, if◌then◌else◌, List, [], ◌∷◌, ◌++◌, length, Option, Some, None, option_map}
 use Rattle.roam_edge.specs.Told.{IsPrefix}
 
@@ -41,7 +41,7 @@ pub record Agrees (text : List ℕ) (file : Option (List ℕ)) (to_come : List �
   pub place : length front ≡ at
 
 -- What was read of the file is a prefix of the text, and this is left unread.
-pub record IsCutShort (text : List ℕ) (file left : Option (List ℕ)) : Type 0 where
+pub record IsReadInPart (text : List ℕ) (file left : Option (List ℕ)) : Type 0 where
   pub read : List ℕ
   pub of_text : IsPrefix read text
   pub of_file : HasFront read file left

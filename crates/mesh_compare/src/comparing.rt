@@ -8,7 +8,7 @@ ghost use Rattle.roam_edge.specs.Fault.{HasCause, Rose, IsInTime};
 ghost use Rattle.mesh_defs.specs.declared.level.TheConstants.{GREATEST_LEVEL};
 ghost use Rattle.roam_edge.specs.Told.{StaysTold};
 ghost use Rattle.wedgie_tree.specs.declared.wedges.TheConstants.{GREATEST_SPACING};
-ghost use Rattle.mesh_compare.specs.Differs.{FindsDifference, IsCutShort, left_of};
+ghost use Rattle.mesh_compare.specs.Differs.{FindsDifference, IsReadInPart, left_of};
 ghost use Rattle.mesh_compare.specs.declared.comparing.CompareFault.{CompareFault};
 
 use crate::piece::match_piece;
@@ -58,7 +58,7 @@ pub fn compare<F: Shelf>(
     ensures calm { IfOk result (λ _. F.faults shelf.new ≡ F.faults shelf.old) }
     ensures failed { result ≡ Err CompareFault.Failed → Rose (F.faults shelf.old) (F.faults shelf.new) }
     // What was read before a failed read is a prefix of the text.
-    ensures cut { result ≡ Err CompareFault.Failed → IsCutShort
+    ensures cut { result ≡ Err CompareFault.Failed → IsReadInPart
         (mesh_text w.now.n w.now.heights spacing [] leaves.now) (F.rest shelf.old) (F.rest shelf.new) }
     ensures goes_on { result ≡ Err CompareFault.Failed → F.ended shelf.new ≡ false }
     ensures no_memory { result ≡ Err CompareFault.NoMemory → shelf.new ≡ shelf.old }
@@ -110,7 +110,7 @@ fn compare_lines<F: Shelf>(
     ensures ended { IfOk result (λ found. found ≡ None → F.ended shelf.new ≡ true) }
     ensures all_read { IfOk result (λ found. found ≡ None → (bytes : List ℕ) →
         left_of window.old (F.rest shelf.old) ≡ Some bytes → F.rest shelf.new ≡ Some []) }
-    ensures cut { OnErr result (IsCutShort lines.entry.text (left_of window.old (F.rest shelf.old)) (F.rest shelf.new)) }
+    ensures cut { OnErr result (IsReadInPart lines.entry.text (left_of window.old (F.rest shelf.old)) (F.rest shelf.new)) }
     ensures goes_on { OnErr result (F.ended shelf.new ≡ false) }
     ensures told { StaysTold (F.rest shelf.old) (F.rest shelf.new) }
     ensures files { F.files shelf.new ≡ F.files shelf.old }

@@ -3,7 +3,7 @@
 ghost use Rattle.std.specs.Prelude.{◌≡◌, None, false, IfOk, OnErr};
 ghost use Rattle.roam_edge.specs.Fault.{HasCause, IsInTime};
 ghost use Rattle.roam_edge.specs.Told.{StaysTold};
-ghost use Rattle.mesh_compare.specs.Differs.{Matches, IsCutShort, left_of};
+ghost use Rattle.mesh_compare.specs.Differs.{Matches, IsReadInPart, left_of};
 
 use crate::window::Window;
 use roam_edge::{Failed, Shelf};
@@ -19,7 +19,7 @@ pub(crate) fn match_piece<F: Shelf>(
     ensures place { IfOk result (λ found. Matches piece.now (left_of window.old (F.rest shelf.old))
         (left_of window.new (F.rest shelf.new)) found) }
     ensures goes_on { IfOk result (λ found. found ≡ None → F.ended shelf.new ≡ false) }
-    ensures cut { OnErr result (IsCutShort piece.now (left_of window.old (F.rest shelf.old)) (F.rest shelf.new)) }
+    ensures cut { OnErr result (IsReadInPart piece.now (left_of window.old (F.rest shelf.old)) (F.rest shelf.new)) }
     ensures not_ended { OnErr result (F.ended shelf.new ≡ false) }
     ensures told { StaysTold (F.rest shelf.old) (F.rest shelf.new) }
     ensures files { F.files shelf.new ≡ F.files shelf.old }

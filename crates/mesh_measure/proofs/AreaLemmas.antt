@@ -13,7 +13,7 @@ use Rattle.deviation_laws.proofs.PlaneLemmas.{area_of-some}
 use Rattle.mesh_measure.specs.declared.areas.Across.{Across}
 use Rattle.mesh_measure.specs.declared.areas.Areas.{Areas}
 use Rattle.mesh_measure.specs.declared.shape.Facet.{Facet}
-use Rattle.mesh_measure.specs.Areas.{IsAcross, AreAcross, sum_of_weighted}
+use Rattle.mesh_measure.specs.Areas.{AreSumsAcross, AreAcross, sum_of_weighted}
 use Rattle.mesh_measure.specs.Facet.{IsFacet}
 
 -- ---- bounds
@@ -39,7 +39,7 @@ product-small m sum area side small =
 -- ---- values
 
 -- an area is the first sum less the second
-pub area-across : (r p q : Point) (s : Across) → IsAcross r p q s → s.high - s.low ≡ doubled_area r p q
+pub area-across : (r p q : Point) (s : Across) → AreSumsAcross r p q s → s.high - s.low ≡ doubled_area r p q
 area-across r p q s a = ap₂ (λ i j. i - j) a.high a.low
 
 -- so the sums weigh the heights as the definition does

@@ -8,7 +8,7 @@ use Rattle.mesh_defs.specs.BoundingBox.{point, is_left_or_on, is_in_closed}
 use Rattle.mesh_measure.specs.declared.areas.Across.{Across}
 use Rattle.mesh_measure.specs.declared.areas.Areas.{Areas}
 use Rattle.mesh_measure.specs.declared.columns.Columns.{Columns}
-use Rattle.mesh_measure.specs.Areas.{IsAcross, AreAcross}
+use Rattle.mesh_measure.specs.Areas.{AreSumsAcross, AreAcross}
 use Rattle.mesh_measure.specs.Columns.{IsColumn, IsGreatestAlong}
 
 -- ---- quotients
@@ -75,7 +75,7 @@ column-end low high py qy from end rest stop x steep some is at =
 -- ---- the three edges
 
 -- the point in column x lies left of an edge or on it, by the sums of the first point of its row
-left-iff : (p q : Point) (y x : ℕ) (s : Across) → IsAcross (point 0 y) p q s →
+left-iff : (p q : Point) (y x : ℕ) (s : Across) → AreSumsAcross (point 0 y) p q s →
     (s.low + x * q.y ≤ s.high + x * p.y) ↔ (is_left_or_on (point x y) p q ≡ true)
 left-iff p q y x s a =
     let high = a.high in

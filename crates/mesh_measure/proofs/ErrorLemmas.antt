@@ -17,7 +17,7 @@ use Rattle.deviation_laws.specs.PlaneHeight.{doubled_area, area_of, weighted, pl
 use Rattle.deviation_laws.proofs.PlaneLemmas.{area_of-some, plane_height-exact, IsMean-held}
 use Rattle.mesh_measure.specs.declared.shape.Bounds.{Bounds}
 use Rattle.mesh_measure.specs.Facet.{AreBounds}
-use Rattle.mesh_measure.specs.Most.{gap_of, IsMost, IsMostUntil, IsReachedIn, IsInBounds}
+use Rattle.mesh_measure.specs.Most.{gap_of, IsMost, IsMostUntil, IsMostReached, IsInBounds}
 use Rattle.mesh_measure.proofs.GapLemmas.{off_plane-gap, IsMost-off_plane}
 use Rattle.mesh_measure.proofs.BoxLemmas.{IsInBounds-held, held-le, greatest-most}
 
@@ -96,7 +96,7 @@ gap-iff n heights a tolerance r address =
 
 -- a point that shows that the error is above the tolerance
 pub error-above : (n : ℕ) (heights : List ℕ) (a tolerance limit most : ℕ) (c : Corners) → IsAddress n a → c ≡ corners_of n a →
-    limit ≡ area_of c * tolerance / 2 ^ n → limit < most → IsReachedIn c (gap_of c (height_of n heights)) most →
+    limit ≡ area_of c * tolerance / 2 ^ n → limit < most → IsMostReached c (gap_of c (height_of n heights)) most →
     tolerance < greatest (offs_in n heights a)
 error-above n heights a tolerance limit most c address is at above reached = ⊎_elim
     (λ none. absurd (omega arith))

@@ -9,11 +9,11 @@ use Rattle.deviation_laws.proofs.PlaneLemmas.{left_or_on-held}
 use Rattle.mesh_measure.specs.declared.areas.Across.{Across}
 use Rattle.mesh_measure.specs.declared.areas.Areas.{Areas}
 use Rattle.mesh_measure.specs.declared.line.Line.{Line}
-use Rattle.mesh_measure.specs.Areas.{IsAcross, AreAcross}
-use Rattle.mesh_measure.specs.Line.{IsLineOf}
+use Rattle.mesh_measure.specs.Areas.{AreSumsAcross, AreAcross}
+use Rattle.mesh_measure.specs.Line.{IsRowLineOf}
 
 -- one edge: its area times a height, by both sums
-edge-part : (p q : Point) (y x height z : ℕ) (s : Across) → IsAcross (point 0 y) p q s → height ≡ z → is_left_or_on (point x y) p q ≡ true →
+edge-part : (p q : Point) (y x height z : ℕ) (s : Across) → AreSumsAcross (point 0 y) p q s → height ≡ z → is_left_or_on (point x y) p q ≡ true →
     doubled_area (point x y) p q * z + (s.low * height + x * (q.y * height)) ≡ s.high * height + x * (p.y * height)
 edge-part p q y x height z s a same left =
     let le = leb-true (p.y * q.x + q.y * x + y * p.x) (p.x * q.y + q.x * y + x * p.y) left in
@@ -32,7 +32,7 @@ pub line-weights : (c : Corners) (f : Point → ℕ) (y apex v0 v1 : ℕ) (s : A
     line.low ≡ s.apex.low * apex + s.v0.low * v0 + s.v1.low * v1 →
     line.rise ≡ c.v0.y * apex + c.v1.y * v0 + c.apex.y * v1 →
     line.fall ≡ c.v1.y * apex + c.apex.y * v0 + c.v0.y * v1 →
-    IsLineOf c f y line
+    IsRowLineOf c f y line
 line-weights c f y apex v0 v1 s line one two three a high low rise fall x held =
     let sides = left_or_on-held c (point x y) held in
     let p = edge-part c.v0 c.v1 y x apex (f c.apex) s.apex a.apex one sides.1 in

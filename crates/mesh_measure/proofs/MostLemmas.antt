@@ -9,7 +9,7 @@ use Rattle.mesh_measure.specs.declared.columns.Columns.{Columns}
 use Rattle.mesh_measure.specs.declared.line.Line.{Line}
 use Rattle.mesh_measure.specs.declared.shape.Bounds.{Bounds}
 use Rattle.mesh_measure.specs.Columns.{IsColumn, IsGreatestAlong}
-use Rattle.mesh_measure.specs.Line.{high_on, low_on, IsLineOf, gap_on}
+use Rattle.mesh_measure.specs.Line.{high_on, low_on, IsRowLineOf, gap_on}
 use Rattle.mesh_measure.specs.Most.{gap_of, IsMost, IsMostUntil, IsInRow, IsInBounds, IsInRows}
 use Rattle.bintree_laws.proofs.LatticeLemmas.{same_point}
 
@@ -39,7 +39,7 @@ IsMost-both P R Q f i j part left right h k = record {
 
 -- in a row: the columns that the triangle holds, and the line of its plane along them
 pub IsMost-row : (c : Corners) (f : Point → ℕ) (y left right area : ℕ) (columns : Columns) (line from : Line) (heights : List ℕ) (most : ℕ) →
-    area ≡ area_of c → IsLineOf c f y line → columns.from ≤ columns.end →
+    area ≡ area_of c → IsRowLineOf c f y line → columns.from ≤ columns.end →
     ((x : ℕ) → IsColumn columns x ↔ (((left ≤ x) × (x < right + 1)) × (is_in_closed c (point x y) ≡ true))) →
     from.high ≡ high_on line columns.from → from.low ≡ low_on line columns.from → from.rise ≡ line.rise → from.fall ≡ line.fall →
     length heights ≡ columns.end - columns.from →

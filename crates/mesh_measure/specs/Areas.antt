@@ -1,5 +1,5 @@
 -- The areas between a point and the edges of a triangle, as differences of two sums.
--- Words: high_across, low_across, IsAcross, AreAcross, AreSmall, sum_of_weighted.
+-- Words: high_across, low_across, AreSumsAcross, AreAcross, AreSmall, sum_of_weighted.
 use Rattle.std.specs.Prelude.{◌≡◌, ℕ, ◌+◌, ◌-◌, ◌*◌, ◌≤◌}
 use Rattle.mesh_defs.specs.declared.point.Point.{Point}
 use Rattle.mesh_defs.specs.declared.point.Corners.{Corners}
@@ -14,15 +14,15 @@ abbrev pub low_across : Point → Point → Point → ℕ
 low_across r p q = p.y * q.x + q.y * r.x + r.y * p.x
 
 -- s has both sums of r and the edge from p to q
-pub record IsAcross (r p q : Point) (s : Across) : Type 0 where
+pub record AreSumsAcross (r p q : Point) (s : Across) : Type 0 where
   pub high : s.high ≡ high_across r p q
   pub low : s.low ≡ low_across r p q
 
 -- s has those of r and the three edges of c
 pub record AreAcross (c : Corners) (r : Point) (s : Areas) : Type 0 where
-  pub apex : IsAcross r c.v0 c.v1 s.apex
-  pub v0 : IsAcross r c.v1 c.apex s.v0
-  pub v1 : IsAcross r c.apex c.v0 s.v1
+  pub apex : AreSumsAcross r c.v0 c.v1 s.apex
+  pub v0 : AreSumsAcross r c.v1 c.apex s.v0
+  pub v1 : AreSumsAcross r c.apex c.v0 s.v1
 
 -- no sum is greater than at a point of the largest grid
 pub record AreSmall (s : Areas) : Type 0 where

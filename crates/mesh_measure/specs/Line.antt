@@ -1,5 +1,5 @@
 -- The plane of a triangle along a row.
--- Words: high_on, low_on, AreHeights, IsLineOf, gap_on.
+-- Words: high_on, low_on, AreHeights, IsRowLineOf, gap_on.
 use Rattle.std.specs.Prelude.{◌≡◌, ℕ, ◌+◌, ◌*◌, List, slice_index, true}
 use Rattle.mesh_defs.specs.declared.point.Point.{Point}
 use Rattle.mesh_defs.specs.declared.point.Corners.{Corners}
@@ -23,8 +23,8 @@ pub record AreHeights (f : Point → ℕ) (facet : Facet) : Type 0 where
   pub v1 : facet.v1 ≡ f facet.corners.v1
 
 -- at each point of row y that the triangle holds the first sum less the second is the weighted value of f
-abbrev pub IsLineOf : Corners → (Point → ℕ) → ℕ → Line → Type 0
-IsLineOf c f y line =
+abbrev pub IsRowLineOf : Corners → (Point → ℕ) → ℕ → Line → Type 0
+IsRowLineOf c f y line =
     (x : ℕ) → is_in_closed c (point x y) ≡ true → weighted c f (point x y) + low_on line x ≡ high_on line x
 
 -- how far area times a height and the line are apart, so many columns on

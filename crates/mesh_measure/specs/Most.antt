@@ -1,5 +1,5 @@
 -- The greatest value over points, as a loop finds it.
--- Words: gap_of, IsMost, IsReachedIn, IsMostUntil, IsInRow, IsInBounds, IsInRows.
+-- Words: gap_of, IsMost, IsMostReached, IsMostUntil, IsInRow, IsInBounds, IsInRows.
 use Rattle.std.specs.Prelude.{◌≡◌, ℕ, ◌*◌, ◌<◌, ◌≤◌, ◌⊎◌, true}
 use Rattle.mesh_defs.specs.declared.point.Point.{Point}
 use Rattle.mesh_defs.specs.declared.point.Corners.{Corners}
@@ -18,8 +18,8 @@ pub record IsMost (P : Point → Type 0) (f : Point → ℕ) (most : ℕ) : Type
   pub reached : (most ≡ 0) ⊎ ((r : Point) × P r × (f r ≡ most))
 
 -- most is a value of f at a point that the triangle holds, or 0
-abbrev pub IsReachedIn : Corners → (Point → ℕ) → ℕ → Type 0
-IsReachedIn c f most = (most ≡ 0) ⊎ ((r : Point) × (is_in_closed c r ≡ true) × (f r ≡ most))
+abbrev pub IsMostReached : Corners → (Point → ℕ) → ℕ → Type 0
+IsMostReached c f most = (most ≡ 0) ⊎ ((r : Point) × (is_in_closed c r ≡ true) × (f r ≡ most))
 
 -- most is a value of f at a point with P, or 0; and the greatest one, unless it is above the limit
 pub record IsMostUntil (P : Point → Type 0) (f : Point → ℕ) (limit most : ℕ) : Type 0 where

@@ -22,7 +22,7 @@ impl Across {
     ghost use Rattle.std.specs.Prelude.{◌≡◌, ◌+◌, ◌-◌, ◌*◌, ◌^◌, ◌≤◌, ◌↔◌, ℕ};
     ghost use Rattle.mesh_defs.specs.declared.level.TheConstants.{GREATEST_LEVEL};
     ghost use Rattle.bintree_laws.specs.Corners.{IsInSquare};
-    ghost use Rattle.mesh_measure.specs.Areas.{IsAcross};
+    ghost use Rattle.mesh_measure.specs.Areas.{AreSumsAcross};
     ghost use Rattle.mesh_measure.specs.Columns.{IsColumn};
 
     /// Of the edge from p to q.
@@ -30,7 +30,7 @@ impl Across {
         requires r_in_grid { IsInSquare (2 ^ GREATEST_LEVEL) r }
         requires p_in_grid { IsInSquare (2 ^ GREATEST_LEVEL) p }
         requires q_in_grid { IsInSquare (2 ^ GREATEST_LEVEL) q }
-        ensures value { IsAcross r p q result }
+        ensures value { AreSumsAcross r p q result }
         ensures high { result.high ≤ 12582912 }
         ensures low { result.low ≤ 12582912 }
     {

@@ -7,7 +7,7 @@ ghost use Rattle.mesh_defs.specs.BoundingBox.{point};
 ghost use Rattle.bintree_laws.specs.Corners.{IsWithin};
 ghost use Rattle.mesh_measure.specs.Areas.{AreAcross, AreSmall};
 ghost use Rattle.mesh_measure.specs.Columns.{IsGreatestAlong};
-ghost use Rattle.mesh_measure.specs.Line.{high_on, low_on, AreHeights, IsLineOf, gap_on};
+ghost use Rattle.mesh_measure.specs.Line.{high_on, low_on, AreHeights, IsRowLineOf, gap_on};
 
 use crate::areas::Areas;
 use crate::shape::Facet;
@@ -27,7 +27,7 @@ pub(crate) fn line_of(facet: Facet, areas: Areas) -> Line
     requires in_grid { IsWithin (2 ^ GREATEST_LEVEL) facet.corners }
     requires small { AreSmall areas }
     ensures line { (f : Point → ℕ) (y : ℕ) → AreHeights f facet → AreAcross facet.corners (point 0 y) areas →
-        IsLineOf facet.corners f y result }
+        IsRowLineOf facet.corners f y result }
     ensures high { result.high ≤ 2473901162496 }
     ensures low { result.low ≤ 2473901162496 }
     ensures rise { result.rise ≤ 402653184 }

@@ -9,7 +9,7 @@ ghost use Rattle.deviation_laws.specs.PlaneHeight.{offs_in};
 ghost use Rattle.bintree_laws.specs.Corners.{IsWithin};
 ghost use Rattle.mesh_measure.specs.Areas.{AreAcross, AreSmall};
 ghost use Rattle.mesh_measure.specs.Facet.{IsFacet};
-ghost use Rattle.mesh_measure.specs.Most.{gap_of, IsMost, IsMostUntil, IsInRow, IsInBounds, IsReachedIn};
+ghost use Rattle.mesh_measure.specs.Most.{gap_of, IsMost, IsMostUntil, IsInRow, IsInBounds, IsMostReached};
 
 use crate::areas::Areas;
 use crate::columns::Columns;
@@ -37,7 +37,7 @@ pub(crate) fn gap(grid: &Grid, facet: Facet, areas: Areas, x: u32, y: u32) -> u6
 fn middle_gap(grid: &Grid, facet: Facet) -> u64
     requires facet { IsFacet grid.now.n grid.now.heights facet }
     requires corners_in_grid { IsWithin (2 ^ grid.now.n) facet.corners }
-    ensures { IsReachedIn facet.corners (gap_of facet.corners (height_of grid.now.n grid.now.heights)) result }
+    ensures { IsMostReached facet.corners (gap_of facet.corners (height_of grid.now.n grid.now.heights)) result }
 {
     let corners = facet.corners;
     let x = (corners.v0.x + corners.v1.x) / 2;

@@ -8,7 +8,7 @@ use Rattle.std.proofs.lemmas.Simd.{take_more_put_chunk, length-put_chunk}
 use Rattle.std.specs.Simd.Lanes.{chunk, put_chunk}
 use Rattle.obj_write.specs.declared.field.Field.{Field}
 use Rattle.mesh_defs.specs.MeshText.{numbers_line}
-use Rattle.obj_write.specs.Field.{IsFieldOf, IsPlaced, bytes_of, line_of, number_field}
+use Rattle.obj_write.specs.Field.{IsFieldOf, IsWrittenAt, field_bytes, letter_line, number_field}
 
 -- a number of 32 bits has at most ten digits
 pub length-digits : (k : ℕ) → k < 2 ^ 32 → length (decimal k) ≤ 10
@@ -32,7 +32,7 @@ blank-and-digits xs digits rest s long ends before behind =
     ∙ take-append_seam (32 ∷ digits) rest
 
 -- one byte was put
-pub placed-byte : (text : List ℕ) (at byte : ℕ) → at < length text → IsPlaced text (set text at byte) at (byte ∷ []) (at + 1)
+pub placed-byte : (text : List ℕ) (at byte : ℕ) → at < length text → IsWrittenAt text (set text at byte) at (byte ∷ []) (at + 1)
 placed-byte text at byte below = record {
   front = take_more_set text at byte below;
   moved = refl;
@@ -41,7 +41,7 @@ placed-byte text at byte below = record {
 
 -- a field was copied with what stands behind it
 pub placed-field : (text bytes : List ℕ) (at n : ℕ) → length bytes ≡ 16 → at + 16 ≤ length text → n ≤ 16 →
-    IsPlaced text (put_chunk at text (chunk 0 16 bytes)) at (take n bytes) (at + n)
+    IsWrittenAt text (put_chunk at text (chunk 0 16 bytes)) at (take n bytes) (at + n)
 placed-field text bytes at n long room few =
     let copied : List ℕ = chunk 0 16 bytes in
     let all : length copied ≡ 16 = length-take-le 16 bytes (omega arith) in
@@ -57,7 +57,7 @@ placed-field text bytes at n long room few =
     }
 
 -- one text behind another
-pub placed-then : {a b c xs ys : List ℕ} {i j k : ℕ} → IsPlaced a b i xs j → IsPlaced b c j ys k → IsPlaced a c i (xs ++ ys) k
+pub placed-then : {a b c xs ys : List ℕ} {i j k : ℕ} → IsWrittenAt a b i xs j → IsWrittenAt b c j ys k → IsWrittenAt a c i (xs ++ ys) k
 placed-then {a} {b} {c} {xs} {ys} {i} p q = record {
   front = q.front ∙ ap (λ l. l ++ ys) p.front ∙ append_assoc (take i a) xs ys;
   moved = omega (arith, p.moved, q.moved, length-append xs ys);
@@ -66,10 +66,10 @@ placed-then {a} {b} {c} {xs} {ys} {i} p q = record {
 
 -- the fields of three numbers behind a letter are their line
 pub fields-line : (letter i j k : ℕ) (f g h : Field) → IsFieldOf f i → IsFieldOf g j → IsFieldOf h k →
-    line_of letter f g h ≡ numbers_line letter i j k
+    letter_line letter f g h ≡ numbers_line letter i j k
 fields-line letter i j k f g h first second third =
-    ap (λ t. (letter ∷ []) ++ (t ++ (bytes_of g ++ (bytes_of h ++ codes "\n")))) first.bytes
-    ∙ ap (λ t. (letter ∷ []) ++ (number_field i ++ (t ++ (bytes_of h ++ codes "\n")))) second.bytes
+    ap (λ t. (letter ∷ []) ++ (t ++ (field_bytes g ++ (field_bytes h ++ codes "\n")))) first.bytes
+    ∙ ap (λ t. (letter ∷ []) ++ (number_field i ++ (t ++ (field_bytes h ++ codes "\n")))) second.bytes
     ∙ ap (λ t. (letter ∷ []) ++ (number_field i ++ (number_field j ++ (t ++ codes "\n")))) third.bytes
     ∙ joined (decimal i) (decimal j) (decimal k)
   where

@@ -19,7 +19,7 @@ use Rattle.mesh_defs.proofs.PointLemmas.{eq-same_point}
 use Rattle.bintree_laws.specs.Corners.{IsInSquare}
 use Rattle.bintree_laws.proofs.CornerLemmas.{IsWithin-corners_of}
 use Rattle.obj_write.specs.declared.faces.Corner.{Corner}
-use Rattle.obj_write.specs.Field.{line_of}
+use Rattle.obj_write.specs.Field.{letter_line}
 use Rattle.obj_write.specs.Faces.{IsCornerAt}
 use Rattle.obj_write.proofs.FieldLemmas.{fields-line}
 use Rattle.obj_write.proofs.NumberLemmas.{vertices-placed, length-numbers, no-vertex, some-vertex, number-of-vertex}
@@ -173,7 +173,7 @@ pub fields-face : (v : MeshView) → IsView v → (a : ℕ) → IsShown v.wedges
     IsCornerAt v.wedges.now.n v.numbers.now (corners_of v.wedges.now.n a).apex x →
     IsCornerAt v.wedges.now.n v.numbers.now (corners_of v.wedges.now.n a).v0 y →
     IsCornerAt v.wedges.now.n v.numbers.now (corners_of v.wedges.now.n a).v1 z →
-    line_of 102 x.field y.field z.field ≡ face_line (vertices_of v.wedges.now.n v.leaves.now) (corners_of v.wedges.now.n a)
+    letter_line 102 x.field y.field z.field ≡ face_line (vertices_of v.wedges.now.n v.leaves.now) (corners_of v.wedges.now.n a)
 fields-face v view a is_shown x y z first second third =
     let c = corners_of v.wedges.now.n a in
     let w = IsWithin-corners_of v.wedges.now.n a in

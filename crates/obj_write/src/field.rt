@@ -1,7 +1,7 @@
 //! A blank and the digits of a number, as a field of a line.
 
 ghost use Rattle.std.specs.Prelude.{◌≡◌, ◌+◌, ◌*◌, ◌<◌, ◌≤◌, [], ◌∷◌, length};
-ghost use Rattle.obj_write.specs.Field.{IsFieldOf, IsPlaced, bytes_of, line_of};
+ghost use Rattle.obj_write.specs.Field.{IsFieldOf, IsWrittenAt, field_bytes, letter_line};
 ghost use Rattle.obj_write.specs.declared.field.TheConstants.{FIELD_ROOM, LONGEST_FIELD};
 
 use itoa::write_digits;
@@ -51,7 +51,7 @@ pub(crate) fn place_line(
     requires first_short { first.now.len ≤ LONGEST_FIELD }
     requires second_short { second.now.len ≤ LONGEST_FIELD }
     requires third_short { third.now.len ≤ LONGEST_FIELD }
-    ensures placed { IsPlaced text.old text.new at (line_of letter first.now second.now third.now) result }
+    ensures placed { IsWrittenAt text.old text.new at (letter_line letter first.now second.now third.now) result }
     ensures near { result ≤ at + 3 * LONGEST_FIELD + 2 }
 {
     let at = place_byte(text, at, letter);
@@ -65,7 +65,7 @@ pub(crate) fn place_line(
 #[inline(always)]
 fn place_byte(text: &mut [u8], at: usize, byte: u8) -> usize
     requires { at < length text.old }
-    ensures { IsPlaced text.old text.new at (byte ∷ []) result }
+    ensures { IsWrittenAt text.old text.new at (byte ∷ []) result }
 {
     text[at] = byte;
     at + 1
@@ -76,7 +76,7 @@ fn place_byte(text: &mut [u8], at: usize, byte: u8) -> usize
 fn place_field(text: &mut [u8], at: usize, field: &Field) -> usize
     requires room { at + FIELD_ROOM ≤ length text.old }
     requires short { field.now.len ≤ LONGEST_FIELD }
-    ensures placed { IsPlaced text.old text.new at (bytes_of field.now) result }
+    ensures placed { IsWrittenAt text.old text.new at (field_bytes field.now) result }
     ensures near { result ≤ at + LONGEST_FIELD }
 {
     Simd::<u8, FIELD_ROOM>::from_slice(&field.bytes).copy_to_slice(&mut text[at..]);
@@ -86,7 +86,7 @@ fn place_field(text: &mut [u8], at: usize, field: &Field) -> usize
 /// Copies bytes to a place of a text, and answers where they end.
 pub(crate) fn place_bytes(text: &mut [u8], at: usize, bytes: &[u8]) -> usize
     requires { at + length bytes.now ≤ length text.old }
-    ensures { IsPlaced text.old text.new at bytes.now result }
+    ensures { IsWrittenAt text.old text.new at bytes.now result }
 {
     let end = at + bytes.len();
     text[at..end].copy_from_slice(bytes);

@@ -3,7 +3,7 @@
 ghost use Rattle.std.specs.Prelude.{◌≡◌, ◌+◌, ◌*◌, ◌<◌, ◌≤◌, ◌++◌, ◌∷◌, [], List, Some, true, false, All, length, OnOk, OnErr};
 ghost use Rattle.mesh_defs.specs.Triangle.{level_of};
 ghost use Rattle.roam_edge.specs.Fault.{HasCause, IsInTime};
-ghost use Rattle.roam_edge.specs.MeshSink.{Mesh};
+ghost use Rattle.roam_edge.specs.MeshSink.{WrittenMesh};
 ghost use Rattle.roam_edge.specs.declared.mesh_sink.TheConstants.{LONGEST_PREFIX, GREATEST_NUMBER};
 ghost use Rattle.wedgie_tree.specs.declared.wedges.TheConstants.{GREATEST_SPACING};
 ghost use Rattle.obj_write.specs.Numbers.{numbers_of};
@@ -59,7 +59,7 @@ pub fn write_mesh<M: MeshSink>(
     ensures ok { OnOk result (Grows (M.meshes out.old) (M.meshes out.new)
         (mesh_with prefix.now number (view_text view.now) true ∷ [])) }
     ensures idle { OnOk result (M.under_way out.new ≡ false) }
-    ensures err { OnErr result ((all : List Mesh) → M.meshes out.old ≡ Some all → (part : List Mesh)
+    ensures err { OnErr result ((all : List WrittenMesh) → M.meshes out.old ≡ Some all → (part : List WrittenMesh)
         × IsPartOfMesh prefix.now number (view_text view.now) part × (M.meshes out.new ≡ Some (all ++ part))) }
     // After a failed call a mesh is under way exactly where it was begun: no mesh came, or an unfinished one.
     ensures not_begun { OnErr result (M.under_way out.new ≡ false → M.meshes out.new ≡ M.meshes out.old) }

@@ -3,7 +3,7 @@
 ghost use Rattle.std.specs.Prelude.{◌≡◌, ◌+◌, ◌≤◌, ◌++◌, [], true, length, OnOk, OnErr};
 ghost use Rattle.roam_edge.specs.Fault.{HasCause, IsInTime};
 ghost use Rattle.roam_edge.specs.MeshSink.{Writes};
-ghost use Rattle.obj_write.specs.Field.{line_of};
+ghost use Rattle.obj_write.specs.Field.{letter_line};
 ghost use Rattle.obj_write.specs.Page.{Passed, Broken};
 ghost use Rattle.obj_write.specs.declared.field.TheConstants.{LONGEST_FIELD};
 ghost use Rattle.obj_write.specs.declared.page.TheConstants.{PAGE_ROOM};
@@ -74,7 +74,7 @@ impl<const ROOM: usize> Page<ROOM> {
         requires first_short { first.now.len ≤ LONGEST_FIELD }
         requires second_short { second.now.len ≤ LONGEST_FIELD }
         requires third_short { third.now.len ≤ LONGEST_FIELD }
-        ensures text { self.new ≡ self.old ++ line_of letter first.now second.now third.now }
+        ensures text { self.new ≡ self.old ++ letter_line letter first.now second.now third.now }
         ensures short { length self.new ≤ length self.old + LONGEST_LINE }
     {
         self.len = place_line(&mut self.bytes, self.len, letter, first, second, third);

@@ -4,7 +4,7 @@ use Rattle.std.specs.List.{flat_map}
 use Rattle.std.proofs.lemmas.List.{append-nil, take_more, take-append-drop}
 use Rattle.std.proofs.lemmas.Grind.{flat_map-append}
 use Rattle.roam_edge.specs.Sink.{Appends}
-use Rattle.page_laws.specs.Page.{IsPut, IsCutShort}
+use Rattle.page_laws.specs.Page.{IsPut, IsWrittenInPart}
 
 -- nothing was put yet
 pub put-nothing : (before : Option (List ℕ)) → IsPut before before [] []
@@ -33,7 +33,7 @@ put-written before mid now page page' piece text x same empty put appends = reco
 
 -- a page of which the sink got a part
 pub cut-written : {T E : Type 0} (before mid now : Option (List ℕ)) (page text : List ℕ) (e : E) → IsPut before mid page text →
-    Appends {T = T} {E = E} mid now page (Err e) → IsCutShort before now text
+    Appends {T = T} {E = E} mid now page (Err e) → IsWrittenInPart before now text
 cut-written before mid now page text e put appends = record {
   holds = λ all is.
       let p = put.holds all is in
@@ -46,7 +46,7 @@ cut-written before mid now page text e put appends = record {
 
 -- a prefix of the text is one of a longer text
 pub cut-longer : (before now : Option (List ℕ)) (text more whole : List ℕ) → whole ≡ text ++ more →
-    IsCutShort before now text → IsCutShort before now whole
+    IsWrittenInPart before now text → IsWrittenInPart before now whole
 cut-longer before now text more whole is_whole cut = record {
   holds = λ all is.
       let c = cut.holds all is in (
@@ -64,7 +64,7 @@ appends-put before now text x put = record {
   failed = tt;
 }
 
-pub appends-cut : {T E : Type 0} (before now : Option (List ℕ)) (text : List ℕ) (e : E) → IsCutShort before now text →
+pub appends-cut : {T E : Type 0} (before now : Option (List ℕ)) (text : List ℕ) (e : E) → IsWrittenInPart before now text →
     Appends {T = T} {E = E} before now text (Err e)
 appends-cut before now text e cut = record { ok = tt; failed = cut.holds }
 

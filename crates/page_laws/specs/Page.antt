@@ -7,5 +7,5 @@ pub record IsPut (before now : Option (List ℕ)) (page text : List ℕ) : Type 
   pub holds : (all : List ℕ) → before ≡ Some all → (front : List ℕ) × (now ≡ Some (all ++ front)) × (text ≡ front ++ page)
 
 -- since the sink told `before`, it has got a prefix of this text
-pub record IsCutShort (before now : Option (List ℕ)) (text : List ℕ) : Type 0 where
+pub record IsWrittenInPart (before now : Option (List ℕ)) (text : List ℕ) : Type 0 where
   pub holds : (all : List ℕ) → before ≡ Some all → (front : List ℕ) × IsPrefix front text × (now ≡ Some (all ++ front))

@@ -13,12 +13,12 @@ use Rattle.pgm_raster.specs.declared.fault.RasterFault.{RasterFault}
 use Rattle.pgm_raster.specs.declared.fault.RasterFault.TheVariants as raster
 use Rattle.pgm_raster.specs.declared.form.RasterForm.{RasterForm}
 use Rattle.pgm_raster.specs.declared.form.RasterForm.TheVariants as form
-use Rattle.pgm_raster.specs.RasterText.{IsRaster, IsCutShort, IsTrailingAt, IsBadSampleAt}
+use Rattle.pgm_raster.specs.RasterText.{IsRaster, IsRasterCutShort, IsTrailingAt, IsBadSampleAt}
 use Rattle.pgm_raster.specs.Laws as laws
 use Rattle.pgm_raster.specs.Progress as samples
 use Rattle.pgm_grid.specs.declared.fault.PgmFault.{PgmFault}
 use Rattle.pgm_grid.specs.declared.fault.PgmFault.TheVariants.{Truncated, NoMemory}
-use Rattle.pgm_grid.specs.PgmText.{points_of, form_of, most_bytes, IsFileText, HasHeader}
+use Rattle.pgm_grid.specs.PgmText.{point_count, form_of, most_file_bytes, IsFileText, HasHeader}
 use Rattle.pgm_grid.specs.Progress.{header_fault, raster_fault, grid_with, grid_answer, samples_at, file_answer, grid_of}
 use Rattle.pgm_grid.specs.Laws.{AreBytes, TextsAreRead, GridsHaveTexts, GridsHaveHeaders, CutTextsAreRefused, TrailingBytesAreRefused, GreatSamplesAreRefused, BadSamplesAreRefused, LongFilesAreRefused, OthersAreAbsent}
 use Rattle.pgm_grid.proofs.GridLemmas.{points_small}
@@ -54,7 +54,7 @@ file-truncated total (Whole h rest) e =
     inr (h, rest, refl, found.1 ∙ ap Err (same_raster found.0 raster.Truncated found.2))
 file-truncated total (Bad fault) e = absurd (header-truncated fault (err-same _ _ e))
 
-answer-ok : (h : Header) (answer : samples.Answer) (g : HeightField) → grid_answer h answer ≡ Ok g → (answer ≡ Ok g.heights) × (g ≡ grid_with h g.heights)
+answer-ok : (h : Header) (answer : samples.RasterAnswer) (g : HeightField) → grid_answer h answer ≡ Ok g → (answer ≡ Ok g.heights) × (g ≡ grid_with h g.heights)
 answer-ok h (Ok heights) g e = (ap Ok (ap (λ (f : HeightField). f.heights) (ok-same _ _ e)), sym (ok-same _ _ e) ∙ ap (grid_with h) (ap (λ (f : HeightField). f.heights) (ok-same _ _ e)))
   where
     ok-same : (one other : HeightField) → ◌≡◌ {A = Result HeightField PgmFault} (Ok one) (Ok other) → one ≡ other
@@ -87,7 +87,7 @@ module _ (bytes : List ℕ) (h : Header) where
   has-length at rest has =
       let sum : length bytes ≡ length has.text + length rest = ap length has.cut ∙ length-append has.text rest in omega (arith, sum, has.place)
 
-  pub has-whole : head.TextsAreRead → (at : ℕ) (rest : List ℕ) → HasHeader bytes h at rest
+  pub has-whole : head.HeaderTextsAreRead → (at : ℕ) (rest : List ℕ) → HasHeader bytes h at rest
       → (reading.header_of bytes ≡ Whole h rest) × (length bytes - length rest ≡ at)
   has-whole texts at rest has = (
     ap reading.header_of has.cut ∙ texts has.text rest has.values h has.is_text has.short has.accepts,
@@ -115,7 +115,7 @@ header-law bytes fault Q law = (
   λ q. ap (file_answer (length bytes)) (law.1 q),
 )
 
-module _ (texts : head.TextsAreRead) (read : head.ReadTextsAreHeaders) (bytes : List ℕ) where
+module _ (texts : head.HeaderTextsAreRead) (read : head.ReadTextsAreHeaders) (bytes : List ℕ) where
   -- the same words of a file and of its raster
   pub raster-law : (fault : RasterFault) (Q : Header → ℕ → List ℕ → Type 0) → (raster_fault fault ≡ Truncated → ⊥)
       → ((h : Header) (at : ℕ) (rest : List ℕ) → HasHeader bytes h at rest → (samples_at h at rest ≡ Err fault) ↔ Q h at rest)
@@ -162,22 +162,22 @@ plain-form false maxval = (λ e. absurd (raw-form (nat_lt maxval 256) e), λ e. 
     raw-form false e = cc
 
 -- a raster that is read is not too long
-raster-short : laws.ReadRastersAreShort → (h : Header) (at : ℕ) (heights rest : List ℕ) → IsHeader h → at ≤ 65536 → length heights ≡ points_of h.n
-    → IsRaster (form_of h.plain h.maxval) heights rest → samples_at h at rest ≡ Ok heights → at + length rest ≤ most_bytes
+raster-short : laws.ReadRastersAreShort → (h : Header) (at : ℕ) (heights rest : List ℕ) → IsHeader h → at ≤ 65536 → length heights ≡ point_count h.n
+    → IsRaster (form_of h.plain h.maxval) heights rest → samples_at h at rest ≡ Ok heights → at + length rest ≤ most_file_bytes
 unfolding samples.raster_of
 raster-short short h at heights rest valid near many is e = by-form (form_of h.plain h.maxval) is e
   where
     few : length heights ≤ 4198401
     few = omega (arith, many, points_small h.n valid.level.high)
 
-    by-form : (f : RasterForm) → IsRaster f heights rest → samples.raster_of f (points_of h.n) h.maxval at rest ≡ Ok heights → at + length rest ≤ most_bytes
+    by-form : (f : RasterForm) → IsRaster f heights rest → samples.raster_of f (point_count h.n) h.maxval at rest ≡ Ok heights → at + length rest ≤ most_file_bytes
     by-form form.Bytes is e = (let same = ap length is in omega (arith, same, few, near))
     by-form form.Words is e = (let same = ap length is ∙ length-flat heights in omega (arith, same, few, near))
-    by-form form.Plain is e = omega (arith, short (points_of h.n) h.maxval at heights rest e (omega (arith, near)))
+    by-form form.Plain is e = omega (arith, short (point_count h.n) h.maxval at heights rest e (omega (arith, near)))
 
 -- The laws.
 
-pub law-texts : head.TextsAreRead → laws.RastersAreRead → TextsAreRead
+pub law-texts : head.HeaderTextsAreRead → laws.RastersAreRead → TextsAreRead
 unfolding grid_of
 law-texts texts rasters g bytes valid is =
     let h : Header = record { plain = is.values.plain; n = g.n; maxval = g.maxval } in
@@ -192,7 +192,7 @@ law-texts texts rasters g bytes valid is =
     record { text = is.header; values = is.values; is_text = is.is_header; short = is.short_header; accepts = accepts; cut = is.text; place = refl } in
     let whole = has-whole bytes h texts (length is.header) is.raster has in
     ap (file_answer (length bytes)) whole.0 ∙ ap (λ k. grid_answer h (samples_at h k is.raster)) whole.1
-    ∙ ap (grid_answer h) (rasters (form_of is.values.plain g.maxval) (points_of g.n) g.maxval (length is.header) g.heights is.raster
+    ∙ ap (grid_answer h) (rasters (form_of is.values.plain g.maxval) (point_count g.n) g.maxval (length is.header) g.heights is.raster
     (omega (arith, has-length bytes h (length is.header) is.raster has, is.short)) is.is_raster valid.count valid.bounded)
 
 pub law-grids : head.ReadTextsAreHeaders → laws.ReadBytesAreRasters → laws.ReadRastersAreShort → GridsHaveTexts
@@ -202,7 +202,7 @@ law-grids read rasters short g bytes all e =
     let h : Header = found.0 in
     let rest : List ℕ = found.1 in
     let has = whole-has bytes h read rest found.2 in
-    let raster = rasters (form_of h.plain h.maxval) (points_of h.n) h.maxval (length bytes - length rest) g.heights rest (has-bytes bytes h _ rest has all) found.3 in
+    let raster = rasters (form_of h.plain h.maxval) (point_count h.n) h.maxval (length bytes - length rest) g.heights rest (has-bytes bytes h _ rest has all) found.3 in
     let near : length bytes - length rest ≤ 65536 = omega (arith, has.place, has.short) in
     let within = raster-short short h (length bytes - length rest) g.heights rest has.accepts.valid near raster.1 raster.0 found.3 in
     let P : HeightField → Type 0 = λ f. IsHeightField f × IsFileText f bytes in
@@ -244,41 +244,41 @@ law-others bytes = no-memory (grid_of bytes) (file-memory (length bytes) (readin
     no-memory (Ok g) other = tt
     no-memory (Err fault) other = λ is. other (ap Err is)
 
-module _ (texts : head.TextsAreRead) (read : head.ReadTextsAreHeaders) where
+module _ (texts : head.HeaderTextsAreRead) (read : head.ReadTextsAreHeaders) where
   -- an accepted header ends before the limit
   raster-place : (bytes : List ℕ) (h : Header) (at : ℕ) (rest : List ℕ) → HasHeader bytes h at rest → at ≤ 268435456
   raster-place bytes h at rest has = omega (arith, has.place, has.short)
 
   pub law-truncated : head.PartsArePrefixes → laws.CutRastersAreRefused → CutTextsAreRefused
   law-truncated parts cut bytes all = truncated-law texts read bytes _
-      (λ h at rest. IsCutShort (form_of h.plain h.maxval) (points_of h.n) h.maxval rest × laws.IsWithin (form_of h.plain h.maxval) (at + length rest)) (parts bytes)
-      (λ h at rest has. cut (form_of h.plain h.maxval) (points_of h.n) h.maxval at rest (raster-place bytes h at rest has) (has-bytes bytes h at rest has all))
+      (λ h at rest. IsRasterCutShort (form_of h.plain h.maxval) (point_count h.n) h.maxval rest × laws.IsBelowLimit (form_of h.plain h.maxval) (at + length rest)) (parts bytes)
+      (λ h at rest has. cut (form_of h.plain h.maxval) (point_count h.n) h.maxval at rest (raster-place bytes h at rest has) (has-bytes bytes h at rest has all))
 
-  pub law-trailing : laws.TrailingBytesAreRefused → TrailingBytesAreRefused
+  pub law-trailing : laws.RastersRefuseTrailingBytes → TrailingBytesAreRefused
   law-trailing law bytes p all = raster-law texts read bytes (raster.Trailing p)
-      (λ h at rest. (place : ℕ) × (p ≡ at + place) × IsTrailingAt (form_of h.plain h.maxval) (points_of h.n) h.maxval rest place × laws.IsWithin (form_of h.plain h.maxval) (p + 1)) (λ e. cc)
-      (λ h at rest has. law (form_of h.plain h.maxval) (points_of h.n) h.maxval at rest p (raster-place bytes h at rest has) (has-bytes bytes h at rest has all))
+      (λ h at rest. (place : ℕ) × (p ≡ at + place) × IsTrailingAt (form_of h.plain h.maxval) (point_count h.n) h.maxval rest place × laws.IsBelowLimit (form_of h.plain h.maxval) (p + 1)) (λ e. cc)
+      (λ h at rest has. law (form_of h.plain h.maxval) (point_count h.n) h.maxval at rest p (raster-place bytes h at rest has) (has-bytes bytes h at rest has all))
 
-  pub law-above : laws.GreatSamplesAreRefused → GreatSamplesAreRefused
+  pub law-above : laws.RastersRefuseGreatSamples → GreatSamplesAreRefused
   law-above law bytes index all = raster-law texts read bytes (raster.AboveMaxval index)
-      (λ h at rest. laws.IsAboveWithin (form_of h.plain h.maxval) (points_of h.n) h.maxval at rest index) (λ e. cc)
-      (λ h at rest has. law (form_of h.plain h.maxval) (points_of h.n) h.maxval at rest index (raster-place bytes h at rest has) (has-bytes bytes h at rest has all))
+      (λ h at rest. laws.IsAboveWithin (form_of h.plain h.maxval) (point_count h.n) h.maxval at rest index) (λ e. cc)
+      (λ h at rest has. law (form_of h.plain h.maxval) (point_count h.n) h.maxval at rest index (raster-place bytes h at rest has) (has-bytes bytes h at rest has all))
 
-  pub law-bad_sample : laws.BadSamplesAreRefused → BadSamplesAreRefused
+  pub law-bad_sample : laws.RastersRefuseBadSamples → BadSamplesAreRefused
   law-bad_sample law bytes p all = raster-law texts read bytes (raster.BadSample p)
-      (λ h at rest. (h.plain ≡ true) × (place : ℕ) × (p ≡ at + place) × IsBadSampleAt (points_of h.n) h.maxval rest place × (p < most_bytes)) (λ e. cc)
+      (λ h at rest. (h.plain ≡ true) × (place : ℕ) × (p ≡ at + place) × IsBadSampleAt (point_count h.n) h.maxval rest place × (p < most_file_bytes)) (λ e. cc)
       (λ h at rest has.
-      let there = law (form_of h.plain h.maxval) (points_of h.n) h.maxval at rest p (raster-place bytes h at rest has) (has-bytes bytes h at rest has all) in (
+      let there = law (form_of h.plain h.maxval) (point_count h.n) h.maxval at rest p (raster-place bytes h at rest has) (has-bytes bytes h at rest has all) in (
         λ e. (let x = there.0 e in ((plain-form h.plain h.maxval).0 x.0, x.1, x.2, x.3, x.4)),
         λ x. there.1 ((plain-form h.plain h.maxval).1 x.0, x.1, x.2, x.3, x.4),
       ))
 
   pub law-too_long : laws.LongRastersAreRefused → LongFilesAreRefused
   law-too_long law bytes = raster-law texts read bytes raster.TooLong
-      (λ h at rest. (h.plain ≡ true) × (most_bytes < length bytes) × laws.NoneIsRefused (points_of h.n) h.maxval at (take (most_bytes - at) rest)) (λ e. cc)
+      (λ h at rest. (h.plain ≡ true) × (most_file_bytes < length bytes) × laws.NoneIsRefused (point_count h.n) h.maxval at (take (most_file_bytes - at) rest)) (λ e. cc)
       (λ h at rest has.
       let sum = has-length bytes h at rest has in
-      let there = law (form_of h.plain h.maxval) (points_of h.n) h.maxval at rest (omega (arith, has.place, has.short)) in (
+      let there = law (form_of h.plain h.maxval) (point_count h.n) h.maxval at rest (omega (arith, has.place, has.short)) in (
         λ e. (let x = there.0 e in ((plain-form h.plain h.maxval).0 x.0, omega (arith, x.1, sum), x.2)),
         λ x. there.1 ((plain-form h.plain h.maxval).1 x.0, omega (arith, x.1, sum), x.2),
       ))

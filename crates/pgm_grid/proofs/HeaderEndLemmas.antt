@@ -23,7 +23,7 @@ whole_no-part : (h : Header) (rest : List ℕ) → Whole h rest ≡ Part → ⊥
 whole_no-part h rest e = cc
 
 -- bytes that are answered as a header that goes on are a part of a header
-open-part : head.ReadHeadersStand → (reader : reading.Progress) (bytes : List ℕ) → IsOpenHeader reader → StandsFor (InHeader reader) bytes → reading.header_of bytes ≡ Part
+open-part : head.ReadHeadersStand → (reader : reading.HeaderProgress) (bytes : List ℕ) → IsOpenHeader reader → StandsFor (InHeader reader) bytes → reading.header_of bytes ≡ Part
 unfolding resume grid_of
 open-part stands reader bytes goes_on same = by-answer (reading.header_of bytes) refl
   where
@@ -31,18 +31,18 @@ open-part stands reader bytes goes_on same = by-answer (reading.header_of bytes)
     by-answer Part is = is
     by-answer (Whole h rest) is =
         let more : List ℕ = goes_on.refusable.0 in
-        let refused : resume (InHeader reader) more ≡ Err (header_fault goes_on.refusable.1) = ap (file_answer (reading.taken reader + length more)) goes_on.refusable.2 in
+        let refused : resume (InHeader reader) more ≡ Err (header_fault goes_on.refusable.1) = ap (file_answer (reading.header_taken reader + length more)) goes_on.refusable.2 in
         let whole : grid_of (bytes ++ more) ≡ grid_answer h (samples_at h (length (bytes ++ more) - length (rest ++ more)) (rest ++ more)) =
         ap (file_answer (length (bytes ++ more))) (stands bytes rest more h is) in
         let found = raster-refused h (samples_at h (length (bytes ++ more) - length (rest ++ more)) (rest ++ more)) (header_fault goes_on.refusable.1) (sym whole ∙ sym (same more) ∙ refused) in
         absurd (apart goes_on.refusable.1 found.0 (sym found.2))
     by-answer (Bad fault) is =
-        let cut : resume (InHeader reader) [] ≡ Err Truncated = ap (file_answer (reading.taken reader + 0)) goes_on.part in
+        let cut : resume (InHeader reader) [] ≡ Err Truncated = ap (file_answer (reading.header_taken reader + 0)) goes_on.part in
         let refused : grid_of (bytes ++ []) ≡ Err (header_fault fault) = ap grid_of (append-nil bytes) ∙ ap (file_answer (length bytes)) is in
         absurd (header-truncated fault (err-same _ _ (sym refused ∙ sym (same []) ∙ cut)))
 
 -- bytes behind which a raster is answered, whatever follows, have a whole header
-raster-whole : head.PartsAreRefusable → (bytes : List ℕ) (header : Header) (answer : List ℕ → samples.Answer) → ((more : List ℕ) → grid_of (bytes ++ more) ≡ grid_answer header (answer more))
+raster-whole : head.PartsAreRefusable → (bytes : List ℕ) (header : Header) (answer : List ℕ → samples.RasterAnswer) → ((more : List ℕ) → grid_of (bytes ++ more) ≡ grid_answer header (answer more))
     → (h : Header) × (rest : List ℕ) × (reading.header_of bytes ≡ Whole h rest)
 unfolding grid_of
 raster-whole refusable bytes header answer same = by-answer (reading.header_of bytes) refl
@@ -58,7 +58,7 @@ raster-whole refusable bytes header answer same = by-answer (reading.header_of b
     by-answer (Bad fault) is = absurd (never-refused [] fault (ap reading.header_of (append-nil bytes) ∙ is))
 
 -- a whole header ends behind bytes that are a part of one
-ends-later : head.TextsAreRead → (before piece : List ℕ) (header : Header) (at : ℕ) (rest : List ℕ) → reading.header_of before ≡ Part → HasHeader (before ++ piece) header at rest → length before < at
+ends-later : head.HeaderTextsAreRead → (before piece : List ℕ) (header : Header) (at : ℕ) (rest : List ℕ) → reading.header_of before ≡ Part → HasHeader (before ++ piece) header at rest → length before < at
 ends-later texts before piece header at rest part has =
     elim (cases_lt (length before) at) as (λ _. length before < at) [
       | inl later ↦ later
@@ -72,11 +72,11 @@ ends-later texts before piece header at rest part has =
     before-cut text rest whole short = sym (take-append_seam before piece) ∙ ap (take (length before)) whole
         ∙ (let split : length before ≡ length text + (length before - length text) = omega (arith, short) in ap (λ (k : ℕ). take k (text ++ rest)) split) ∙ take-append-add text rest (length before - length text)
 
-module _ (texts : head.TextsAreRead) (read : head.ReadTextsAreHeaders) (stands : head.ReadHeadersStand) (refusable : head.PartsAreRefusable)
-    (start reader : reading.Progress) (piece : List ℕ) (begun : IsOpenHeader start)
+module _ (texts : head.HeaderTextsAreRead) (read : head.ReadTextsAreHeaders) (stands : head.ReadHeadersStand) (refusable : head.PartsAreRefusable)
+    (start reader : reading.HeaderProgress) (piece : List ℕ) (begun : IsOpenHeader start)
     (count byte : ℕ) (rest : List ℕ) (so_far : HasTaken start reader piece count) (cut : piece ≡ take count piece ++ (byte ∷ rest))
-    (header : Header) (ends : (more : List ℕ) → reading.resume reader (byte ∷ more) ≡ Whole header more)
-    (at : ℕ) (place : at ≡ reading.taken reader + 1) (size : length (take count piece) ≡ count) where
+    (header : Header) (ends : (more : List ℕ) → reading.resume_header reader (byte ∷ more) ≡ Whole header more)
+    (at : ℕ) (place : at ≡ reading.header_taken reader + 1) (size : length (take count piece) ≡ count) where
   -- the piece ends the header of which the bytes before are a part
   ends-header : (before : List ℕ) → StandsFor (InHeader start) before → EndsHeaderOf before piece
   ends-header before same =

@@ -4,16 +4,16 @@ use Rattle.pgm_grid.specs.declared.fault.PgmFault.{PgmFault}
 use Rattle.pgm_grid.specs.declared.fault.PgmFault.TheVariants.{BadMagic, BadHeader, HeaderTooLong, BadMaxval, NotSquare, BadSide, Truncated, BadSample, AboveMaxval, Trailing, NoMemory, TooLong}
 
 -- the number of a kind of refusal
-abbrev pub number_of : PgmFault → ℕ
-number_of BadMagic = 1
-number_of (BadHeader _) = 2
-number_of HeaderTooLong = 3
-number_of BadMaxval = 4
-number_of NotSquare = 5
-number_of BadSide = 6
-number_of Truncated = 7
-number_of (BadSample _) = 8
-number_of (AboveMaxval _) = 9
-number_of (Trailing _) = 10
-number_of NoMemory = 11
-number_of TooLong = 12
+abbrev pub grid_fault_number : PgmFault → ℕ
+grid_fault_number BadMagic = 1
+grid_fault_number (BadHeader _) = 2
+grid_fault_number HeaderTooLong = 3
+grid_fault_number BadMaxval = 4
+grid_fault_number NotSquare = 5
+grid_fault_number BadSide = 6
+grid_fault_number Truncated = 7
+grid_fault_number (BadSample _) = 8
+grid_fault_number (AboveMaxval _) = 9
+grid_fault_number (Trailing _) = 10
+grid_fault_number NoMemory = 11
+grid_fault_number TooLong = 12

@@ -8,10 +8,10 @@ use Rattle.pgm_header.specs.declared.accepted.Header.{Header}
 use Rattle.pgm_header.specs.declared.machine.HeaderValues.{HeaderValues}
 use Rattle.pgm_header.specs.HeaderText.{IsProperPrefix, IsUnfitAt, BeginsWithHeader}
 use Rattle.pgm_header.specs.Accepted.{IsLevel, IsMaxval}
-use Rattle.pgm_raster.specs.RasterText.{IsCutShort, IsTrailingAt, IsBadSampleAt}
-use Rattle.pgm_raster.specs.Laws.{IsWithin, IsAboveWithin, NoneIsRefused}
+use Rattle.pgm_raster.specs.RasterText.{IsRasterCutShort, IsTrailingAt, IsBadSampleAt}
+use Rattle.pgm_raster.specs.Laws.{IsBelowLimit, IsAboveWithin, NoneIsRefused}
 use Rattle.pgm_grid.specs.declared.fault.PgmFault.TheVariants.{BadMagic, BadHeader, HeaderTooLong, BadMaxval, NotSquare, BadSide, Truncated, BadSample, AboveMaxval, Trailing, NoMemory, TooLong}
-use Rattle.pgm_grid.specs.PgmText.{points_of, form_of, most_bytes, IsFileText, HasHeader}
+use Rattle.pgm_grid.specs.PgmText.{point_count, form_of, most_file_bytes, IsFileText, HasHeader}
 use Rattle.pgm_grid.specs.Progress.{grid_of}
 
 -- the bytes are those of a file
@@ -63,33 +63,33 @@ abbrev pub CutTextsAreRefused : Type 0
 CutTextsAreRefused = (bytes : List ℕ) → AreBytes bytes → (grid_of bytes ≡ Err Truncated)
     ↔ ((IsProperPrefix bytes × (length bytes < MOST_HEADER_BYTES))
     ⊎ ((header : Header) × (at : ℕ) × (rest : List ℕ) × HasHeader bytes header at rest
-    × (IsCutShort (form_of header.plain header.maxval) (points_of header.n) header.maxval rest × IsWithin (form_of header.plain header.maxval) (at + length rest))))
+    × (IsRasterCutShort (form_of header.plain header.maxval) (point_count header.n) header.maxval rest × IsBelowLimit (form_of header.plain header.maxval) (at + length rest))))
 
 -- a trailing byte exactly at the place of the first that may not stand behind the last sample
 abbrev pub TrailingBytesAreRefused : Type 0
 TrailingBytesAreRefused = (bytes : List ℕ) (p : ℕ) → AreBytes bytes → (grid_of bytes ≡ Err (Trailing p))
     ↔ ((header : Header) × (at : ℕ) × (rest : List ℕ) × HasHeader bytes header at rest
-    × ((place : ℕ) × (p ≡ at + place) × IsTrailingAt (form_of header.plain header.maxval) (points_of header.n) header.maxval rest place
-    × IsWithin (form_of header.plain header.maxval) (p + 1)))
+    × ((place : ℕ) × (p ≡ at + place) × IsTrailingAt (form_of header.plain header.maxval) (point_count header.n) header.maxval rest place
+    × IsBelowLimit (form_of header.plain header.maxval) (p + 1)))
 
 -- above maxval exactly at the index of the first sample that is
 abbrev pub GreatSamplesAreRefused : Type 0
 GreatSamplesAreRefused = (bytes : List ℕ) (index : ℕ) → AreBytes bytes → (grid_of bytes ≡ Err (AboveMaxval index))
     ↔ ((header : Header) × (at : ℕ) × (rest : List ℕ) × HasHeader bytes header at rest
-    × IsAboveWithin (form_of header.plain header.maxval) (points_of header.n) header.maxval at rest index)
+    × IsAboveWithin (form_of header.plain header.maxval) (point_count header.n) header.maxval at rest index)
 
 -- a bad sample exactly at the place of the byte that continues none, in plain rasters alone
 abbrev pub BadSamplesAreRefused : Type 0
 BadSamplesAreRefused = (bytes : List ℕ) (p : ℕ) → AreBytes bytes → (grid_of bytes ≡ Err (BadSample p))
     ↔ ((header : Header) × (at : ℕ) × (rest : List ℕ) × HasHeader bytes header at rest
-    × ((header.plain ≡ true) × (place : ℕ) × (p ≡ at + place) × IsBadSampleAt (points_of header.n) header.maxval rest place
-    × (p < most_bytes)))
+    × ((header.plain ≡ true) × (place : ℕ) × (p ≡ at + place) × IsBadSampleAt (point_count header.n) header.maxval rest place
+    × (p < most_file_bytes)))
 
 -- too long exactly where a plain file has more than 2 ^ 28 bytes, of whose first 2 ^ 28 none is refused
 abbrev pub LongFilesAreRefused : Type 0
 LongFilesAreRefused = (bytes : List ℕ) → (grid_of bytes ≡ Err TooLong)
     ↔ ((header : Header) × (at : ℕ) × (rest : List ℕ) × HasHeader bytes header at rest
-    × ((header.plain ≡ true) × (most_bytes < length bytes) × NoneIsRefused (points_of header.n) header.maxval at (take (most_bytes - at) rest)))
+    × ((header.plain ≡ true) × (most_file_bytes < length bytes) × NoneIsRefused (point_count header.n) header.maxval at (take (most_file_bytes - at) rest)))
 
 -- no bytes of a file are out of memory
 abbrev pub OthersAreAbsent : Type 0

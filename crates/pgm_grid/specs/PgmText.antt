@@ -1,7 +1,7 @@
 -- The text of a grid in a file: a header, then a raster. Source: Netpbm manual, "pgm"; the sides, where
 -- comments may stand and the limits of length are this project's own.
 --
--- Words: points_of, form_of, most_bytes, IsFileText, HasHeader, HasWholeHeader.
+-- Words: point_count, form_of, most_file_bytes, IsFileText, HasHeader, HasWholeHeader.
 use Rattle.std.specs.Prelude.{◌≡◌, ℕ, ◌*◌, ◌≤◌, Bool, true, false, nat_lt, if◌then◌else◌, List, ◌++◌, length}
 use Rattle.pgm_header.specs.declared.reader.TheConstants.{MOST_HEADER_BYTES}
 use Rattle.mesh_defs.specs.HeightField.{HeightField, side_of}
@@ -15,8 +15,8 @@ use Rattle.pgm_raster.specs.Progress as raster
 use Rattle.pgm_raster.specs.RasterText.{IsRaster}
 
 -- the number of points of a grid with this n
-abbrev pub points_of : ℕ → ℕ
-points_of n = side_of n * side_of n
+abbrev pub point_count : ℕ → ℕ
+point_count n = side_of n * side_of n
 
 -- the form of the raster: plain; or raw, with one byte a sample where the maxval is below 256, else two
 abbrev pub form_of : Bool → ℕ → RasterForm
@@ -24,8 +24,8 @@ form_of true maxval = form.Plain
 form_of false maxval = if nat_lt maxval 256 then form.Bytes else form.Words
 
 -- the greatest number of bytes of a file, 2 ^ 28
-abbrev pub most_bytes : ℕ
-most_bytes = raster.most_bytes
+abbrev pub most_file_bytes : ℕ
+most_file_bytes = raster.most_bytes
 
 -- The bytes are a file text of the grid: a header of at most `MOST_HEADER_BYTES` with its side and its maxval, and
 -- a raster of its heights; and they are not too many.
@@ -40,7 +40,7 @@ pub record IsFileText (g : HeightField) (bytes : List ℕ) : Type 0 where
   pub maxval : values.maxval ≡ g.maxval
   pub is_raster : IsRaster (form_of values.plain g.maxval) g.heights raster
   pub text : bytes ≡ header ++ raster
-  pub short : length bytes ≤ most_bytes
+  pub short : length bytes ≤ most_file_bytes
 
 -- the bytes begin with the text of an accepted header, behind which, from place `at` on, this is left
 pub record HasHeader (bytes : List ℕ) (header : Header) (at : ℕ) (rest : List ℕ) : Type 0 where

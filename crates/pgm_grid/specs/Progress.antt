@@ -2,7 +2,7 @@
 -- header the raster's. The laws of `Laws` say in the format's own words what these answers are.
 --
 -- Words: Progress, header_fault, raster_fault, grid_with, grid_answer, file_answer, resume, grid_of, taken,
--- IsSettled, StandsFor, EndsHeaderOf, EndsHeader.
+-- StaysRefused, StandsFor, EndsHeaderOf, EndsHeader.
 use Rattle.std.specs.Prelude.{◌≡◌, ℕ, ◌+◌, ◌-◌, ◌<◌, List, ◌++◌, length, Result, Ok, Err}
 use Rattle.pgm_header.specs.declared.reader.TheConstants.{MOST_HEADER_BYTES}
 use Rattle.mesh_defs.specs.HeightField.{HeightField}
@@ -16,12 +16,12 @@ use Rattle.pgm_raster.specs.declared.fault.RasterFault.TheVariants as raster
 use Rattle.pgm_raster.specs.Progress as samples
 use Rattle.pgm_grid.specs.declared.fault.PgmFault.{PgmFault}
 use Rattle.pgm_grid.specs.declared.fault.PgmFault.TheVariants.{BadMagic, BadHeader, HeaderTooLong, BadMaxval, NotSquare, BadSide, Truncated, BadSample, AboveMaxval, Trailing, TooLong}
-use Rattle.pgm_grid.specs.PgmText.{points_of, form_of, HasHeader}
+use Rattle.pgm_grid.specs.PgmText.{point_count, form_of, HasHeader}
 
 -- what a reader has come to: a part of a header; an accepted header and a part of its raster; or a refusal
 pub data Progress : Type 0 where
-  InHeader : (reader : reading.Progress) → Progress
-  InRaster : (header : Header) (reader : samples.Progress) → Progress
+  InHeader : (reader : reading.HeaderProgress) → Progress
+  InRaster : (header : Header) (reader : samples.RasterProgress) → Progress
   HasRefused : (fault : PgmFault) → Progress
 
 -- a refusal of the header is one of the file
@@ -46,13 +46,13 @@ abbrev pub grid_with : Header → List ℕ → HeightField
 grid_with h heights = record { n = h.n; maxval = h.maxval; heights = heights }
 
 -- the answer of the raster behind a header
-abbrev pub grid_answer : Header → samples.Answer → Result HeightField PgmFault
+abbrev pub grid_answer : Header → samples.RasterAnswer → Result HeightField PgmFault
 grid_answer h (Ok heights) = Ok (grid_with h heights)
 grid_answer h (Err fault) = Err (raster_fault fault)
 
 -- the samples of these bytes, from a place of the file on, behind this header
-abbrev pub samples_at : Header → ℕ → List ℕ → samples.Answer
-samples_at h at bytes = samples.raster_of (form_of h.plain h.maxval) (points_of h.n) h.maxval at bytes
+abbrev pub samples_at : Header → ℕ → List ℕ → samples.RasterAnswer
+samples_at h at bytes = samples.raster_of (form_of h.plain h.maxval) (point_count h.n) h.maxval at bytes
 
 -- the answer for a file of so many bytes whose header is answered so: a raster begins where what follows
 -- the header does
@@ -63,8 +63,8 @@ file_answer total (Bad fault) = Err (header_fault fault)
 
 -- what a reader answers if exactly these bytes still come
 unfoldable pub resume : Progress → List ℕ → Result HeightField PgmFault
-resume (InHeader reader) more = file_answer (reading.taken reader + length more) (reading.resume reader more)
-resume (InRaster h reader) more = grid_answer h (samples.resume reader more)
+resume (InHeader reader) more = file_answer (reading.header_taken reader + length more) (reading.resume_header reader more)
+resume (InRaster h reader) more = grid_answer h (samples.resume_raster reader more)
 resume (HasRefused fault) more = Err fault
 
 -- the grid of which the bytes are a file text, or the refusal of the bytes
@@ -73,13 +73,13 @@ grid_of bytes = file_answer (length bytes) (reading.header_of bytes)
 
 -- how many bytes a reader has taken that has refused none
 unfoldable pub taken : Progress → ℕ
-taken (InHeader reader) = reading.taken reader
+taken (InHeader reader) = reading.header_taken reader
 taken (InRaster h reader) = samples.next_place reader
 taken (HasRefused fault) = 0
 
 -- whatever still comes, the answer is this refusal
-unfoldable pub IsSettled : Progress → PgmFault → Type 0
-IsSettled reader fault = (more : List ℕ) → resume reader more ≡ Err fault
+unfoldable pub StaysRefused : Progress → PgmFault → Type 0
+StaysRefused reader fault = (more : List ℕ) → resume reader more ≡ Err fault
 
 -- these bytes have brought a reader so far: it answers what they and the bytes that still come mean
 abbrev pub StandsFor : Progress → List ℕ → Type 0

@@ -1,7 +1,7 @@
 //! Why bytes are refused.
 
 ghost use Rattle.std.specs.Prelude.{◌≡◌};
-ghost use Rattle.pgm_grid.specs.FaultNumber.{number_of};
+ghost use Rattle.pgm_grid.specs.FaultNumber.{grid_fault_number};
 
 use thiserror::Error;
 
@@ -62,7 +62,7 @@ pub enum PgmFault {
 impl PgmFault {
     /// The number of this kind of refusal, from 1 to 12.
     pub fn number(self) -> u8
-        ensures { result ≡ number_of self }
+        ensures { result ≡ grid_fault_number self }
     {
         match self {
             PgmFault::BadMagic => 1,

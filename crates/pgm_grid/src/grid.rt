@@ -4,7 +4,7 @@ ghost use Rattle.std.specs.Prelude.{◌≡◌, ◌<◌, ◌≤◌, ◌^◌, ◌*
 ghost use Rattle.mesh_defs.specs.HeightField.{IsHeightField, height_at, place_of, side_of};
 ghost use Rattle.mesh_defs.specs.declared.level.TheConstants.{GREATEST_LEVEL};
 ghost use Rattle.pgm_grid.specs.declared.grid.TheConstants.{MOST_SIDE, MOST_POINTS};
-ghost use Rattle.pgm_grid.specs.PgmText.{points_of};
+ghost use Rattle.pgm_grid.specs.PgmText.{point_count};
 
 use roam_errors::NoMemory;
 use std::alloc::Global;
@@ -98,7 +98,7 @@ impl Grid {
 
     /// The number of points.
     pub fn points(&self) -> usize
-        ensures value { result ≡ points_of self.now.n }
+        ensures value { result ≡ point_count self.now.n }
         ensures high { result ≤ MOST_POINTS }
         ensures valid { IsHeightField self.now }
     {
@@ -168,7 +168,7 @@ pub fn side_for(n: u32) -> usize
 /// The number of points of a grid with this n.
 pub(crate) fn points_for(n: u32) -> usize
     requires { n ≤ GREATEST_LEVEL }
-    ensures value { result ≡ points_of n }
+    ensures value { result ≡ point_count n }
     ensures high { result ≤ MOST_POINTS }
 {
     let side = side_for(n);

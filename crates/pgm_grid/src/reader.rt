@@ -3,7 +3,7 @@
 ghost use Rattle.std.specs.Prelude.{◌≡◌, ◌≢◌, ◌⊎◌, ◌+◌, ◌^◌, ◌≤◌, [], ◌++◌, List, ℕ, length, OnOk, IfErr};
 ghost use Rattle.std.specs.Result.{IsErrOf};
 ghost use Rattle.pgm_raster.specs.declared.plain.TheConstants.{MOST_BYTES};
-ghost use Rattle.pgm_grid.specs.Progress.{resume, grid_of, taken, IsSettled, EndsHeader};
+ghost use Rattle.pgm_grid.specs.Progress.{resume, grid_of, taken, StaysRefused, EndsHeader};
 
 use crate::fault::PgmFault;
 use crate::grid::Grid;
@@ -59,7 +59,7 @@ impl PgmReader {
         // What the bytes mean together is not changed by where they are cut.
         ensures ok { OnOk result ((more : List ℕ) → resume self.old (piece.now ++ more) ≡ resume self.new more) }
         // No byte so far is refused.
-        ensures unsettled { OnOk result ((fault : PgmFault) → ¬ IsSettled self.new fault) }
+        ensures unsettled { OnOk result ((fault : PgmFault) → ¬ StaysRefused self.new fault) }
         ensures count { OnOk result (taken self.new ≡ taken self.old + length piece.now) }
         // No more bytes are taken, so a loop that feeds what is still to come ends.
         ensures limit { OnOk result (taken self.new ≤ MOST_BYTES) }
@@ -68,9 +68,9 @@ impl PgmReader {
             (more : List ℕ) → resume self.old (piece.now ++ more) ≡ Err fault) }
         // The room is wanted once: where the text of an accepted header ends, which is within its limit.
         ensures no_memory { IsErrOf result PgmFault.NoMemory →
-            IsSettled self.old PgmFault.NoMemory ⊎ EndsHeader self.old piece.now }
-        ensures err { IfErr result (λ fault. IsSettled self.new fault) }
-        ensures sticks { (fault : PgmFault) → IsSettled self.old fault → result ≡ Err fault }
+            StaysRefused self.old PgmFault.NoMemory ⊎ EndsHeader self.old piece.now }
+        ensures err { IfErr result (λ fault. StaysRefused self.new fault) }
+        ensures sticks { (fault : PgmFault) → StaysRefused self.old fault → result ≡ Err fault }
     {
         let stage = mem::replace(&mut self.stage, Stage::Stopped(PgmFault::Truncated));
         match stage_after(self.alloc, stage, piece) {

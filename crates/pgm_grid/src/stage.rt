@@ -5,7 +5,7 @@ ghost use Rattle.pgm_header.specs.declared.reader.TheConstants.{MOST_HEADER_BYTE
 ghost use Rattle.pgm_header.specs.Accepted.{IsHeader};
 ghost use Rattle.pgm_grid.specs.PgmText.{form_of};
 ghost use Rattle.pgm_grid.specs.Progress.{InHeader, InRaster, header_fault, raster_fault, resume, grid_answer, samples_at};
-ghost use Rattle.pgm_grid.specs.Stage.{progress_of, IsOpenHeader, IsBehind, IsStage, Takes, Stops, BeginsRaster};
+ghost use Rattle.pgm_grid.specs.Stage.{progress_of, IsOpenHeader, IsReaderFor, IsStage, Takes, Stops, BeginsRaster};
 
 use crate::fault::PgmFault;
 use crate::grid::{Grid, points_for};
@@ -89,7 +89,7 @@ fn raster_begun(alloc: Global, header: Header, at: u64, rest: &[u8]) -> Result<S
 
 /// What further bytes make of a part of a raster.
 fn raster_after(header: Header, mut reader: RasterReader, piece: &[u8]) -> Result<Stage, PgmFault>
-    requires { IsBehind header reader }
+    requires { IsReaderFor header reader }
     ensures valid { IfOk result IsStage }
     ensures takes { IfOk result (λ next. Takes (InRaster header reader) (progress_of next) piece.now) }
     ensures refusal { IfErr result (λ fault. (more : List ℕ) → resume (InRaster header reader) (piece.now ++ more) ≡ Err fault) }
@@ -155,7 +155,7 @@ pub(crate) fn last_answer(stage: Stage) -> Result<Grid, PgmFault>
 
 /// The grid of a header and its raster, if the raster is whole.
 fn grid_from(header: Header, reader: RasterReader) -> Result<Grid, PgmFault>
-    requires { IsBehind header reader }
+    requires { IsReaderFor header reader }
     ensures { result ≡ resume (InRaster header reader) [] }
 {
     match reader.finish() {

@@ -6,7 +6,7 @@ use Rattle.pgm_header.specs.declared.accepted.Header.{Header}
 use Rattle.pgm_header.specs.declared.fault.HeaderFault.{HeaderFault}
 use Rattle.pgm_header.specs.declared.fault.HeaderFault.TheVariants.{BadMagic, BadHeader, HeaderTooLong, BadMaxval, NotSquare, BadSide}
 use Rattle.pgm_header.specs.declared.machine.HeaderValues.{HeaderValues}
-use Rattle.pgm_header.specs.Accepted.{IsLevel, IsMaxval, Accepts, level_of, with_level, judged}
+use Rattle.pgm_header.specs.Accepted.{IsLevel, IsMaxval, Accepts, side_level, with_level, judged}
 
 -- Levels.
 
@@ -15,7 +15,7 @@ abbrev LevelIn : ℕ → Option ℕ → Type 0
 LevelIn side (Some n) = IsLevel n × (side ≡ side_of n)
 LevelIn side None = Unit {0}
 
-level_in : (side : ℕ) → LevelIn side (level_of side)
+level_in : (side : ℕ) → LevelIn side (side_level side)
 level_in side =
     cond_both (side == 3) (Some 1) _ (LevelIn side) (λ e. (record { low = omega arith; high = omega arith }, eqb-true side 3 e)) (λ _.
     cond_both (side == 5) (Some 2) _ (LevelIn side) (λ e. (record { low = omega arith; high = omega arith }, eqb-true side 5 e)) (λ _.
@@ -38,14 +38,14 @@ just_some : (n : ℕ) (o : Option ℕ) → is_just n o ≡ true → o ≡ Some n
 just_some n (Some m) e = ap (λ (k : ℕ). Some k) (eqb-true m n e)
 just_some n None e = absurd (cc)
 
-levels_test : agree_below (λ n. eqb n 0 || is_just n (level_of (side_of n))) (λ _. true) 12 ≡ true
+levels_test : agree_below (λ n. eqb n 0 || is_just n (side_level (side_of n))) (λ _. true) 12 ≡ true
 levels_test = refl
 
-level_of-side : (n : ℕ) → IsLevel n → level_of (side_of n) ≡ Some n
+level_of-side : (n : ℕ) → IsLevel n → side_level (side_of n) ≡ Some n
 level_of-side n level =
-    elim (or_cases (eqb n 0) (is_just n (level_of (side_of n))) (agree_below_at (λ k. eqb k 0 || is_just k (level_of (side_of k))) (λ _. true) 12 n levels_test (omega (arith, level.high)))) as (λ _. level_of (side_of n) ≡ Some n) [
+    elim (or_cases (eqb n 0) (is_just n (side_level (side_of n))) (agree_below_at (λ k. eqb k 0 || is_just k (side_level (side_of k))) (λ _. true) 12 n levels_test (omega (arith, level.high)))) as (λ _. side_level (side_of n) ≡ Some n) [
       | inl none ↦ let nothing : n ≡ 0 = eqb-true n 0 none in absurd (omega (arith, level.low))
-      | inr just ↦ just_some n (level_of (side_of n)) just
+      | inr just ↦ just_some n (side_level (side_of n)) just
     ]
 
 -- The tests of the values.
@@ -60,12 +60,12 @@ JudgedAs v (Err BadMagic) = ⊥
 JudgedAs v (Err (BadHeader at)) = ⊥
 JudgedAs v (Err HeaderTooLong) = ⊥
 
-level_judged : (v : HeaderValues) (o : Option ℕ) → level_of v.width ≡ o → IsMaxval v.maxval → v.width ≡ v.height → LevelIn v.width o → JudgedAs v (with_level v o)
+level_judged : (v : HeaderValues) (o : Option ℕ) → side_level v.width ≡ o → IsMaxval v.maxval → v.width ≡ v.height → LevelIn v.width o → JudgedAs v (with_level v o)
 level_judged v None e fine square level = (
   fine,
   square,
   λ n at is.
-      let found : level_of v.width ≡ Some n = ap level_of is ∙ level_of-side n at in
+      let found : side_level v.width ≡ Some n = ap side_level is ∙ level_of-side n at in
       let clash : Some n ≡ None = sym found ∙ e in cc,
 )
 level_judged v (Some n) e fine square level =
@@ -84,11 +84,11 @@ judges v =
     let fine : IsMaxval v.maxval = record { low = omega arith; high = few } in
     cond_both (not (v.width == v.height)) (Err NotSquare) _ (JudgedAs v)
     (λ d. (fine, eqb-false v.width v.height (not-true (v.width == v.height) d)))
-    (λ d. level_judged v (level_of v.width) refl fine (eqb-true v.width v.height (not-false (v.width == v.height) d)) (level_in v.width)))
+    (λ d. level_judged v (side_level v.width) refl fine (eqb-true v.width v.height (not-false (v.width == v.height) d)) (level_in v.width)))
 
 -- one result at most
 same_level : (m n : ℕ) → IsLevel m → IsLevel n → side_of m ≡ side_of n → m ≡ n
-same_level m n at_m at_n e = let both : Some m ≡ Some n = sym (level_of-side m at_m) ∙ ap level_of e ∙ level_of-side n at_n in cc
+same_level m n at_m at_n e = let both : Some m ≡ Some n = sym (level_of-side m at_m) ∙ ap side_level e ∙ level_of-side n at_n in cc
 
 abbrev header_with : Bool → ℕ → ℕ → Header
 header_with p n m = record { plain = p; n = n; maxval = m }

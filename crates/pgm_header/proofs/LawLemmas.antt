@@ -12,11 +12,11 @@ use Rattle.pgm_header.specs.declared.machine.State.{State}
 use Rattle.pgm_header.specs.declared.machine.State.TheVariants.{Start}
 use Rattle.pgm_header.specs.declared.machine.Step.{Step}
 use Rattle.pgm_header.specs.declared.machine.Step.TheVariants.{Goes, Ends, Fails}
-use Rattle.pgm_header.specs.HeaderText.{IsHeaderText, IsPrefix, IsProperPrefix, IsUnfitAt, BeginsWithHeader}
+use Rattle.pgm_header.specs.HeaderText.{IsHeaderText, IsHeaderPrefix, IsProperPrefix, IsUnfitAt, BeginsWithHeader}
 use Rattle.pgm_header.specs.Accepted.{IsLevel, IsMaxval, Accepts, judged, HeaderAnswer, Part, Whole, Bad}
 use Rattle.pgm_header.specs.Machine.{step_of}
 use Rattle.pgm_header.specs.Reading.{unfit, whole_answer, after_step, run, header_of}
-use Rattle.pgm_header.specs.Laws.{TextsAreRead, ReadTextsAreHeaders, NoTextGoesOn, PartsArePrefixes, BadMagicsAreRefused, BadHeadersAreRefused, LongHeadersAreRefused, BadMaxvalsAreRefused, OblongsAreRefused, BadSidesAreRefused, ReadHeadersStand, RefusalsStand}
+use Rattle.pgm_header.specs.Laws.{HeaderTextsAreRead, ReadTextsAreHeaders, NoTextGoesOn, PartsArePrefixes, HeadersRefuseBadMagics, HeadersRefuseBadBytes, HeadersRefuseTooMuch, HeadersRefuseBadMaxvals, HeadersRefuseOblongs, HeadersRefuseBadSides, ReadHeadersStand, RefusalsStand}
 use Rattle.pgm_header.proofs.MachineLemmas.{walk, walk_step, walk-append, walk_split, walked_text, walked_front, complete, front_walked}
 use Rattle.pgm_header.proofs.ReadingLemmas.{run_goes, run_long, run_ends, run_fails}
 use Rattle.pgm_header.proofs.AcceptedLemmas.{JudgedAs, judges, accepted_as, maxval_as, oblong_as, side_as}
@@ -234,9 +234,9 @@ back_unfit_on : (bytes : List ℕ) (k b : ℕ) (rest : List ℕ) (t : State) (r 
 back_unfit_on bytes k b rest t (Goes u) e cut upto w short wrong =
     let more : walk (take k bytes ++ b ∷ []) Start ≡ Some u = walk-append (take k bytes) (b ∷ []) Start t w ∙ walk_step t u b [] e in
     let proper = walked_front (take k bytes ++ b ∷ []) u more in
-    absurd (wrong.bad (subst IsPrefix (sym upto) (proper.0, proper.1, proper.3)))
+    absurd (wrong.bad (subst IsHeaderPrefix (sym upto) (proper.0, proper.1, proper.3)))
 back_unfit_on bytes k b rest t (Ends v) e cut upto w short wrong =
-    absurd (wrong.bad (subst IsPrefix (sym upto)
+    absurd (wrong.bad (subst IsHeaderPrefix (sym upto)
     ([], v, subst (λ (x : List ℕ). IsHeaderText x v) (sym (append-nil (take k bytes ++ b ∷ []))) (walked_text (take k bytes) t b v w e))))
 back_unfit_on bytes k b rest t Fails e cut upto w short wrong =
     let size : length (take k bytes) ≡ k = length-take-le k bytes (omega (arith, wrong.within)) in
@@ -251,7 +251,7 @@ back_unfit bytes k short wrong =
 
 -- The laws.
 
-pub texts : TextsAreRead
+pub texts : HeaderTextsAreRead
 texts = λ text rest v h is short a. back_whole (text ++ rest) text rest v is short refl ∙ ap (λ (r : Result Header HeaderFault). whole_answer r rest) (accepted_as v h (judged v) (judges v) a)
 
 pub read : ReadTextsAreHeaders
@@ -272,19 +272,19 @@ prefix_free = no_more
 pub parts : PartsArePrefixes
 parts = λ bytes. (λ e. subst (Means bytes) e (means bytes), λ w. let t = front_walked bytes w.0 in of_front bytes t.0 t.1 w.1)
 
-pub bad_magics : BadMagicsAreRefused
+pub bad_magics : HeadersRefuseBadMagics
 bad_magics = λ bytes. (
   λ e. subst (Means bytes) e (means bytes),
   λ w. back_unfit bytes w.0 (omega (arith, w.1)) w.2 ∙ ap (λ (b : Bool). Bad (cond b BadMagic (BadHeader w.0))) (lt-ltb w.0 2 w.1),
 )
 
-pub bad_headers : BadHeadersAreRefused
+pub bad_headers : HeadersRefuseBadBytes
 bad_headers = λ bytes place. (
   λ e. subst (Means bytes) e (means bytes),
   λ w. back_unfit bytes place w.1 w.2 ∙ ap (λ (b : Bool). Bad (cond b BadMagic (BadHeader place))) (le-ltb place 2 w.0),
 )
 
-pub long_headers : LongHeadersAreRefused
+pub long_headers : HeadersRefuseTooMuch
 long_headers = λ bytes. (
   λ e. subst (Means bytes) e (means bytes),
   λ w.
@@ -293,19 +293,19 @@ long_headers = λ bytes. (
       of_long bytes (take 65536 bytes) (drop 65536 bytes) t.0 (sym (take-append-drop 65536 bytes)) t.1 (omega arith),
 )
 
-pub bad_maxvals : BadMaxvalsAreRefused
+pub bad_maxvals : HeadersRefuseBadMaxvals
 bad_maxvals = λ bytes. (
   λ e. subst (Means bytes) e (means bytes),
   λ w. back_judged bytes w.0 BadMaxval w.1 (maxval_as w.0 (judged w.0) (judges w.0) w.2),
 )
 
-pub oblongs : OblongsAreRefused
+pub oblongs : HeadersRefuseOblongs
 oblongs = λ bytes. (
   λ e. subst (Means bytes) e (means bytes),
   λ w. back_judged bytes w.0 NotSquare w.1 (oblong_as w.0 (judged w.0) (judges w.0) w.2 w.3),
 )
 
-pub bad_sides : BadSidesAreRefused
+pub bad_sides : HeadersRefuseBadSides
 bad_sides = λ bytes. (
   λ e. subst (Means bytes) e (means bytes),
   λ w. back_judged bytes w.0 BadSide w.1 (side_as w.0 (judged w.0) (judges w.0) w.2 w.3 w.4),

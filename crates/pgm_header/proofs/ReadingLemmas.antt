@@ -12,7 +12,7 @@ use Rattle.pgm_header.specs.declared.machine.Step.TheVariants.{Goes, Ends, Fails
 use Rattle.std.proofs.lemmas.Bool.{cases_eq}
 use Rattle.pgm_header.specs.Accepted.{Part, Whole, Bad, judged}
 use Rattle.pgm_header.specs.Machine.{step_of}
-use Rattle.pgm_header.specs.Reading.{Progress, unfit, whole_answer, run, resume, header_of, taken}
+use Rattle.pgm_header.specs.Reading.{HeaderProgress, unfit, whole_answer, run, resume_header, header_of, header_taken}
 use Rattle.pgm_header.specs.Laws.{PartsAreRefusable}
 
 -- the header goes on
@@ -33,36 +33,36 @@ run_fails s place b more e = rw e refl
 
 -- The same of a reader as clauses see it.
 
-pub resume_goes : (p q : Progress) (b : ℕ) (more : List ℕ) → step_of p.state b ≡ Goes q.state → (p.place ≡ 65535 → ⊥) → q.place ≡ p.place + 1 → resume p (b ∷ more) ≡ resume q more
-unfolding resume
+pub resume_goes : (p q : HeaderProgress) (b : ℕ) (more : List ℕ) → step_of p.state b ≡ Goes q.state → (p.place ≡ 65535 → ⊥) → q.place ≡ p.place + 1 → resume_header p (b ∷ more) ≡ resume_header q more
+unfolding resume_header
 resume_goes p q b more e on next = run_goes p.state q.state p.place b more e on ∙ ap (run more q.state) (sym next)
 
-pub resume_long : (p : Progress) (t : State) (b : ℕ) (more : List ℕ) → step_of p.state b ≡ Goes t → p.place ≡ 65535 → resume p (b ∷ more) ≡ Bad HeaderTooLong
-unfolding resume
+pub resume_long : (p : HeaderProgress) (t : State) (b : ℕ) (more : List ℕ) → step_of p.state b ≡ Goes t → p.place ≡ 65535 → resume_header p (b ∷ more) ≡ Bad HeaderTooLong
+unfolding resume_header
 resume_long p t b more e last = run_long p.state t p.place b more e last
 
-pub resume_ends : (p : Progress) (v : HeaderValues) (h : Header) (b : ℕ) (more : List ℕ) → step_of p.state b ≡ Ends v → judged v ≡ Ok h → resume p (b ∷ more) ≡ Whole h more
-unfolding resume
+pub resume_ends : (p : HeaderProgress) (v : HeaderValues) (h : Header) (b : ℕ) (more : List ℕ) → step_of p.state b ≡ Ends v → judged v ≡ Ok h → resume_header p (b ∷ more) ≡ Whole h more
+unfolding resume_header
 resume_ends p v h b more e fine = run_ends p.state v p.place b more e ∙ ap (λ (r : Result Header HeaderFault). whole_answer r more) fine
 
-pub resume_judged : (p : Progress) (v : HeaderValues) (f : HeaderFault) (b : ℕ) (more : List ℕ) → step_of p.state b ≡ Ends v → judged v ≡ Err f → resume p (b ∷ more) ≡ Bad f
-unfolding resume
+pub resume_judged : (p : HeaderProgress) (v : HeaderValues) (f : HeaderFault) (b : ℕ) (more : List ℕ) → step_of p.state b ≡ Ends v → judged v ≡ Err f → resume_header p (b ∷ more) ≡ Bad f
+unfolding resume_header
 resume_judged p v f b more e bad = run_ends p.state v p.place b more e ∙ ap (λ (r : Result Header HeaderFault). whole_answer r more) bad
 
-pub resume_fails : (p : Progress) (b : ℕ) (more : List ℕ) → step_of p.state b ≡ Fails → resume p (b ∷ more) ≡ Bad (unfit p.place)
-unfolding resume
+pub resume_fails : (p : HeaderProgress) (b : ℕ) (more : List ℕ) → step_of p.state b ≡ Fails → resume_header p (b ∷ more) ≡ Bad (unfit p.place)
+unfolding resume_header
 resume_fails p b more e = run_fails p.state p.place b more e
 
-pub resume_none : (p : Progress) → resume p [] ≡ Part
-unfolding resume
+pub resume_none : (p : HeaderProgress) → resume_header p [] ≡ Part
+unfolding resume_header
 resume_none p = refl
 
-pub taken_place : (p : Progress) → taken p ≡ p.place
-unfolding taken
+pub taken_place : (p : HeaderProgress) → header_taken p ≡ p.place
+unfolding header_taken
 taken_place p = refl
 
-pub resume_start : (more : List ℕ) → resume (record { state = Start; place = 0 }) more ≡ header_of more
-unfolding resume header_of
+pub resume_start : (more : List ℕ) → resume_header (record { state = Start; place = 0 }) more ≡ header_of more
+unfolding resume_header header_of
 resume_start more = refl
 
 pub ruleset reads = (resume_goes, resume_long, resume_ends, resume_judged, resume_fails, resume_none, taken_place, resume_start)
@@ -89,8 +89,8 @@ state_refused room place (Gap before) e = gap_refused room place before e
 state_refused room place (Comment before) e = comment_refused room place before e
 state_refused room place (Number before digits value) e = (35 ∷ [], unfit place, run_fails (Number before digits value) place 35 [] refl)
 
-pub resume_refused : (p : Progress) → p.place ≤ 65535 → (more : List ℕ) × (fault : HeaderFault) × (resume p more ≡ Bad fault)
-unfolding resume
+pub resume_refused : (p : HeaderProgress) → p.place ≤ 65535 → (more : List ℕ) × (fault : HeaderFault) × (resume_header p more ≡ Bad fault)
+unfolding resume_header
 resume_refused p within = state_refused (65535 - p.place) p.place p.state (omega (arith, within))
 
 -- a whole header or a refusal is no part of a header

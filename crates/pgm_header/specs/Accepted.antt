@@ -1,6 +1,6 @@
 -- Which headers are accepted, and what is answered for the others: this project's own profile of PGM files.
 --
--- Words: IsLevel, IsMaxval, IsHeader, Accepts, level_of, judged, HeaderAnswer.
+-- Words: IsLevel, IsMaxval, IsHeader, Accepts, side_level, judged, HeaderAnswer.
 use Rattle.std.specs.Prelude.{◌≡◌, ℕ, ◌≤◌, ◌==◌, ◌||◌, not, nat_lt, if◌then◌else◌, List, Option, Some, None, Result, Ok, Err}
 use Rattle.pgm_header.specs.declared.accepted.TheConstants.{GREATEST_MAXVAL}
 use Rattle.mesh_defs.specs.declared.level.TheConstants.{GREATEST_LEVEL}
@@ -34,8 +34,8 @@ pub record Accepts (values : HeaderValues) (header : Header) : Type 0 where
   pub height : values.height ≡ side_of header.n
 
 -- the n of an accepted side
-abbrev pub level_of : ℕ → Option ℕ
-level_of side =
+abbrev pub side_level : ℕ → Option ℕ
+side_level side =
     if side == 3 then Some 1 else if side == 5 then Some 2 else if side == 9 then Some 3 else if side == 17 then Some 4 else if side == 33 then Some 5
     else if side == 65 then Some 6 else if side == 129 then Some 7 else if side == 257 then Some 8 else if side == 513 then Some 9
     else if side == 1025 then Some 10 else if side == 2049 then Some GREATEST_LEVEL else None
@@ -50,7 +50,7 @@ abbrev pub judged : HeaderValues → Result Header HeaderFault
 judged values =
     if values.maxval == 0 || nat_lt GREATEST_MAXVAL values.maxval then Err BadMaxval
     else if not (values.width == values.height) then Err NotSquare
-    else with_level values (level_of values.width)
+    else with_level values (side_level values.width)
 
 -- what is answered for bytes: they are a part of a header; a whole one with what follows it; or refused
 pub data HeaderAnswer : Type 0 where

@@ -3,7 +3,7 @@
 -- a number has at most nine digits are this project's own.
 --
 -- Words: GapItem, item_bytes, is_comment_text, is_item, IsGap,
--- IsNumberText, magic_text, IsHeaderText, comment_line, written_header, IsPrefix, IsProperPrefix, IsUnfitAt,
+-- IsNumberText, magic_text, IsHeaderText, comment_line, written_header, IsHeaderPrefix, IsProperPrefix, IsUnfitAt,
 -- BeginsWithHeader.
 use Rattle.std.specs.Prelude.{◌≡◌, ℕ, ◌+◌, ◌<◌, ◌≤◌, Bool, true, false, ◌&&◌, not, IsTrue, List, [], ◌∷◌, ◌++◌, length, take}
 use Rattle.std.specs.Char.{is_ascii_digit}
@@ -84,8 +84,8 @@ written_header values comments =
     ++ ((10 ∷ flat_map comment_line comments) ++ (decimal values.width ++ (32 ∷ [] ++ (decimal values.height ++ (10 ∷ [] ++ (decimal values.maxval ++ 10 ∷ []))))))
 
 -- the bytes are a prefix of the text of a header, or the whole of it
-abbrev pub IsPrefix : List ℕ → Type 0
-IsPrefix bytes = (rest : List ℕ) × (values : HeaderValues) × IsHeaderText (bytes ++ rest) values
+abbrev pub IsHeaderPrefix : List ℕ → Type 0
+IsHeaderPrefix bytes = (rest : List ℕ) × (values : HeaderValues) × IsHeaderText (bytes ++ rest) values
 
 -- the bytes are a prefix of the text of a header, and not the whole of it
 abbrev pub IsProperPrefix : List ℕ → Type 0
@@ -95,7 +95,7 @@ IsProperPrefix bytes = (rest : List ℕ) × (values : HeaderValues) × (0 < leng
 pub record IsUnfitAt (bytes : List ℕ) (place : ℕ) : Type 0 where
   pub within : place < length bytes
   pub good : IsProperPrefix (take place bytes)
-  pub bad : IsPrefix (take (place + 1) bytes) → ⊥
+  pub bad : IsHeaderPrefix (take (place + 1) bytes) → ⊥
 
 -- the bytes begin with a header's text of at most `MOST_HEADER_BYTES`, which has these values
 pub record BeginsWithHeader (bytes : List ℕ) (values : HeaderValues) : Type 0 where

@@ -3,11 +3,11 @@ use Rattle.std.specs.Prelude.{◌≤◌}
 use Rattle.pgm_header.specs.declared.reader.TheConstants.{LAST_PLACE}
 use Rattle.pgm_header.specs.declared.reader.HeaderReader.TheInside.{Inside}
 use Rattle.pgm_header.specs.Machine.{IsState}
-use Rattle.pgm_header.specs.Reading.{Progress}
+use Rattle.pgm_header.specs.Reading.{HeaderProgress}
 
 -- what the fields have come to
-abbrev pub progress_of : Inside → Progress
-progress_of r = record { state = r.state; place = r.place }
+abbrev pub header_progress_of : Inside → HeaderProgress
+header_progress_of r = record { state = r.state; place = r.place }
 
 -- the numbers are in their ranges, and the place is one that a header may have
 pub record IsReader (r : Inside) : Type 0 where

@@ -12,8 +12,8 @@ use Rattle.pgm_header.specs.Accepted.{IsLevel, IsMaxval, Accepts, Part, Whole, B
 use Rattle.pgm_header.specs.Reading.{header_of}
 
 -- a header's text of at most `MOST_HEADER_BYTES` whose values are accepted is read, whatever follows
-abbrev pub TextsAreRead : Type 0
-TextsAreRead = (text rest : List ℕ) (values : HeaderValues) (header : Header) → IsHeaderText text values → length text ≤ MOST_HEADER_BYTES → Accepts values header
+abbrev pub HeaderTextsAreRead : Type 0
+HeaderTextsAreRead = (text rest : List ℕ) (values : HeaderValues) (header : Header) → IsHeaderText text values → length text ≤ MOST_HEADER_BYTES → Accepts values header
     → header_of (text ++ rest) ≡ Whole header rest
 
 -- what is read is such a text, and then what is left
@@ -36,29 +36,29 @@ abbrev pub PartsArePrefixes : Type 0
 PartsArePrefixes = (bytes : List ℕ) → (header_of bytes ≡ Part) ↔ (IsProperPrefix bytes × (length bytes < MOST_HEADER_BYTES))
 
 -- a bad magic is answered exactly where the first or the second byte continues no header
-abbrev pub BadMagicsAreRefused : Type 0
-BadMagicsAreRefused = (bytes : List ℕ) → (header_of bytes ≡ Bad BadMagic) ↔ ((place : ℕ) × (place < 2) × IsUnfitAt bytes place)
+abbrev pub HeadersRefuseBadMagics : Type 0
+HeadersRefuseBadMagics = (bytes : List ℕ) → (header_of bytes ≡ Bad BadMagic) ↔ ((place : ℕ) × (place < 2) × IsUnfitAt bytes place)
 
 -- a bad header is answered exactly at the place of a later byte that continues none
-abbrev pub BadHeadersAreRefused : Type 0
-BadHeadersAreRefused = (bytes : List ℕ) (place : ℕ) → (header_of bytes ≡ Bad (BadHeader place)) ↔ ((2 ≤ place) × (place < MOST_HEADER_BYTES) × IsUnfitAt bytes place)
+abbrev pub HeadersRefuseBadBytes : Type 0
+HeadersRefuseBadBytes = (bytes : List ℕ) (place : ℕ) → (header_of bytes ≡ Bad (BadHeader place)) ↔ ((2 ≤ place) × (place < MOST_HEADER_BYTES) × IsUnfitAt bytes place)
 
 -- a header is too long exactly where as many bytes as it may have are a proper prefix of one
-abbrev pub LongHeadersAreRefused : Type 0
-LongHeadersAreRefused = (bytes : List ℕ) → (header_of bytes ≡ Bad HeaderTooLong) ↔ ((MOST_HEADER_BYTES ≤ length bytes) × IsProperPrefix (take MOST_HEADER_BYTES bytes))
+abbrev pub HeadersRefuseTooMuch : Type 0
+HeadersRefuseTooMuch = (bytes : List ℕ) → (header_of bytes ≡ Bad HeaderTooLong) ↔ ((MOST_HEADER_BYTES ≤ length bytes) × IsProperPrefix (take MOST_HEADER_BYTES bytes))
 
 -- the maxval is tested first
-abbrev pub BadMaxvalsAreRefused : Type 0
-BadMaxvalsAreRefused = (bytes : List ℕ) → (header_of bytes ≡ Bad BadMaxval) ↔ ((values : HeaderValues) × BeginsWithHeader bytes values × ¬ IsMaxval values.maxval)
+abbrev pub HeadersRefuseBadMaxvals : Type 0
+HeadersRefuseBadMaxvals = (bytes : List ℕ) → (header_of bytes ≡ Bad BadMaxval) ↔ ((values : HeaderValues) × BeginsWithHeader bytes values × ¬ IsMaxval values.maxval)
 
 -- then the width and the height
-abbrev pub OblongsAreRefused : Type 0
-OblongsAreRefused = (bytes : List ℕ) → (header_of bytes ≡ Bad NotSquare)
+abbrev pub HeadersRefuseOblongs : Type 0
+HeadersRefuseOblongs = (bytes : List ℕ) → (header_of bytes ≡ Bad NotSquare)
     ↔ ((values : HeaderValues) × BeginsWithHeader bytes values × IsMaxval values.maxval × (values.width ≢ values.height))
 
 -- and then the side
-abbrev pub BadSidesAreRefused : Type 0
-BadSidesAreRefused = (bytes : List ℕ) → (header_of bytes ≡ Bad BadSide)
+abbrev pub HeadersRefuseBadSides : Type 0
+HeadersRefuseBadSides = (bytes : List ℕ) → (header_of bytes ≡ Bad BadSide)
     ↔ ((values : HeaderValues) × BeginsWithHeader bytes values × IsMaxval values.maxval × (values.width ≡ values.height)
     × ((n : ℕ) → IsLevel n → values.width ≢ side_of n))
 

@@ -1,6 +1,6 @@
 -- A reader of headers: the machine, with places and the limit of length, and then the tests of the values.
 --
--- Words: Progress, unfit, whole_answer, after_step, run, resume, header_of, taken.
+-- Words: HeaderProgress, unfit, whole_answer, after_step, run, resume_header, header_of, header_taken.
 use Rattle.std.specs.Prelude.{ℕ, ◌+◌, ◌==◌, nat_lt, if◌then◌else◌, List, [], ◌∷◌, Result, Ok, Err}
 use Rattle.pgm_header.specs.declared.reader.TheConstants.{LAST_PLACE}
 use Rattle.pgm_header.specs.declared.accepted.Header.{Header}
@@ -14,7 +14,7 @@ use Rattle.pgm_header.specs.Accepted.{HeaderAnswer, Part, Whole, Bad, judged}
 use Rattle.pgm_header.specs.Machine.{step_of}
 
 -- what a reader has come to: the state of the machine, and the place of the next byte
-pub record Progress : Type 0 where
+pub record HeaderProgress : Type 0 where
   pub state : State
   pub place : ℕ
 
@@ -39,13 +39,13 @@ run [] state place = Part
 run (byte ∷ more) state place = after_step (step_of state byte) place more (λ next. run more next (place + 1))
 
 -- what a reader answers if exactly these bytes still come
-unfoldable pub resume : Progress → List ℕ → HeaderAnswer
-resume reader more = run more reader.state reader.place
+unfoldable pub resume_header : HeaderProgress → List ℕ → HeaderAnswer
+resume_header reader more = run more reader.state reader.place
 
 -- what the bytes mean from their beginning
 unfoldable pub header_of : List ℕ → HeaderAnswer
 header_of bytes = run bytes Start 0
 
 -- how many bytes a reader has taken
-unfoldable pub taken : Progress → ℕ
-taken reader = reader.place
+unfoldable pub header_taken : HeaderProgress → ℕ
+header_taken reader = reader.place

@@ -1,7 +1,7 @@
 //! The tests of a header's values.
 
 ghost use Rattle.std.specs.Prelude.{◌≡◌};
-ghost use Rattle.pgm_header.specs.Accepted.{level_of, judged};
+ghost use Rattle.pgm_header.specs.Accepted.{side_level, judged};
 
 use crate::fault::HeaderFault;
 use crate::machine::HeaderValues;
@@ -23,7 +23,7 @@ pub struct Header {
 
 /// The n of a side, if the side is accepted.
 fn level_for(side: u32) -> Option<u32>
-    ensures { result ≡ level_of side }
+    ensures { result ≡ side_level side }
 {
     match side {
         3 => Some(1),

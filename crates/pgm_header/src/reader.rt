@@ -4,7 +4,7 @@ ghost use Rattle.std.specs.Prelude.{◌≡◌, ◌+◌, ◌≤◌, [], ◌∷◌
 ghost use Rattle.pgm_header.specs.declared.fault.HeaderFault.{HeaderFault as Fault};
 ghost use Rattle.pgm_header.specs.declared.reader.TheConstants.{LAST_PLACE};
 ghost use Rattle.pgm_header.specs.Accepted.{IsHeader, Part, Whole, Bad};
-ghost use Rattle.pgm_header.specs.Reading.{resume, header_of, taken, unfit};
+ghost use Rattle.pgm_header.specs.Reading.{resume_header, header_of, header_taken, unfit};
 
 use crate::accepted::{Header, judge};
 use crate::fault::HeaderFault;
@@ -32,13 +32,13 @@ pub struct HeaderReader {
 }
 
 impl Model for HeaderReader {
-    ghost use Rattle.pgm_header.specs.Reading.{Progress};
+    ghost use Rattle.pgm_header.specs.Reading.{HeaderProgress};
 
-    ghost Value = { Progress };
+    ghost Value = { HeaderProgress };
 
-    ghost use Rattle.pgm_header.specs.Inside.{progress_of, IsReader};
+    ghost use Rattle.pgm_header.specs.Inside.{header_progress_of, IsReader};
 
-    ghost view = { progress_of };
+    ghost view = { header_progress_of };
 
     ghost invariant = { IsReader };
 }
@@ -47,9 +47,9 @@ impl HeaderReader {
     /// A reader that has taken no byte.
     #[tactic(auto, using(crate::proofs::ReadingLemmas::reads))]
     pub fn new() -> HeaderReader
-        ensures value { (more : List ℕ) → resume result more ≡ header_of more }
-        ensures count { taken result ≡ 0 }
-        ensures refusable { (more : List ℕ) × (fault : Fault) × (resume result more ≡ Bad fault) }
+        ensures value { (more : List ℕ) → resume_header result more ≡ header_of more }
+        ensures count { header_taken result ≡ 0 }
+        ensures refusable { (more : List ℕ) × (fault : Fault) × (resume_header result more ≡ Bad fault) }
     {
         HeaderReader {
             state: State::Start,
@@ -60,7 +60,7 @@ impl HeaderReader {
     /// The place of the next byte, counted from 0: how many bytes were taken.
     #[tactic(auto, using(crate::proofs::ReadingLemmas::taken_place))]
     pub fn place(&self) -> u32
-        ensures value { result ≡ taken self.now }
+        ensures value { result ≡ header_taken self.now }
         ensures bound { result ≤ LAST_PLACE }
     {
         self.place
@@ -71,20 +71,20 @@ impl HeaderReader {
     pub fn take(&mut self, byte: u8) -> Result<Option<Header>, HeaderFault>
         // What the bytes mean together is not changed by taking them one by one.
         ensures goes_on { IfOk result (λ ended. IfNone ended
-            ((more : List ℕ) → resume self.old (byte ∷ more) ≡ resume self.new more)) }
+            ((more : List ℕ) → resume_header self.old (byte ∷ more) ≡ resume_header self.new more)) }
         // No byte so far is refused, or ends the header: what still comes decides.
-        ensures part { IfOk result (λ ended. IfNone ended (resume self.new [] ≡ Part)) }
+        ensures part { IfOk result (λ ended. IfNone ended (resume_header self.new [] ≡ Part)) }
         ensures refusable { IfOk result (λ ended. IfNone ended
-            ((more : List ℕ) × (fault : Fault) × (resume self.new more ≡ Bad fault))) }
-        ensures count { IfOk result (λ ended. IfNone ended (taken self.new ≡ taken self.old + 1)) }
-        ensures limit { IfOk result (λ ended. IfNone ended (taken self.new ≤ LAST_PLACE)) }
+            ((more : List ℕ) × (fault : Fault) × (resume_header self.new more ≡ Bad fault))) }
+        ensures count { IfOk result (λ ended. IfNone ended (header_taken self.new ≡ header_taken self.old + 1)) }
+        ensures limit { IfOk result (λ ended. IfNone ended (header_taken self.new ≤ LAST_PLACE)) }
         // The header is that of the text, whatever follows, and what follows is left.
         ensures ends { IfOk result (λ ended. IfSome ended (λ header.
-            (more : List ℕ) → resume self.old (byte ∷ more) ≡ Whole header more)) }
+            (more : List ℕ) → resume_header self.old (byte ∷ more) ≡ Whole header more)) }
         ensures accepted { IfOk result (λ ended. IfSome ended IsHeader) }
         // The refusal is that of the text, whatever follows.
         ensures refusal { IfErr result (λ fault.
-            (more : List ℕ) → resume self.old (byte ∷ more) ≡ Bad fault) }
+            (more : List ℕ) → resume_header self.old (byte ∷ more) ≡ Bad fault) }
         ensures ended_same { IfOk result (λ ended. IfSome ended (λ _. self.new ≡ self.old)) }
         ensures err_same { OnErr result (self.new ≡ self.old) }
     {

@@ -19,8 +19,8 @@ use Rattle.pgm_raster.specs.declared.form.RasterForm.{RasterForm}
 use Rattle.pgm_raster.specs.declared.form.RasterForm.TheVariants.{Bytes, Words, Plain}
 use Rattle.pgm_raster.specs.declared.part.Limits.{Limits}
 use Rattle.pgm_raster.specs.declared.part.Digits.{Digits}
-use Rattle.pgm_raster.specs.RasterText.{IsSampleText, IsSample, AreEndedTexts, AreEnded, IsRaster, IsCut, IsCutShort, IsStray, IsTrailingAt, EndsThere, IsAboveAt, IsBadSampleAt}
-use Rattle.pgm_raster.specs.Progress.{Answer, after, sample_then, end_at, bytes_from, words_from, no_digits, with_digit, ended_then, rest_of, nothing_of, raster_of}
+use Rattle.pgm_raster.specs.RasterText.{IsSampleText, IsTextOfSample, AreEndedTexts, AreEnded, IsRaster, IsSampleCut, IsRasterCutShort, IsStray, IsTrailingAt, EndsThere, IsAboveAt, IsBadSampleAt}
+use Rattle.pgm_raster.specs.Progress.{RasterAnswer, after, sample_then, end_at, bytes_from, words_from, no_digits, with_digit, ended_then, rest_of, nothing_of, raster_of}
 use Rattle.pgm_raster.specs.Laws.{RastersAreRead, ReadBytesAreRasters}
 use Rattle.pgm_raster.proofs.RasterLemmas.{after-append, after-nil, sample-passed, sample-refused, samples-passed, bytes-samples, words-samples}
 use Rattle.pgm_raster.proofs.UnlimitedLemmas.{plain_unlimited, rest_unlimited, unlimited-space, unlimited-full, unlimited-digit, rest-within, agreed}
@@ -65,23 +65,23 @@ nothing-raster Bytes = refl
 nothing-raster Words = refl
 nothing-raster Plain = inl (All-nil IsWhite)
 
-nothing-cut : (f : RasterForm) → IsCut f []
+nothing-cut : (f : RasterForm) → IsSampleCut f []
 nothing-cut Bytes = refl
 nothing-cut Words = omega arith
 nothing-cut Plain = refl
 
 -- ---- what an answer tells of the bytes, behind `index` samples
 
-abbrev pub Told : RasterForm → Limits → ℕ → ℕ → List ℕ → Answer → Type 0
+abbrev pub Told : RasterForm → Limits → ℕ → ℕ → List ℕ → RasterAnswer → Type 0
 Told f l index at bytes (Ok samples) = IsRaster f samples bytes × (index + length samples ≡ l.count) × All (λ h. h ≤ l.maxval) samples
-Told f l index at bytes (Err Truncated) = IsCutShort f (l.count - index) l.maxval bytes
+Told f l index at bytes (Err Truncated) = IsRasterCutShort f (l.count - index) l.maxval bytes
 Told f l index at bytes (Err (Trailing p)) = (place : ℕ) × (p ≡ at + place) × IsTrailingAt f (l.count - index) l.maxval bytes place
 Told f l index at bytes (Err (AboveMaxval k)) = (j : ℕ) × (k ≡ index + j) × IsAboveAt f (l.count - index) l.maxval bytes j
 Told f l index at bytes (Err (BadSample p)) = (f ≡ Plain) × (place : ℕ) × (p ≡ at + place) × IsBadSampleAt (l.count - index) l.maxval bytes place
 Told f l index at bytes (Err TooLong) = ⊥
 
 -- the same behind some more samples
-told-more : (f : RasterForm) (l : Limits) (index at : ℕ) (vs p rest : List ℕ) (r : Answer) → AreEnded f vs p → All (λ h. h ≤ l.maxval) vs → index + length vs ≤ l.count
+told-more : (f : RasterForm) (l : Limits) (index at : ℕ) (vs p rest : List ℕ) (r : RasterAnswer) → AreEnded f vs p → All (λ h. h ≤ l.maxval) vs → index + length vs ≤ l.count
     → Told f l (index + length vs) (at + length p) rest r → Told f l index at (p ++ rest) (after vs r)
 told-more f l index at vs p rest (Ok samples) ended fits room w =
     (raster-append f vs samples p rest ended w.0, omega (arith, length-append vs samples, w.1), All-append (λ h. h ≤ l.maxval) vs samples fits w.2)
@@ -163,7 +163,7 @@ told-end f l index at room =
       | inr more ↦ subst (Told f l index at []) (sym (cond-false _ _ _ (le-ltb index l.count more))) (nothing-raster f, omega arith, All-nil (λ h. h ≤ l.maxval))
     ]
 
-told-sample : (f : RasterForm) (l : Limits) (index at sample : ℕ) (text p rest : List ℕ) (r : Answer) → index < l.count → IsSample f text sample → AreEnded f (sample ∷ []) p
+told-sample : (f : RasterForm) (l : Limits) (index at sample : ℕ) (text p rest : List ℕ) (r : RasterAnswer) → index < l.count → IsTextOfSample f text sample → AreEnded f (sample ∷ []) p
     → (more : List ℕ) → p ++ rest ≡ text ++ more → EndsThere f more → Told f l (index + 1) (at + length p) rest r → Told f l index at (p ++ rest) (sample_then l index sample r)
 told-sample f l index at sample text p rest r wanted is ended more whole ends w =
     elim (cases_lt l.maxval sample) as (λ _. Told f l index at (p ++ rest) (sample_then l index sample r)) [
@@ -249,7 +249,7 @@ pub digits-push : (text : List ℕ) (byte : ℕ) → with_digit (digits_of text)
 digits-push text byte = ap₂ (λ (c : ℕ) (v : ℕ). let d : Digits = record { count = c; value = v } in d) (sym (length_push text byte)) (sym (value-push text byte))
 
 -- some digits are ended
-pending : (l : Limits) (index : ℕ) (text : List ℕ) (rest : ℕ → Answer) → 0 < length text → ended_then l index (digits_of text) rest ≡ sample_then l index (value_of text) (rest (index + 1))
+pending : (l : Limits) (index : ℕ) (text : List ℕ) (rest : ℕ → RasterAnswer) → 0 < length text → ended_then l index (digits_of text) rest ≡ sample_then l index (value_of text) (rest (index + 1))
 pending l index text rest some = cond-false _ _ _ (ne_eqb (length text) 0 (λ e. omega arith))
 
 abbrev PlainTold : Limits → List ℕ → Type 0
@@ -268,9 +268,9 @@ plain-end l index at (digit ∷ text) room are short wanted =
     whole t is less fits =
         let bound : All (λ h. h ≤ l.maxval) (value_of t ∷ []) = All-cons (λ h. h ≤ l.maxval) (value_of t) [] fits (All-nil (λ h. h ≤ l.maxval)) in
         elim (cases_lt (index + 1) l.count) as (λ _. Told Plain l index at t (after (value_of t ∷ []) (end_at l (index + 1)))) [
-          | inl fewer ↦ subst (λ (r : Answer). Told Plain l index at t (after (value_of t ∷ []) r)) (sym (cond-true _ _ _ (lt-ltb (index + 1) l.count fewer)))
+          | inl fewer ↦ subst (λ (r : RasterAnswer). Told Plain l index at t (after (value_of t ∷ []) r)) (sym (cond-true _ _ _ (lt-ltb (index + 1) l.count fewer)))
               (record { samples = value_of t ∷ []; text = t; cut = []; whole = sym (append-nil t); raster = open_end t is; part = refl; bound = bound; fewer = omega arith })
-          | inr all ↦ subst (λ (r : Answer). Told Plain l index at t (after (value_of t ∷ []) r)) (sym (cond-false _ _ _ (le-ltb (index + 1) l.count all)))
+          | inr all ↦ subst (λ (r : RasterAnswer). Told Plain l index at t (after (value_of t ∷ []) r)) (sym (cond-false _ _ _ (le-ltb (index + 1) l.count all)))
               (open_end t is, omega arith, bound)
         ]
 
@@ -371,7 +371,7 @@ plain-behind l byte more again space index at [] room are short wanted =
     let e : at + 0 ≡ at = omega arith in
     elim (cases_lt index l.count) as (λ _. Told Plain l index at (byte ∷ more) (plain_unlimited l index (digits_of []) (at + 0) (byte ∷ more))) [
       | inl less ↦ plain-other l byte more again space index at [] less are short
-      | inr full ↦ subst (Told Plain l index at (byte ∷ more)) (ap (λ (p : ℕ). let r : Answer = Err (Trailing p) in r) (sym e) ∙ sym (unlimited-full l index (digits_of []) (at + 0) byte more space full)) (told-trailing Plain l index at byte more (omega arith) (white-no byte space))
+      | inr full ↦ subst (Told Plain l index at (byte ∷ more)) (ap (λ (p : ℕ). let r : RasterAnswer = Err (Trailing p) in r) (sym e) ∙ sym (unlimited-full l index (digits_of []) (at + 0) byte more space full)) (told-trailing Plain l index at byte more (omega arith) (white-no byte space))
     ]
 plain-behind l byte more again space index at (digit ∷ text) room are short wanted = plain-other l byte more again space index at (digit ∷ text) (wanted (omega arith)) are short
 
@@ -484,9 +484,9 @@ end-short l samples index less = ap (after samples) (cond-true _ _ _ (lt-ltb ind
 
 end-whole : (l : Limits) (samples : List ℕ) (index : ℕ) → l.count ≤ index → after samples (end_at l index) ≡ Ok samples
 end-whole l samples index full =
-    ap (after samples) (cond-false _ _ _ (le-ltb index l.count full)) ∙ ap (λ (s : List ℕ). let r : Answer = Ok s in r) (append-nil samples)
+    ap (after samples) (cond-false _ _ _ (le-ltb index l.count full)) ∙ ap (λ (s : List ℕ). let r : RasterAnswer = Ok s in r) (append-nil samples)
 
-pub cut-read : (f : RasterForm) (l : Limits) (bytes : List ℕ) (at : ℕ) → IsCutShort f l.count l.maxval bytes → rest_unlimited l 0 (nothing_of f) at bytes ≡ Err Truncated
+pub cut-read : (f : RasterForm) (l : Limits) (bytes : List ℕ) (at : ℕ) → IsRasterCutShort f l.count l.maxval bytes → rest_unlimited l 0 (nothing_of f) at bytes ≡ Err Truncated
 cut-read Bytes l bytes at w =
     ap (bytes_from l 0 at) (w.whole ∙ ap (λ (t : List ℕ). w.text ++ t) w.part ∙ append-nil w.text)
     ∙ raster-read Bytes l w.samples w.text 0 at w.raster (omega (arith, w.fewer)) w.bound ∙ end-short l w.samples (0 + length w.samples) (omega (arith, w.fewer))
@@ -514,10 +514,10 @@ trailing-read f l bytes at place p e w =
     ∙ ap (after w.samples) (stray-read f l (0 + length w.samples) (at + length w.front) w.byte w.more (omega (arith, w.all)) w.stray)
     ∙ ap (λ (k : ℕ). err_at k) here
   where
-    err_at : ℕ → Answer
+    err_at : ℕ → RasterAnswer
     err_at k = Err (Trailing k)
 
-above-text : (f : RasterForm) (l : Limits) (index at sample : ℕ) (text more : List ℕ) → IsSample f text sample → EndsThere f more → index < l.count → l.maxval < sample
+above-text : (f : RasterForm) (l : Limits) (index at sample : ℕ) (text more : List ℕ) → IsTextOfSample f text sample → EndsThere f more → index < l.count → l.maxval < sample
     → rest_unlimited l index (nothing_of f) at (text ++ more) ≡ Err (AboveMaxval index)
 above-text Bytes l index at sample text more is ends wanted above =
     ap (λ (t : List ℕ). bytes_from l index at (t ++ more)) is ∙ cond-true _ _ _ (lt-ltb index l.count wanted) ∙ sample-refused l index sample (bytes_from l (index + 1) (at + 1) more) above
@@ -538,7 +538,7 @@ above-read f l bytes at index w =
     ∙ ap (after w.samples) (above-text f l (0 + length w.samples) (at + length w.front) w.sample w.text w.more w.next w.ends (omega (arith, w.wanted)) w.above)
     ∙ ap (λ (k : ℕ). err_at k) here
   where
-    err_at : ℕ → Answer
+    err_at : ℕ → RasterAnswer
     err_at k = Err (AboveMaxval k)
 
 pub bad-read : (l : Limits) (bytes : List ℕ) (at place p : ℕ) → p ≡ at + place → IsBadSampleAt l.count l.maxval bytes place → plain_unlimited l 0 no_digits at bytes ≡ Err (BadSample p)
@@ -551,7 +551,7 @@ bad-read l bytes at place p e w =
     )
     ∙ ap (λ (k : ℕ). err_at k) here
   where
-    err_at : ℕ → Answer
+    err_at : ℕ → RasterAnswer
     err_at k = Err (BadSample k)
 
     test : (IsDigit w.byte → ⊥) ⊎ (length w.digits ≡ 9) → (is_ascii_digit w.byte && nat_lt (length w.digits) 9) ≡ false
@@ -568,7 +568,7 @@ all-told Plain l at bytes all =
     subst (λ (p : ℕ). Told Plain l 0 at bytes (plain_unlimited l 0 no_digits p bytes)) e (plain-told l bytes 0 at [] (omega arith) (All-nil IsDigit) (omega arith) (λ some. absurd (omega arith)))
 
 -- what an answer tells, whatever the number of bytes is
-pub told-by : (f : RasterForm) (l : Limits) (at : ℕ) (bytes : List ℕ) (r : Answer) → All (λ b. b < 256) bytes → rest_of l 0 (nothing_of f) at bytes ≡ r → (r ≡ Err TooLong → ⊥) → Told f l 0 at bytes r
+pub told-by : (f : RasterForm) (l : Limits) (at : ℕ) (bytes : List ℕ) (r : RasterAnswer) → All (λ b. b < 256) bytes → rest_of l 0 (nothing_of f) at bytes ≡ r → (r ≡ Err TooLong → ⊥) → Told f l 0 at bytes r
 told-by f l at bytes r all e short =
     agreed f l at bytes (λ s. s ≡ r → Told f l 0 at bytes r) (λ long. absurd (short (sym long))) (λ same. subst (Told f l 0 at bytes) same (all-told f l at bytes all)) e
 

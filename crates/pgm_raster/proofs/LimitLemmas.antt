@@ -14,9 +14,9 @@ use Rattle.pgm_raster.specs.declared.form.RasterForm.{RasterForm}
 use Rattle.pgm_raster.specs.declared.form.RasterForm.TheVariants.{Bytes, Words, Plain}
 use Rattle.pgm_raster.specs.declared.part.Limits.{Limits}
 use Rattle.pgm_raster.specs.declared.part.Digits.{Digits}
-use Rattle.pgm_raster.specs.RasterText.{IsCutShort, IsTrailingAt, EndsThere, IsAboveAt, IsBadSampleAt}
-use Rattle.pgm_raster.specs.Progress.{most_bytes, Answer, after, sample_then, end_at, no_digits, with_digit, ended_then, plain_from, rest_of, nothing_of, raster_of}
-use Rattle.pgm_raster.specs.Laws.{IsWithin, ending, IsAboveWithin, CutRastersAreRefused, TrailingBytesAreRefused, GreatSamplesAreRefused, BadSamplesAreRefused}
+use Rattle.pgm_raster.specs.RasterText.{IsRasterCutShort, IsTrailingAt, EndsThere, IsAboveAt, IsBadSampleAt}
+use Rattle.pgm_raster.specs.Progress.{most_bytes, RasterAnswer, after, sample_then, end_at, no_digits, with_digit, ended_then, plain_from, rest_of, nothing_of, raster_of}
+use Rattle.pgm_raster.specs.Laws.{IsBelowLimit, ending, IsAboveWithin, CutRastersAreRefused, RastersRefuseTrailingBytes, RastersRefuseGreatSamples, RastersRefuseBadSamples}
 use Rattle.pgm_raster.proofs.RasterLemmas.{sample-passed, sample-refused, after-nil, after-err}
 use Rattle.pgm_raster.proofs.PlainLemmas.{plain-space, plain-full, plain-digit, plain-bad}
 use Rattle.pgm_raster.proofs.UnlimitedLemmas.{plain_unlimited, plain-within, plain-agrees}
@@ -26,13 +26,13 @@ use Rattle.pgm_raster.proofs.LawLemmas.{Told, told-by, cut-read, trailing-read, 
 -- ---- where a refusal of a plain raster is told
 
 -- the file ends at this place: the place of a refusal, or of the end, is one before the limit
-abbrev Placed : ℕ → Answer → Type 0
+abbrev Placed : ℕ → RasterAnswer → Type 0
 Placed end (Err Truncated) = end ≤ most_bytes
 Placed end (Err (Trailing p)) = p < most_bytes
 Placed end (Err (BadSample p)) = p < most_bytes
 Placed end _ = ⊤
 
-placed-after : (samples : List ℕ) (end : ℕ) (r : Answer) → Placed end r → Placed end (after samples r)
+placed-after : (samples : List ℕ) (end : ℕ) (r : RasterAnswer) → Placed end r → Placed end (after samples r)
 placed-after samples end (Ok rest) w = tt
 placed-after samples end (Err fault) w = w
 
@@ -43,14 +43,14 @@ placed-end l index end within =
       | inr full ↦ subst (Placed end) (sym (cond-false _ _ _ (le-ltb index l.count full))) tt
     ]
 
-placed-sample : (l : Limits) (index sample end : ℕ) (r : Answer) → Placed end r → Placed end (sample_then l index sample r)
+placed-sample : (l : Limits) (index sample end : ℕ) (r : RasterAnswer) → Placed end r → Placed end (sample_then l index sample r)
 placed-sample l index sample end r w =
     elim (cases_lt l.maxval sample) as (λ _. Placed end (sample_then l index sample r)) [
       | inl above ↦ subst (Placed end) (sym (sample-refused l index sample r above)) tt
       | inr fits ↦ subst (Placed end) (sym (sample-passed l index sample r fits)) (placed-after (sample ∷ []) end r w)
     ]
 
-placed-ended : (l : Limits) (index end : ℕ) (digits : Digits) (rest : ℕ → Answer) → ((i : ℕ) → Placed end (rest i)) → Placed end (ended_then l index digits rest)
+placed-ended : (l : Limits) (index end : ℕ) (digits : Digits) (rest : ℕ → RasterAnswer) → ((i : ℕ) → Placed end (rest i)) → Placed end (ended_then l index digits rest)
 placed-ended l index end digits rest w =
     elim (cases_eq digits.count 0) as (λ _. Placed end (ended_then l index digits rest)) [
       | inl none ↦ subst (Placed end) (sym (cond-true _ _ _ (eq-eqb digits.count 0 none))) (w index)
@@ -77,7 +77,7 @@ plain-placed l (byte ∷ more) index digits at end room is =
           ])
     ]
 
-placed-by : (l : Limits) (at : ℕ) (bytes : List ℕ) (r : Answer) → at ≤ most_bytes → plain_from l 0 no_digits at bytes ≡ r → Placed (at + length bytes) r
+placed-by : (l : Limits) (at : ℕ) (bytes : List ℕ) (r : RasterAnswer) → at ≤ most_bytes → plain_from l 0 no_digits at bytes ≡ r → Placed (at + length bytes) r
 placed-by l at bytes r room e = subst (Placed (at + length bytes)) e (plain-placed l bytes 0 no_digits at (at + length bytes) room refl)
 
 -- ---- what decides a sample that is above maxval
@@ -103,16 +103,16 @@ settles-step l index i digits next at byte samples more k step (inr w) = inr (
   λ m. step (w.0 ++ w.1 ∷ m) ∙ ap (after samples) (w.6 m),
 )
 
-above-same : (one other : ℕ) → ◌≡◌ {A = Answer} (Err (AboveMaxval one)) (Err (AboveMaxval other)) → one ≡ other
+above-same : (one other : ℕ) → ◌≡◌ {A = RasterAnswer} (Err (AboveMaxval one)) (Err (AboveMaxval other)) → one ≡ other
 above-same one other e = cc
 
-long_no-above : (k : ℕ) → ◌≡◌ {A = Answer} (Err TooLong) (Err (AboveMaxval k)) → ⊥
+long_no-above : (k : ℕ) → ◌≡◌ {A = RasterAnswer} (Err TooLong) (Err (AboveMaxval k)) → ⊥
 long_no-above k e = cc
 
-bad_no-above : (p k : ℕ) → ◌≡◌ {A = Answer} (Err (BadSample p)) (Err (AboveMaxval k)) → ⊥
+bad_no-above : (p k : ℕ) → ◌≡◌ {A = RasterAnswer} (Err (BadSample p)) (Err (AboveMaxval k)) → ⊥
 bad_no-above p k e = cc
 
-trailing_no-above : (p k : ℕ) → ◌≡◌ {A = Answer} (Err (Trailing p)) (Err (AboveMaxval k)) → ⊥
+trailing_no-above : (p k : ℕ) → ◌≡◌ {A = RasterAnswer} (Err (Trailing p)) (Err (AboveMaxval k)) → ⊥
 trailing_no-above p k e = cc
 
 plain-settles : (l : Limits) (bytes : List ℕ) (index : ℕ) (digits : Digits) (at k : ℕ) → at ≤ most_bytes → plain_from l index digits at bytes ≡ Err (AboveMaxval k) → Settles l index digits at bytes k
@@ -137,7 +137,7 @@ plain-settles l (byte ∷ more) index digits at k room e =
                   | inl above ↦
                       let refused : (m : List ℕ) → plain_from l index digits at (byte ∷ m) ≡ Err (AboveMaxval index) = λ m. step m ∙ sample-refused l index digits.value _ above in
                       let same : index ≡ k = above-same index k (sym (refused more) ∙ e) in
-                      inr ([], byte, more, refl, white-yes byte yes, omega (arith, within), λ m. refused m ∙ ap (λ (i : ℕ). let r : Answer = Err (AboveMaxval i) in r) same)
+                      inr ([], byte, more, refl, white-yes byte yes, omega (arith, within), λ m. refused m ∙ ap (λ (i : ℕ). let r : RasterAnswer = Err (AboveMaxval i) in r) same)
                   | inr fits ↦
                       let passed : (m : List ℕ) → plain_from l index digits at (byte ∷ m) ≡ after (digits.value ∷ []) (plain_from l (index + 1) no_digits (at + 1) m) = λ m. step m ∙ sample-passed l index digits.value _ fits in
                       settles-step l index (index + 1) digits no_digits at byte (digits.value ∷ []) more k passed
@@ -189,12 +189,12 @@ above-longer count maxval at index front space rest bytes whole is within a = by
 -- ---- refusals without a limit, and with it
 
 -- where the bytes end, neither a byte behind the samples nor one that continues none is told
-abbrev AtEnd : Answer → Type 0
+abbrev AtEnd : RasterAnswer → Type 0
 AtEnd (Err (Trailing p)) = ⊥
 AtEnd (Err (BadSample p)) = ⊥
 AtEnd _ = ⊤
 
-at_end-after : (samples : List ℕ) (r : Answer) → AtEnd r → AtEnd (after samples r)
+at_end-after : (samples : List ℕ) (r : RasterAnswer) → AtEnd r → AtEnd (after samples r)
 at_end-after samples (Ok rest) w = tt
 at_end-after samples (Err fault) w = w
 
@@ -225,7 +225,7 @@ settled-same l at bytes found fault short here free =
       | inr same ↦ same ∙ free
     ]
   where
-    same-fault : (one other : RasterFault) → ◌≡◌ {A = Answer} (Err one) (Err other) → one ≡ other
+    same-fault : (one other : RasterFault) → ◌≡◌ {A = RasterAnswer} (Err one) (Err other) → one ≡ other
     same-fault one other e = cc
 
 -- a byte that is refused before the limit
@@ -244,12 +244,12 @@ refused-within l at front rest bytes fault whole within late first free =
 end_no-above : (l : Limits) (index k : ℕ) → end_at l index ≡ Err (AboveMaxval k) → ⊥
 end_no-above l index k e =
     elim (cases_lt index l.count) as (λ _. ⊥) [
-      | inl less ↦ (let bad : ◌≡◌ {A = Answer} (Err Truncated) (Err (AboveMaxval k)) = sym (cond-true _ _ _ (lt-ltb index l.count less)) ∙ e in cc)
-      | inr full ↦ (let bad : ◌≡◌ {A = Answer} (Ok []) (Err (AboveMaxval k)) = sym (cond-false _ _ _ (le-ltb index l.count full)) ∙ e in cc)
+      | inl less ↦ (let bad : ◌≡◌ {A = RasterAnswer} (Err Truncated) (Err (AboveMaxval k)) = sym (cond-true _ _ _ (lt-ltb index l.count less)) ∙ e in cc)
+      | inr full ↦ (let bad : ◌≡◌ {A = RasterAnswer} (Ok []) (Err (AboveMaxval k)) = sym (cond-false _ _ _ (le-ltb index l.count full)) ∙ e in cc)
     ]
 
 -- a sample whose digits are ended is told whatever follows
-ended-above : (l : Limits) (index : ℕ) (digits : Digits) (k : ℕ) (rest : ℕ → Answer) → ended_then l index digits (λ i. end_at l i) ≡ Err (AboveMaxval k) → ended_then l index digits rest ≡ Err (AboveMaxval k)
+ended-above : (l : Limits) (index : ℕ) (digits : Digits) (k : ℕ) (rest : ℕ → RasterAnswer) → ended_then l index digits (λ i. end_at l i) ≡ Err (AboveMaxval k) → ended_then l index digits rest ≡ Err (AboveMaxval k)
 ended-above l index digits k rest e =
     elim (cases_eq digits.count 0) as (λ _. ended_then l index digits rest ≡ Err (AboveMaxval k)) [
       | inl none ↦ absurd (end_no-above l index k (sym (cond-true _ _ _ (eq-eqb digits.count 0 none)) ∙ e))
@@ -321,21 +321,21 @@ truncated f count maxval at bytes room all =
     let l : Limits = record { count = count; maxval = maxval } in (
       (λ e.
           let told : Told f l 0 at bytes (Err Truncated) = told-by f l at bytes (Err Truncated) all e (λ long. absurd (cc)) in
-          (subst (λ (n : ℕ). IsCutShort f n maxval bytes) (no_fewer count) told, by-form f e)),
+          (subst (λ (n : ℕ). IsRasterCutShort f n maxval bytes) (no_fewer count) told, by-form f e)),
       (λ w. read f w.0 w.1),
     )
   where
-    by-form : (g : RasterForm) → rest_of (record { count = count; maxval = maxval }) 0 (nothing_of g) at bytes ≡ Err Truncated → IsWithin g (at + length bytes)
+    by-form : (g : RasterForm) → rest_of (record { count = count; maxval = maxval }) 0 (nothing_of g) at bytes ≡ Err Truncated → IsBelowLimit g (at + length bytes)
     by-form Bytes e = tt
     by-form Words e = tt
     by-form Plain e = placed-by (record { count = count; maxval = maxval }) at bytes (Err Truncated) room e
 
-    read : (g : RasterForm) → IsCutShort g count maxval bytes → IsWithin g (at + length bytes) → rest_of (record { count = count; maxval = maxval }) 0 (nothing_of g) at bytes ≡ Err Truncated
+    read : (g : RasterForm) → IsRasterCutShort g count maxval bytes → IsBelowLimit g (at + length bytes) → rest_of (record { count = count; maxval = maxval }) 0 (nothing_of g) at bytes ≡ Err Truncated
     read Bytes w within = cut-read Bytes (record { count = count; maxval = maxval }) bytes at w
     read Words w within = cut-read Words (record { count = count; maxval = maxval }) bytes at w
     read Plain w within = plain-within (record { count = count; maxval = maxval }) bytes 0 no_digits at within ∙ cut-read Plain (record { count = count; maxval = maxval }) bytes at w
 
-pub trailing : TrailingBytesAreRefused
+pub trailing : RastersRefuseTrailingBytes
 unfolding raster_of
 trailing f count maxval at bytes p room all =
     let l : Limits = record { count = count; maxval = maxval } in (
@@ -345,12 +345,12 @@ trailing f count maxval at bytes p room all =
       (λ w. read f w.0 w.1 w.2 w.3),
     )
   where
-    by-form : (g : RasterForm) → rest_of (record { count = count; maxval = maxval }) 0 (nothing_of g) at bytes ≡ Err (Trailing p) → IsWithin g (p + 1)
+    by-form : (g : RasterForm) → rest_of (record { count = count; maxval = maxval }) 0 (nothing_of g) at bytes ≡ Err (Trailing p) → IsBelowLimit g (p + 1)
     by-form Bytes e = tt
     by-form Words e = tt
     by-form Plain e = (let before : p < most_bytes = placed-by (record { count = count; maxval = maxval }) at bytes (Err (Trailing p)) room e in omega (arith, before))
 
-    read : (g : RasterForm) (place : ℕ) → p ≡ at + place → IsTrailingAt g count maxval bytes place → IsWithin g (p + 1) → rest_of (record { count = count; maxval = maxval }) 0 (nothing_of g) at bytes ≡ Err (Trailing p)
+    read : (g : RasterForm) (place : ℕ) → p ≡ at + place → IsTrailingAt g count maxval bytes place → IsBelowLimit g (p + 1) → rest_of (record { count = count; maxval = maxval }) 0 (nothing_of g) at bytes ≡ Err (Trailing p)
     read Bytes place here w within = trailing-read Bytes (record { count = count; maxval = maxval }) bytes at place p here w
     read Words place here w within = trailing-read Words (record { count = count; maxval = maxval }) bytes at place p here w
     read Plain place here w within =
@@ -371,7 +371,7 @@ trailing f count maxval at bytes p room all =
         (trailing-read Plain (record { count = count; maxval = maxval }) (w.front ++ w.byte ∷ []) at place p here short)
         (trailing-read Plain (record { count = count; maxval = maxval }) bytes at place p here w)
 
-pub above : GreatSamplesAreRefused
+pub above : RastersRefuseGreatSamples
 unfolding raster_of
 above f count maxval at bytes index room all = (λ e. told f e, λ w. read f w)
   where
@@ -404,7 +404,7 @@ above f count maxval at bytes index room all = (λ e. told f e, λ w. read f w)
     read Words w = above-read Words (record { count = count; maxval = maxval }) bytes at index w.above
     read Plain w = above-within (record { count = count; maxval = maxval }) at index bytes w
 
-pub bad_sample : BadSamplesAreRefused
+pub bad_sample : RastersRefuseBadSamples
 unfolding raster_of
 bad_sample f count maxval at bytes p room all =
     let l : Limits = record { count = count; maxval = maxval } in (

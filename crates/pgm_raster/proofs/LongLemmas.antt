@@ -10,7 +10,7 @@ use Rattle.pgm_raster.specs.declared.fault.RasterFault.TheVariants.{BadSample, A
 use Rattle.pgm_raster.specs.declared.form.RasterForm.TheVariants.{Bytes, Words, Plain}
 use Rattle.pgm_raster.specs.declared.part.Limits.{Limits}
 use Rattle.pgm_raster.specs.declared.part.Digits.{Digits}
-use Rattle.pgm_raster.specs.Progress.{most_bytes, Answer, after, sample_then, end_at, bytes_from, words_from, no_digits, with_digit, ended_then, plain_from, raster_of}
+use Rattle.pgm_raster.specs.Progress.{most_bytes, RasterAnswer, after, sample_then, end_at, bytes_from, words_from, no_digits, with_digit, ended_then, plain_from, raster_of}
 use Rattle.pgm_raster.specs.Laws.{ReadRastersAreShort, LongRastersAreRefused}
 use Rattle.pgm_raster.proofs.RasterLemmas.{after-append, after-nil, sample-passed, sample-refused}
 use Rattle.pgm_raster.proofs.PlainLemmas.{plain-space, plain-full, plain-digit, plain-bad, plain-long}
@@ -19,7 +19,7 @@ use Rattle.pgm_raster.proofs.OpenLemmas.{plain-open}
 
 -- ---- answers that are not the limit
 
-abbrev IsShort : Answer → Type 0
+abbrev IsShort : RasterAnswer → Type 0
 IsShort (Err TooLong) = ⊥
 IsShort _ = ⊤
 
@@ -30,11 +30,11 @@ short-end l index =
       | inr full ↦ subst IsShort (sym (cond-false _ _ _ (le-ltb index l.count full))) tt
     ]
 
-short-after : (samples : List ℕ) (r : Answer) → IsShort r → IsShort (after samples r)
+short-after : (samples : List ℕ) (r : RasterAnswer) → IsShort r → IsShort (after samples r)
 short-after samples (Ok rest) w = tt
 short-after samples (Err fault) w = w
 
-short-sample : (l : Limits) (index sample : ℕ) (r : Answer) → IsShort r → IsShort (sample_then l index sample r)
+short-sample : (l : Limits) (index sample : ℕ) (r : RasterAnswer) → IsShort r → IsShort (sample_then l index sample r)
 short-sample l index sample r w =
     elim (cases_lt l.maxval sample) as (λ _. IsShort (sample_then l index sample r)) [
       | inl above ↦ subst IsShort (sym (sample-refused l index sample r above)) tt
@@ -63,7 +63,7 @@ words-short l (high ∷ low ∷ more) index at =
       | inr full ↦ subst IsShort (sym (cond-false _ _ _ (le-ltb index l.count full))) tt
     ]
 
-ended-short : (l : Limits) (index : ℕ) (digits : Digits) (rest : ℕ → Answer) → ((i : ℕ) → IsShort (rest i)) → IsShort (ended_then l index digits rest)
+ended-short : (l : Limits) (index : ℕ) (digits : Digits) (rest : ℕ → RasterAnswer) → ((i : ℕ) → IsShort (rest i)) → IsShort (ended_then l index digits rest)
 ended-short l index digits rest w =
     elim (cases_eq digits.count 0) as (λ _. IsShort (ended_then l index digits rest)) [
       | inl none ↦ subst IsShort (sym (cond-true _ _ _ (eq-eqb digits.count 0 none))) (w index)
@@ -165,8 +165,8 @@ short count maxval at samples bytes e place =
     let l : Limits = record { count = count; maxval = maxval } in
     elim (cases_lt (2 ^ 28) (at + length bytes)) as (λ _. at + length bytes ≤ 2 ^ 28) [
       | inl long ↦ absurd (elim (beyond l at bytes place long) as (λ _. ⊥) [
-        | inl w ↦ let bad : ◌≡◌ {A = Answer} (Ok samples) (Err w.0) = sym e ∙ w.3 in absurd (cc)
-        | inr w ↦ let bad : ◌≡◌ {A = Answer} (Ok samples) (Err TooLong) = sym e ∙ w.0 in absurd (cc)
+        | inl w ↦ let bad : ◌≡◌ {A = RasterAnswer} (Ok samples) (Err w.0) = sym e ∙ w.3 in absurd (cc)
+        | inr w ↦ let bad : ◌≡◌ {A = RasterAnswer} (Ok samples) (Err TooLong) = sym e ∙ w.0 in absurd (cc)
       ])
       | inr fits ↦ fits
     ]
@@ -177,7 +177,7 @@ plain_long count maxval at bytes place e =
     let l : Limits = record { count = count; maxval = maxval } in
     elim (cases_lt (2 ^ 28) (at + length bytes)) as (λ _. (2 ^ 28 < at + length bytes) × ((fault : RasterFault) → ((more : List ℕ) → plain_from l 0 no_digits at (take (2 ^ 28 - at) bytes ++ more) ≡ Err fault) → ⊥)) [
       | inl long ↦ elim (beyond l at bytes place long) as (λ _. (2 ^ 28 < at + length bytes) × ((fault : RasterFault) → ((more : List ℕ) → plain_from l 0 no_digits at (take (2 ^ 28 - at) bytes ++ more) ≡ Err fault) → ⊥)) [
-        | inl w ↦ absurd (w.1 (let same : ◌≡◌ {A = Answer} (Err w.0) (Err TooLong) = sym w.3 ∙ e in cc))
+        | inl w ↦ absurd (w.1 (let same : ◌≡◌ {A = RasterAnswer} (Err w.0) (Err TooLong) = sym w.3 ∙ e in cc))
         | inr w ↦ (long, w.1)
       ]
       | inr fits ↦ absurd (subst IsShort (sym (plain-within l bytes 0 no_digits at (omega arith)) ∙ e) (unlimited-short l bytes 0 no_digits at))

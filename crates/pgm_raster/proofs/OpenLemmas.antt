@@ -12,26 +12,26 @@ use Rattle.pgm_raster.specs.declared.part.Limits.{Limits}
 use Rattle.pgm_raster.specs.declared.part.Digits.{Digits}
 use Rattle.pgm_raster.specs.declared.part.Part.{Part}
 use Rattle.pgm_raster.specs.declared.part.Part.TheVariants as part
-use Rattle.pgm_raster.specs.RasterText.{IsCutShort}
-use Rattle.pgm_raster.specs.Progress.{most_bytes, Answer, after, sample_then, end_at, bytes_from, words_from, ended_then, plain_from, reads}
-use Rattle.pgm_raster.specs.Stage.{IsPart, IsPlace}
+use Rattle.pgm_raster.specs.RasterText.{IsRasterCutShort}
+use Rattle.pgm_raster.specs.Progress.{most_bytes, RasterAnswer, after, sample_then, end_at, bytes_from, words_from, ended_then, plain_from, reads}
+use Rattle.pgm_raster.specs.Stage.{IsPart, IsRasterPlace}
 use Rattle.pgm_raster.proofs.RasterLemmas.{sample-passed, sample-refused, after-err}
 use Rattle.pgm_raster.proofs.PlainLemmas.{plain-full, plain-bad, plain-long}
 use Rattle.pgm_raster.proofs.LawLemmas.{Told, bytes-told, words-told}
 
-pub same_fault : (r : Answer) (f g : RasterFault) → r ≡ Err f → r ≡ Err g → f ≡ g
-same_fault r f g a b = let e : ◌≡◌ {A = Answer} (Err f) (Err g) = sym a ∙ b in cc
+pub same_fault : (r : RasterAnswer) (f g : RasterFault) → r ≡ Err f → r ≡ Err g → f ≡ g
+same_fault r f g a b = let e : ◌≡◌ {A = RasterAnswer} (Err f) (Err g) = sym a ∙ b in cc
 
 -- where the end of the file is refused, it is truncated
 end-fault : (l : Limits) (index : ℕ) (f : RasterFault) → end_at l index ≡ Err f → (f ≡ Truncated) × (index < l.count)
 end-fault l index f e =
     elim (cases_lt index l.count) as (λ _. (f ≡ Truncated) × (index < l.count)) [
       | inl less ↦ (same_fault (end_at l index) f Truncated e (cond-true _ _ _ (lt-ltb index l.count less)), less)
-      | inr full ↦ let ok : end_at l index ≡ Ok [] = cond-false _ _ _ (le-ltb index l.count full) in absurd (let bad : ◌≡◌ {A = Answer} (Ok []) (Err f) = sym ok ∙ e in cc)
+      | inr full ↦ let ok : end_at l index ≡ Ok [] = cond-false _ _ _ (le-ltb index l.count full) in absurd (let bad : ◌≡◌ {A = RasterAnswer} (Ok []) (Err f) = sym ok ∙ e in cc)
     ]
 
 -- how many bytes are truncated at most
-bytes-few : (left maxval : ℕ) (bytes : List ℕ) → IsCutShort Bytes left maxval bytes → length bytes < left
+bytes-few : (left maxval : ℕ) (bytes : List ℕ) → IsRasterCutShort Bytes left maxval bytes → length bytes < left
 bytes-few left maxval bytes w =
     let size : length bytes ≡ length w.text + length w.cut = ap length w.whole ∙ length-append w.text w.cut in
     let cut : length w.cut ≡ 0 = ap length w.part in
@@ -39,7 +39,7 @@ bytes-few left maxval bytes w =
     let fewer : length w.samples < left = w.fewer in
     omega arith
 
-words-few : (left maxval : ℕ) (bytes : List ℕ) → IsCutShort Words left maxval bytes → length bytes < 2 * left
+words-few : (left maxval : ℕ) (bytes : List ℕ) → IsRasterCutShort Words left maxval bytes → length bytes < 2 * left
 words-few left maxval bytes w =
     let size : length bytes ≡ length w.text + length w.cut = ap length w.whole ∙ length-append w.text w.cut in
     let cut : length w.cut ≤ 1 = w.part in
@@ -66,7 +66,7 @@ words-enough l index at room e =
 
 half-enough : (l : Limits) (index at high : ℕ) → index < l.count → words_from l index (Some high) at (0 ∷ replicate (2 * l.count) 0) ≡ Err Truncated → ⊥
 half-enough l index at high wanted e =
-    let rest : Answer = words_from l (index + 1) None (at + 1) (replicate (2 * l.count) 0) in
+    let rest : RasterAnswer = words_from l (index + 1) None (at + 1) (replicate (2 * l.count) 0) in
     elim (cases_lt l.maxval (256 * high + 0)) as (λ _. ⊥) [
       | inl above ↦ absurd (let bad : AboveMaxval index ≡ Truncated = same_fault (sample_then l index (256 * high + 0) rest) (AboveMaxval index) Truncated (sample-refused l index (256 * high + 0) rest above) e in cc)
       | inr fits ↦ words-enough l (index + 1) (at + 1) (omega arith) (after-err ((256 * high + 0) ∷ []) rest Truncated (sym (sample-passed l index (256 * high + 0) rest fits) ∙ e))
@@ -111,14 +111,14 @@ plain-open l samples index digits at f place all =
     x-ends l index digits at f place (after-err samples _ f (all (120 ∷ []))) (digits-end l index digits f (after-err samples _ f (all [])))
 
 -- no refusal comes whatever still comes
-pub still-open : (l : Limits) (samples : List ℕ) (p : Part) (at : ℕ) (f : RasterFault) → length samples ≤ l.count → IsPart l (length samples) p → IsPlace l (length samples) p at → ((more : List ℕ) → reads l samples p at more ≡ Err f) → ⊥
+pub still-open : (l : Limits) (samples : List ℕ) (p : Part) (at : ℕ) (f : RasterFault) → length samples ≤ l.count → IsPart l (length samples) p → IsRasterPlace l (length samples) p at → ((more : List ℕ) → reads l samples p at more ≡ Err f) → ⊥
 still-open l samples part.Bytes at f room valid place all =
     let now = end-fault l (length samples) f (after-err samples (end_at l (length samples)) f (all [])) in
-    bytes-enough l (length samples) at room (after-err samples _ f (all (replicate l.count 0)) ∙ ap (λ (g : RasterFault). let r : Answer = Err g in r) now.0)
+    bytes-enough l (length samples) at room (after-err samples _ f (all (replicate l.count 0)) ∙ ap (λ (g : RasterFault). let r : RasterAnswer = Err g in r) now.0)
 still-open l samples (part.Words None) at f room valid place all =
     let now = end-fault l (length samples) f (after-err samples (end_at l (length samples)) f (all [])) in
-    words-enough l (length samples) at room (after-err samples _ f (all (replicate (2 * l.count) 0)) ∙ ap (λ (g : RasterFault). let r : Answer = Err g in r) now.0)
+    words-enough l (length samples) at room (after-err samples _ f (all (replicate (2 * l.count) 0)) ∙ ap (λ (g : RasterFault). let r : RasterAnswer = Err g in r) now.0)
 still-open l samples (part.Words (Some high)) at f room valid place all =
     let now = end-fault l (length samples) f (after-err samples (end_at l (length samples)) f (all [])) in
-    half-enough l (length samples) at high valid (after-err samples _ f (all (0 ∷ replicate (2 * l.count) 0)) ∙ ap (λ (g : RasterFault). let r : Answer = Err g in r) now.0)
+    half-enough l (length samples) at high valid (after-err samples _ f (all (0 ∷ replicate (2 * l.count) 0)) ∙ ap (λ (g : RasterFault). let r : RasterAnswer = Err g in r) now.0)
 still-open l samples (part.Plain digits) at f room valid place all = plain-open l samples (length samples) digits at f (omega arith) all

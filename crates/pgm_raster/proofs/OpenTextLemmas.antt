@@ -14,7 +14,7 @@ use Rattle.pgm_raster.specs.declared.fault.RasterFault.TheVariants.{BadSample, A
 use Rattle.pgm_raster.specs.declared.form.RasterForm.TheVariants.{Plain}
 use Rattle.pgm_raster.specs.declared.part.Limits.{Limits}
 use Rattle.pgm_raster.specs.declared.part.Digits.{Digits}
-use Rattle.pgm_raster.specs.RasterText.{AreEndedTexts, IsOpen}
+use Rattle.pgm_raster.specs.RasterText.{AreEndedTexts, IsRasterOpen}
 use Rattle.pgm_raster.specs.Progress.{most_bytes, after, sample_then, no_digits, plain_from, raster_of}
 use Rattle.pgm_raster.specs.Laws.{OpenRastersAreUnrefused}
 use Rattle.pgm_raster.proofs.RasterLemmas.{sample-passed, sample-refused, after-err}
@@ -24,7 +24,7 @@ use Rattle.pgm_raster.proofs.LawLemmas.{ended_texts-append, digits_of, digits-pu
 use Rattle.pgm_raster.proofs.OpenLemmas.{IsEndFault, same_fault, digits-end}
 
 -- behind some more samples
-open-more : (big small maxval : ℕ) (vs p rest : List ℕ) → AreEndedTexts vs p → All (λ h. h ≤ maxval) vs → small + length vs ≡ big → IsOpen small maxval rest → IsOpen big maxval (p ++ rest)
+open-more : (big small maxval : ℕ) (vs p rest : List ℕ) → AreEndedTexts vs p → All (λ h. h ≤ maxval) vs → small + length vs ≡ big → IsRasterOpen small maxval rest → IsRasterOpen big maxval (p ++ rest)
 open-more big small maxval vs p rest ended fits room w = record {
   samples = vs ++ w.samples;
   front = p ++ w.front;
@@ -43,7 +43,7 @@ open-more big small maxval vs p rest ended fits room w = record {
 -- one of them is refused, or they are open, where these digits came before
 abbrev OpenOr : Limits → ℕ → ℕ → List ℕ → List ℕ → Type 0
 OpenOr l index at text bytes =
-    ((fault : RasterFault) × ((more : List ℕ) → plain_from l index (digits_of text) at (bytes ++ more) ≡ Err fault)) ⊎ IsOpen (l.count - index) l.maxval (text ++ bytes)
+    ((fault : RasterFault) × ((more : List ℕ) → plain_from l index (digits_of text) at (bytes ++ more) ≡ Err fault)) ⊎ IsRasterOpen (l.count - index) l.maxval (text ++ bytes)
 
 -- whitespace behind no digits, and behind some
 space-none : (l : Limits) (index at byte : ℕ) (bytes : List ℕ) → at < most_bytes → is_white byte ≡ true → OpenOr l index (at + 1) [] bytes → OpenOr l index at [] (byte ∷ bytes)
@@ -58,7 +58,7 @@ space-some l index at byte text bytes within space some short are wanted again =
       | inl above ↦ inl (AboveMaxval index, λ more. sample more ∙ sample-refused l index (value_of text) (plain_from l (index + 1) no_digits (at + 1) (bytes ++ more)) above)
       | inr fits ↦ elim again as (λ _. OpenOr l index at text (byte ∷ bytes)) [
         | inl w ↦ inl (w.0, λ more. sample more ∙ sample-passed l index (value_of text) (plain_from l (index + 1) no_digits (at + 1) (bytes ++ more)) fits ∙ ap (after (value_of text ∷ [])) (w.1 more))
-        | inr w ↦ inr (subst (IsOpen (l.count - index) l.maxval) (append_assoc text (byte ∷ []) bytes)
+        | inr w ↦ inr (subst (IsRasterOpen (l.count - index) l.maxval) (append_assoc text (byte ∷ []) bytes)
             (open-more (l.count - index) (l.count - (index + 1)) l.maxval (value_of text ∷ []) (text ++ byte ∷ []) bytes one (All-cons (λ h. h ≤ l.maxval) (value_of text) [] fits (All-nil (λ h. h ≤ l.maxval))) (omega arith) w))
       ]
     ]
@@ -81,7 +81,7 @@ digit-open : (l : Limits) (index at byte : ℕ) (text bytes : List ℕ) → at <
     → OpenOr l index (at + 1) (text ++ byte ∷ []) bytes → OpenOr l index at text (byte ∷ bytes)
 digit-open l index at byte text bytes within space wanted digit (inl w) =
     inl (w.0, λ more. plain-digit l index (digits_of text) at byte (bytes ++ more) within space wanted digit ∙ ap (λ (d : Digits). plain_from l index d (at + 1) (bytes ++ more)) (digits-push text byte) ∙ w.1 more)
-digit-open l index at byte text bytes within space wanted digit (inr w) = inr (subst (IsOpen (l.count - index) l.maxval) (append_assoc text (byte ∷ []) bytes) w)
+digit-open l index at byte text bytes within space wanted digit (inr w) = inr (subst (IsRasterOpen (l.count - index) l.maxval) (append_assoc text (byte ∷ []) bytes) w)
 
 digit-both : (byte n : ℕ) → (is_ascii_digit byte && nat_lt n 9) ≡ true → IsDigit byte × (n < 9)
 digit-both byte n h =
@@ -128,7 +128,7 @@ digits-open : (l : Limits) (text : List ℕ) (index at : ℕ) (more : List ℕ) 
 digits-open l [] index at more wanted are short = let e : at ≡ at + 0 = omega arith in ap (λ (p : ℕ). plain_unlimited l index no_digits p more) e
 digits-open l (byte ∷ text) index at more wanted are short = digits-read l (byte ∷ text) [] index at more (wanted (omega arith)) are (omega arith)
 
-open-read : (l : Limits) (bytes : List ℕ) (at : ℕ) (more : List ℕ) (w : IsOpen l.count l.maxval bytes)
+open-read : (l : Limits) (bytes : List ℕ) (at : ℕ) (more : List ℕ) (w : IsRasterOpen l.count l.maxval bytes)
     → plain_unlimited l 0 no_digits at (bytes ++ more) ≡ after w.samples (plain_unlimited l (0 + length w.samples) (digits_of w.digits) (at + length w.front + length w.digits) more)
 open-read l bytes at more w =
     ap (λ (s : List ℕ). plain_unlimited l 0 no_digits at (s ++ more)) w.whole ∙ ap (plain_unlimited l 0 no_digits at) (append_assoc w.front w.digits more)
@@ -142,7 +142,7 @@ unlimited-x l index digits at f e ends =
       | inr full ↦ subst IsEndFault (same_fault (plain_unlimited l index digits at (120 ∷ [])) f (Trailing at) e (cond-false _ _ _ (le-ltb index l.count full))) ends
     ]
 
-open-unrefused : (l : Limits) (bytes : List ℕ) (at : ℕ) → at + length bytes ≤ most_bytes → IsOpen l.count l.maxval bytes → (fault : RasterFault) → ((more : List ℕ) → plain_from l 0 no_digits at (bytes ++ more) ≡ Err fault) → ⊥
+open-unrefused : (l : Limits) (bytes : List ℕ) (at : ℕ) → at + length bytes ≤ most_bytes → IsRasterOpen l.count l.maxval bytes → (fault : RasterFault) → ((more : List ℕ) → plain_from l 0 no_digits at (bytes ++ more) ≡ Err fault) → ⊥
 open-unrefused l bytes at place w fault all =
     let size : length (bytes ++ []) ≡ length bytes = ap length (append-nil bytes) in
     let ends : IsEndFault fault =
@@ -161,9 +161,9 @@ pub unrefused : OpenRastersAreUnrefused
 unfolding raster_of
 unrefused count maxval at front place =
     let l : Limits = record { count = count; maxval = maxval } in (
-      (λ none. elim (open-or l front 0 at [] (omega arith) (All-nil IsDigit) (omega arith) (λ some. absurd (omega arith)) (omega arith)) as (λ _. IsOpen count maxval front) [
+      (λ none. elim (open-or l front 0 at [] (omega arith) (All-nil IsDigit) (omega arith) (λ some. absurd (omega arith)) (omega arith)) as (λ _. IsRasterOpen count maxval front) [
         | inl w ↦ absurd (none w.0 w.1)
-        | inr w ↦ subst (λ (n : ℕ). IsOpen n maxval front) (no_fewer count) w
+        | inr w ↦ subst (λ (n : ℕ). IsRasterOpen n maxval front) (no_fewer count) w
       ]),
       (λ w. λ fault. λ all. open-unrefused l front at (omega arith) w fault all),
     )

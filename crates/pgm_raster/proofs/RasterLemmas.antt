@@ -8,49 +8,49 @@ use Rattle.text_laws.proofs.ListLemmas.{one-entry}
 use Rattle.pgm_raster.specs.declared.fault.RasterFault.{RasterFault}
 use Rattle.pgm_raster.specs.declared.fault.RasterFault.TheVariants.{AboveMaxval, Trailing}
 use Rattle.pgm_raster.specs.declared.part.Limits.{Limits}
-use Rattle.pgm_raster.specs.Progress.{Answer, after, sample_then, samples_then, bytes_from, words_from}
+use Rattle.pgm_raster.specs.Progress.{RasterAnswer, after, sample_then, samples_then, bytes_from, words_from}
 
 -- ---- samples that came before
 
-pub after-append : (xs ys : List ℕ) (r : Answer) → after (xs ++ ys) r ≡ after xs (after ys r)
-after-append xs ys (Ok rest) = let e : (xs ++ ys) ++ rest ≡ xs ++ (ys ++ rest) = append_assoc xs ys rest in ap (λ (s : List ℕ). let r : Answer = Ok s in r) e
+pub after-append : (xs ys : List ℕ) (r : RasterAnswer) → after (xs ++ ys) r ≡ after xs (after ys r)
+after-append xs ys (Ok rest) = let e : (xs ++ ys) ++ rest ≡ xs ++ (ys ++ rest) = append_assoc xs ys rest in ap (λ (s : List ℕ). let r : RasterAnswer = Ok s in r) e
 after-append xs ys (Err fault) = refl
 
-pub after-nil : (r : Answer) → after [] r ≡ r
+pub after-nil : (r : RasterAnswer) → after [] r ≡ r
 after-nil (Ok rest) = refl
 after-nil (Err fault) = refl
 
 -- a refusal behind samples is one of the rest
-pub after-err : (samples : List ℕ) (r : Answer) (f : RasterFault) → after samples r ≡ Err f → r ≡ Err f
+pub after-err : (samples : List ℕ) (r : RasterAnswer) (f : RasterFault) → after samples r ≡ Err f → r ≡ Err f
 after-err samples (Ok rest) f e = absurd (cc)
 after-err samples (Err g) f e = e
 
 -- a sample that may stand, and one that may not
-pub sample-passed : (l : Limits) (index sample : ℕ) (rest : Answer) → sample ≤ l.maxval → sample_then l index sample rest ≡ after (sample ∷ []) rest
+pub sample-passed : (l : Limits) (index sample : ℕ) (rest : RasterAnswer) → sample ≤ l.maxval → sample_then l index sample rest ≡ after (sample ∷ []) rest
 sample-passed l index sample rest fits = cond-false _ _ _ (le-ltb l.maxval sample fits)
 
-pub sample-refused : (l : Limits) (index sample : ℕ) (rest : Answer) → l.maxval < sample → sample_then l index sample rest ≡ Err (AboveMaxval index)
+pub sample-refused : (l : Limits) (index sample : ℕ) (rest : RasterAnswer) → l.maxval < sample → sample_then l index sample rest ≡ Err (AboveMaxval index)
 sample-refused l index sample rest above = cond-true _ _ _ (lt-ltb l.maxval sample above)
 
-pub samples-passed : (l : Limits) (index : ℕ) (samples : List ℕ) (rest : Answer) → All (λ h. h ≤ l.maxval) samples → samples_then l index samples rest ≡ after samples rest
+pub samples-passed : (l : Limits) (index : ℕ) (samples : List ℕ) (rest : RasterAnswer) → All (λ h. h ≤ l.maxval) samples → samples_then l index samples rest ≡ after samples rest
 samples-passed l index [] rest all = sym (after-nil rest)
 samples-passed l index (s ∷ samples) rest all =
     sample-passed l index s (samples_then l (index + 1) samples rest) (All-head (λ h. h ≤ l.maxval) s samples all)
     ∙ ap (after (s ∷ [])) (samples-passed l (index + 1) samples rest (All-tail (λ h. h ≤ l.maxval) s samples all))
     ∙ sym (after-append (s ∷ []) samples rest)
 
-pub samples-refused : (l : Limits) (index : ℕ) (samples : List ℕ) (i : ℕ) (rest : Answer) → All (λ h. h ≤ l.maxval) (take i samples) → IsSomeAnd (slice_get samples i) (λ h. l.maxval < h) → samples_then l index samples rest ≡ Err (AboveMaxval (index + i))
+pub samples-refused : (l : Limits) (index : ℕ) (samples : List ℕ) (i : ℕ) (rest : RasterAnswer) → All (λ h. h ≤ l.maxval) (take i samples) → IsSomeAnd (slice_get samples i) (λ h. l.maxval < h) → samples_then l index samples rest ≡ Err (AboveMaxval (index + i))
 samples-refused l index [] i rest before above = absurd above
 samples-refused l index (s ∷ samples) zero rest before above =
     let e : index ≡ index + zero = omega arith in
-    sample-refused l index s (samples_then l (index + 1) samples rest) above ∙ ap (λ (k : ℕ). let r : Answer = Err (AboveMaxval k) in r) e
+    sample-refused l index s (samples_then l (index + 1) samples rest) above ∙ ap (λ (k : ℕ). let r : RasterAnswer = Err (AboveMaxval k) in r) e
 samples-refused l index (s ∷ samples) (suc i) rest before above =
     let e : index + 1 + i ≡ index + suc i = omega arith in
     sample-passed l index s (samples_then l (index + 1) samples rest) (All-head (λ h. h ≤ l.maxval) s (take i samples) before)
     ∙ ap (after (s ∷ [])) (samples-refused l (index + 1) samples i rest (All-tail (λ h. h ≤ l.maxval) s (take i samples) before) above)
-    ∙ ap (λ (k : ℕ). let r : Answer = Err (AboveMaxval k) in r) e
+    ∙ ap (λ (k : ℕ). let r : RasterAnswer = Err (AboveMaxval k) in r) e
 
-pub samples-append : (l : Limits) (index : ℕ) (xs ys : List ℕ) (rest : Answer) → samples_then l index (xs ++ ys) rest ≡ samples_then l index xs (samples_then l (index + length xs) ys rest)
+pub samples-append : (l : Limits) (index : ℕ) (xs ys : List ℕ) (rest : RasterAnswer) → samples_then l index (xs ++ ys) rest ≡ samples_then l index xs (samples_then l (index + length xs) ys rest)
 samples-append l index [] ys rest = let e : index ≡ index + 0 = omega arith in ap (λ (k : ℕ). samples_then l k ys rest) e
 samples-append l index (x ∷ xs) ys rest =
     let e : index + 1 + length xs ≡ index + suc (length xs) = omega arith in
@@ -60,10 +60,10 @@ samples-append l index (x ∷ xs) ys rest =
 
 -- what the samples do to any rest
 abbrev pub Pushes : Limits → List ℕ → List ℕ → List ℕ → Type 0
-Pushes l old samples new = (rest : Answer) → after old (samples_then l (length old) samples rest) ≡ after new rest
+Pushes l old samples new = (rest : RasterAnswer) → after old (samples_then l (length old) samples rest) ≡ after new rest
 
 abbrev pub Refuses : Limits → List ℕ → List ℕ → RasterFault → Type 0
-Refuses l old samples fault = (rest : Answer) → after old (samples_then l (length old) samples rest) ≡ Err fault
+Refuses l old samples fault = (rest : RasterAnswer) → after old (samples_then l (length old) samples rest) ≡ Err fault
 
 pub pushed : (l : Limits) (old samples new : List ℕ) → All (λ h. h ≤ l.maxval) samples → new ≡ old ++ samples → Pushes l old samples new
 pushed l old samples new all e rest =
@@ -71,10 +71,10 @@ pushed l old samples new all e rest =
 
 pub refused : (l : Limits) (old samples : List ℕ) (i n : ℕ) → All (λ h. h ≤ l.maxval) (take i samples) → IsSomeAnd (slice_get samples i) (λ h. l.maxval < h) → n ≡ length old + i → Refuses l old samples (AboveMaxval n)
 refused l old samples i n before above e rest =
-    ap (after old) (samples-refused l (length old) samples i rest before above) ∙ ap (λ (k : ℕ). let r : Answer = Err (AboveMaxval k) in r) (sym e)
+    ap (after old) (samples-refused l (length old) samples i rest before above) ∙ ap (λ (k : ℕ). let r : RasterAnswer = Err (AboveMaxval k) in r) (sym e)
 
 -- a chunk, and then the others
-pub chunk-pushed : (l : Limits) (old new xs ys all : List ℕ) → all ≡ xs ++ ys → Pushes l old xs new → length new ≡ length old + length xs → (rest : Answer) → after old (samples_then l (length old) all rest) ≡ after new (samples_then l (length new) ys rest)
+pub chunk-pushed : (l : Limits) (old new xs ys all : List ℕ) → all ≡ xs ++ ys → Pushes l old xs new → length new ≡ length old + length xs → (rest : RasterAnswer) → after old (samples_then l (length old) all rest) ≡ after new (samples_then l (length new) ys rest)
 chunk-pushed l old new xs ys all e step long rest =
     ap (λ (s : List ℕ). after old (samples_then l (length old) s rest)) e
     ∙ ap (after old) (samples-append l (length old) xs ys rest)
@@ -179,7 +179,7 @@ pub bytes-trailing : (l : Limits) (old new piece front : List ℕ) (at n m : ℕ
 bytes-trailing l old new piece front at n m f e room step long same more =
     bytes-front l old new piece at n (omega arith) (omega arith) (subst (λ (s : List ℕ). Pushes l old s new) f step) long more
     ∙ ap (after new) (bytes-full l (length new) (at + n) (drop n piece) more (omega arith) (omega (arith, length-drop n piece)))
-    ∙ ap (λ (k : ℕ). let r : Answer = Err (Trailing (at + k)) in r) (sym same)
+    ∙ ap (λ (k : ℕ). let r : RasterAnswer = Err (Trailing (at + k)) in r) (sym same)
 
 pub words-taken : (l : Limits) (old new piece front : List ℕ) (at k : ℕ) → front ≡ take (2 * k) piece → 2 * k ≡ length piece → length old + k ≤ l.count → Pushes l old (words_of front) new → length new ≡ length old + k → (more : List ℕ)
     → after old (words_from l (length old) None at (piece ++ more)) ≡ after new (words_from l (length new) None (at + length piece) more)
@@ -204,11 +204,11 @@ pub words-trailing : (l : Limits) (old new piece front : List ℕ) (at k m : ℕ
 words-trailing l old new piece front at k m f e room step long same more =
     words-front l old new piece at k (omega arith) (omega arith) (subst (λ (s : List ℕ). Pushes l old (words_of s) new) f step) long more
     ∙ ap (after new) (words-full l (length new) (at + 2 * k) (drop (2 * k) piece) more (omega arith) (omega (arith, length-drop (2 * k) piece)))
-    ∙ ap (λ (p : ℕ). let r : Answer = Err (Trailing (at + p)) in r) (sym same)
+    ∙ ap (λ (p : ℕ). let r : RasterAnswer = Err (Trailing (at + p)) in r) (sym same)
 
 -- what is left of all samples, when some were added
 abbrev pub Left : Limits → List ℕ → List ℕ → List ℕ → List ℕ → Type 0
-Left l old all new left = (rest : Answer) → after old (samples_then l (length old) all rest) ≡ after new (samples_then l (length new) left rest)
+Left l old all new left = (rest : RasterAnswer) → after old (samples_then l (length old) all rest) ≡ after new (samples_then l (length new) left rest)
 
 -- ---- a refusal that is passed on
 

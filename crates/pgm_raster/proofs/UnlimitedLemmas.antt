@@ -10,11 +10,11 @@ use Rattle.pgm_raster.specs.declared.part.Limits.{Limits}
 use Rattle.pgm_raster.specs.declared.part.Digits.{Digits}
 use Rattle.pgm_raster.specs.declared.part.Part.{Part}
 use Rattle.pgm_raster.specs.declared.part.Part.TheVariants as part
-use Rattle.pgm_raster.specs.Progress.{most_bytes, Answer, after, sample_then, end_at, bytes_from, words_from, no_digits, with_digit, ended_then, plain_from, rest_of, nothing_of}
+use Rattle.pgm_raster.specs.Progress.{most_bytes, RasterAnswer, after, sample_then, end_at, bytes_from, words_from, no_digits, with_digit, ended_then, plain_from, rest_of, nothing_of}
 use Rattle.pgm_raster.proofs.RasterLemmas.{sample-passed, sample-refused}
 
 -- the bytes of a plain raster, with no limit on their number
-abbrev pub plain_unlimited : Limits → ℕ → Digits → ℕ → List ℕ → Answer
+abbrev pub plain_unlimited : Limits → ℕ → Digits → ℕ → List ℕ → RasterAnswer
 plain_unlimited l index digits at [] = ended_then l index digits (λ i. end_at l i)
 plain_unlimited l index digits at (byte ∷ more) =
     cond (is_white byte) (ended_then l index digits (λ i. plain_unlimited l i no_digits (at + 1) more))
@@ -23,7 +23,7 @@ plain_unlimited l index digits at (byte ∷ more) =
     (Err (Trailing at)))
 
 -- the bytes of a raster, with no limit on their number
-abbrev pub rest_unlimited : Limits → ℕ → Part → ℕ → List ℕ → Answer
+abbrev pub rest_unlimited : Limits → ℕ → Part → ℕ → List ℕ → RasterAnswer
 rest_unlimited l index part.Bytes at more = bytes_from l index at more
 rest_unlimited l index (part.Words high) at more = words_from l index high at more
 rest_unlimited l index (part.Plain digits) at more = plain_unlimited l index digits at more
@@ -45,10 +45,10 @@ pub plain-within : (l : Limits) (bytes : List ℕ) (index : ℕ) (digits : Digit
 plain-within l [] index digits at within = refl
 plain-within l (byte ∷ more) index digits at within =
     cond-false _ _ _ (ne_eqb at most_bytes (λ e. omega arith))
-    ∙ ap₂ (λ (x : Answer) (y : Answer). cond (is_white byte) (cond (nat_eq digits.count 0) x (sample_then l index digits.value y))
+    ∙ ap₂ (λ (x : RasterAnswer) (y : RasterAnswer). cond (is_white byte) (cond (nat_eq digits.count 0) x (sample_then l index digits.value y))
     (cond (nat_lt index l.count) (cond (is_ascii_digit byte && nat_lt digits.count 9) (plain_from l index (with_digit digits byte) (at + 1) more) (Err (BadSample at))) (Err (Trailing at))))
     (plain-within l more index no_digits (at + 1) (omega arith)) (plain-within l more (index + 1) no_digits (at + 1) (omega arith))
-    ∙ ap (λ (x : Answer). cond (is_white byte) (ended_then l index digits (λ i. plain_unlimited l i no_digits (at + 1) more))
+    ∙ ap (λ (x : RasterAnswer). cond (is_white byte) (ended_then l index digits (λ i. plain_unlimited l i no_digits (at + 1) more))
     (cond (nat_lt index l.count) (cond (is_ascii_digit byte && nat_lt digits.count 9) x (Err (BadSample at))) (Err (Trailing at))))
     (plain-within l more index (with_digit digits byte) (at + 1) (omega arith))
 
@@ -60,25 +60,25 @@ rest-within Plain l at bytes within = plain-within l bytes 0 no_digits at (omega
 -- ---- bytes that may go beyond it
 
 -- the answer is that of a file without limit, or the limit
-abbrev pub Agrees : Answer → Answer → Type 0
+abbrev pub Agrees : RasterAnswer → RasterAnswer → Type 0
 Agrees r unlimited = (r ≡ Err TooLong) ⊎ (r ≡ unlimited)
 
-agrees-after : (samples : List ℕ) (r u : Answer) → Agrees r u → Agrees (after samples r) (after samples u)
+agrees-after : (samples : List ℕ) (r u : RasterAnswer) → Agrees r u → Agrees (after samples r) (after samples u)
 agrees-after samples r u (inl long) = inl (ap (after samples) long)
 agrees-after samples r u (inr same) = inr (ap (after samples) same)
 
-agrees-by : (a b r u : Answer) → a ≡ r → b ≡ u → Agrees r u → Agrees a b
+agrees-by : (a b r u : RasterAnswer) → a ≡ r → b ≡ u → Agrees r u → Agrees a b
 agrees-by a b r u e f (inl long) = inl (e ∙ long)
 agrees-by a b r u e f (inr same) = inr (e ∙ same ∙ sym f)
 
-agrees-sample : (l : Limits) (index sample : ℕ) (r u : Answer) → Agrees r u → Agrees (sample_then l index sample r) (sample_then l index sample u)
+agrees-sample : (l : Limits) (index sample : ℕ) (r u : RasterAnswer) → Agrees r u → Agrees (sample_then l index sample r) (sample_then l index sample u)
 agrees-sample l index sample r u w =
     elim (cases_lt l.maxval sample) as (λ _. Agrees (sample_then l index sample r) (sample_then l index sample u)) [
       | inl above ↦ inr (sample-refused l index sample r above ∙ sym (sample-refused l index sample u above))
       | inr fits ↦ agrees-by _ _ _ _ (sample-passed l index sample r fits) (sample-passed l index sample u fits) (agrees-after (sample ∷ []) r u w)
     ]
 
-agrees-ended : (l : Limits) (index : ℕ) (digits : Digits) (r u : ℕ → Answer) → ((i : ℕ) → Agrees (r i) (u i)) → Agrees (ended_then l index digits r) (ended_then l index digits u)
+agrees-ended : (l : Limits) (index : ℕ) (digits : Digits) (r u : ℕ → RasterAnswer) → ((i : ℕ) → Agrees (r i) (u i)) → Agrees (ended_then l index digits r) (ended_then l index digits u)
 agrees-ended l index digits r u w =
     elim (cases_eq digits.count 0) as (λ _. Agrees (ended_then l index digits r) (ended_then l index digits u)) [
       | inl none ↦ agrees-by _ _ _ _ (cond-true _ _ _ (eq-eqb digits.count 0 none)) (cond-true _ _ _ (eq-eqb digits.count 0 none)) (w index)
@@ -86,7 +86,7 @@ agrees-ended l index digits r u w =
           (agrees-sample l index digits.value (r (index + 1)) (u (index + 1)) (w (index + 1)))
     ]
 
-agrees-cond : (test : Bool) (a b r u : Answer) → Agrees a r → Agrees b u → Agrees (cond test a b) (cond test r u)
+agrees-cond : (test : Bool) (a b r u : RasterAnswer) → Agrees a r → Agrees b u → Agrees (cond test a b) (cond test r u)
 agrees-cond true a b r u x y = x
 agrees-cond false a b r u x y = y
 
@@ -106,7 +106,7 @@ rest-agrees Words l at bytes = inr refl
 rest-agrees Plain l at bytes = plain-agrees l bytes 0 no_digits at
 
 -- what holds of the answer without limit and of the limit holds of the answer
-pub agreed : (f : RasterForm) (l : Limits) (at : ℕ) (bytes : List ℕ) (P : Answer → Type 0) → P (Err TooLong) → P (rest_unlimited l 0 (nothing_of f) at bytes) → P (rest_of l 0 (nothing_of f) at bytes)
+pub agreed : (f : RasterForm) (l : Limits) (at : ℕ) (bytes : List ℕ) (P : RasterAnswer → Type 0) → P (Err TooLong) → P (rest_unlimited l 0 (nothing_of f) at bytes) → P (rest_of l 0 (nothing_of f) at bytes)
 agreed f l at bytes P long unlimited =
     elim (rest-agrees f l at bytes) as (λ _. P (rest_of l 0 (nothing_of f) at bytes)) [
       | inl e ↦ subst P (sym e) long

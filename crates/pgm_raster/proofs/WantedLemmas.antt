@@ -9,7 +9,7 @@ use Rattle.pgm_raster.specs.declared.form.RasterForm.{RasterForm}
 use Rattle.pgm_raster.specs.declared.form.RasterForm.TheVariants.{Bytes, Words, Plain}
 use Rattle.pgm_raster.specs.declared.part.Limits.{Limits}
 use Rattle.pgm_raster.specs.declared.part.Digits.{Digits}
-use Rattle.pgm_raster.specs.Progress.{Answer, after, sample_then, end_at, bytes_from, words_from, no_digits, with_digit, ended_then, nothing_of, raster_of}
+use Rattle.pgm_raster.specs.Progress.{RasterAnswer, after, sample_then, end_at, bytes_from, words_from, no_digits, with_digit, ended_then, nothing_of, raster_of}
 use Rattle.pgm_raster.specs.Laws.{OnlyWantedSamplesAreRead}
 use Rattle.pgm_raster.proofs.RasterLemmas.{sample-passed, sample-refused}
 use Rattle.pgm_raster.proofs.UnlimitedLemmas.{plain_unlimited, rest_unlimited, agreed}
@@ -18,7 +18,7 @@ use Rattle.pgm_raster.proofs.UnlimitedLemmas.{plain_unlimited, rest_unlimited, a
 abbrev AreWanted : Limits → ℕ → List ℕ → Type 0
 AreWanted l index samples = (index + length samples ≡ l.count) × All (λ h. h ≤ l.maxval) samples
 
-abbrev Wanted : Limits → ℕ → Answer → Type 0
+abbrev Wanted : Limits → ℕ → RasterAnswer → Type 0
 Wanted l index r = IfOk r (AreWanted l index)
 
 wanted-end : (l : Limits) (index : ℕ) → index ≤ l.count → Wanted l index (end_at l index)
@@ -28,11 +28,11 @@ wanted-end l index room =
       | inr full ↦ subst (Wanted l index) (sym (cond-false _ _ _ (le-ltb index l.count full))) (omega arith, All-nil (λ h. h ≤ l.maxval))
     ]
 
-wanted-after : (l : Limits) (index sample : ℕ) (r : Answer) → sample ≤ l.maxval → Wanted l (index + 1) r → Wanted l index (after (sample ∷ []) r)
+wanted-after : (l : Limits) (index sample : ℕ) (r : RasterAnswer) → sample ≤ l.maxval → Wanted l (index + 1) r → Wanted l index (after (sample ∷ []) r)
 wanted-after l index sample (Ok rest) fits w = (omega (arith, w.0), All-cons (λ h. h ≤ l.maxval) sample rest fits w.1)
 wanted-after l index sample (Err fault) fits w = tt
 
-wanted-sample : (l : Limits) (index sample : ℕ) (r : Answer) → Wanted l (index + 1) r → Wanted l index (sample_then l index sample r)
+wanted-sample : (l : Limits) (index sample : ℕ) (r : RasterAnswer) → Wanted l (index + 1) r → Wanted l index (sample_then l index sample r)
 wanted-sample l index sample r w =
     elim (cases_lt l.maxval sample) as (λ _. Wanted l index (sample_then l index sample r)) [
       | inl above ↦ subst (Wanted l index) (sym (sample-refused l index sample r above)) tt
@@ -61,7 +61,7 @@ words-wanted l (high ∷ low ∷ more) index at room =
       | inr full ↦ subst (Wanted l index) (sym (cond-false _ _ _ (le-ltb index l.count full))) tt
     ]
 
-wanted-ended : (l : Limits) (index : ℕ) (digits : Digits) (rest : ℕ → Answer) → index ≤ l.count → (0 < digits.count → index < l.count) → ((i : ℕ) → i ≤ l.count → Wanted l i (rest i)) → Wanted l index (ended_then l index digits rest)
+wanted-ended : (l : Limits) (index : ℕ) (digits : Digits) (rest : ℕ → RasterAnswer) → index ≤ l.count → (0 < digits.count → index < l.count) → ((i : ℕ) → i ≤ l.count → Wanted l i (rest i)) → Wanted l index (ended_then l index digits rest)
 wanted-ended l index digits rest room wanted again =
     elim (cases_eq digits.count 0) as (λ _. Wanted l index (ended_then l index digits rest)) [
       | inl none ↦ subst (Wanted l index) (sym (cond-true _ _ _ (eq-eqb digits.count 0 none))) (again index room)
@@ -82,7 +82,7 @@ plain-wanted l (byte ∷ more) index digits at room wanted =
       | inr full ↦ subst (Wanted l index) (sym (cond-false _ _ _ other ∙ cond-false _ _ _ (le-ltb index l.count full))) tt
     ])
 
-strip : (count maxval : ℕ) (r : Answer) → Wanted (record { count = count; maxval = maxval }) 0 r → IfOk r (λ samples. (length samples ≡ count) × All (λ h. h ≤ maxval) samples)
+strip : (count maxval : ℕ) (r : RasterAnswer) → Wanted (record { count = count; maxval = maxval }) 0 r → IfOk r (λ samples. (length samples ≡ count) × All (λ h. h ≤ maxval) samples)
 strip count maxval (Ok samples) w = (omega (arith, w.0), w.1)
 strip count maxval (Err fault) w = tt
 

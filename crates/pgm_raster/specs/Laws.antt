@@ -5,7 +5,7 @@ use Rattle.pgm_raster.specs.declared.fault.RasterFault.{RasterFault}
 use Rattle.pgm_raster.specs.declared.fault.RasterFault.TheVariants.{BadSample, AboveMaxval, Trailing, Truncated, TooLong}
 use Rattle.pgm_raster.specs.declared.form.RasterForm.{RasterForm}
 use Rattle.pgm_raster.specs.declared.form.RasterForm.TheVariants.{Bytes, Words, Plain}
-use Rattle.pgm_raster.specs.RasterText.{IsRaster, IsCutShort, IsTrailingAt, IsAboveAt, IsBadSampleAt, IsOpen}
+use Rattle.pgm_raster.specs.RasterText.{IsRaster, IsRasterCutShort, IsTrailingAt, IsAboveAt, IsBadSampleAt, IsRasterOpen}
 use Rattle.pgm_raster.specs.Progress.{most_bytes, raster_of}
 
 -- a raster of so many samples, none above maxval, is read as its samples
@@ -23,10 +23,10 @@ abbrev pub OnlyWantedSamplesAreRead : Type 0
 OnlyWantedSamplesAreRead = (form : RasterForm) (count maxval at : ℕ) (bytes : List ℕ) → IfOk (raster_of form count maxval at bytes) (λ samples. (length samples ≡ count) × All (λ h. h ≤ maxval) samples)
 
 -- bytes that end at this place come to no limit: plain rasters alone have one, the most bytes of a file
-abbrev pub IsWithin : RasterForm → ℕ → Type 0
-IsWithin Bytes end = ⊤
-IsWithin Words end = ⊤
-IsWithin Plain end = end ≤ most_bytes
+abbrev pub IsBelowLimit : RasterForm → ℕ → Type 0
+IsBelowLimit Bytes end = ⊤
+IsBelowLimit Words end = ⊤
+IsBelowLimit Plain end = end ≤ most_bytes
 
 -- how many bytes end the text of a sample, where these follow it
 abbrev pub ending : List ℕ → ℕ
@@ -36,26 +36,26 @@ ending (byte ∷ more) = 1
 -- the sample of this index is above maxval, and its text ends before the limit, with the byte that ends it
 pub record IsAboveWithin (form : RasterForm) (count maxval at : ℕ) (bytes : List ℕ) (index : ℕ) : Type 0 where
   pub above : IsAboveAt form count maxval bytes index
-  pub within : IsWithin form (at + length above.front + length above.text + ending above.more)
+  pub within : IsBelowLimit form (at + length above.front + length above.text + ending above.more)
 
 -- bytes are truncated exactly where they end too early, and before the limit
 abbrev pub CutRastersAreRefused : Type 0
 CutRastersAreRefused = (form : RasterForm) (count maxval at : ℕ) (bytes : List ℕ) → at ≤ most_bytes → All (λ b. b < 256) bytes →
-    (raster_of form count maxval at bytes ≡ Err Truncated) ↔ (IsCutShort form count maxval bytes × IsWithin form (at + length bytes))
+    (raster_of form count maxval at bytes ≡ Err Truncated) ↔ (IsRasterCutShort form count maxval bytes × IsBelowLimit form (at + length bytes))
 
 -- a trailing byte is answered exactly at its place, before the limit
-abbrev pub TrailingBytesAreRefused : Type 0
-TrailingBytesAreRefused = (form : RasterForm) (count maxval at : ℕ) (bytes : List ℕ) (p : ℕ) → at ≤ most_bytes → All (λ b. b < 256) bytes →
-    (raster_of form count maxval at bytes ≡ Err (Trailing p)) ↔ ((place : ℕ) × (p ≡ at + place) × IsTrailingAt form count maxval bytes place × IsWithin form (p + 1))
+abbrev pub RastersRefuseTrailingBytes : Type 0
+RastersRefuseTrailingBytes = (form : RasterForm) (count maxval at : ℕ) (bytes : List ℕ) (p : ℕ) → at ≤ most_bytes → All (λ b. b < 256) bytes →
+    (raster_of form count maxval at bytes ≡ Err (Trailing p)) ↔ ((place : ℕ) × (p ≡ at + place) × IsTrailingAt form count maxval bytes place × IsBelowLimit form (p + 1))
 
 -- a sample above maxval is answered exactly at its index, where its text ends before the limit
-abbrev pub GreatSamplesAreRefused : Type 0
-GreatSamplesAreRefused = (form : RasterForm) (count maxval at : ℕ) (bytes : List ℕ) (index : ℕ) → at ≤ most_bytes → All (λ b. b < 256) bytes →
+abbrev pub RastersRefuseGreatSamples : Type 0
+RastersRefuseGreatSamples = (form : RasterForm) (count maxval at : ℕ) (bytes : List ℕ) (index : ℕ) → at ≤ most_bytes → All (λ b. b < 256) bytes →
     (raster_of form count maxval at bytes ≡ Err (AboveMaxval index)) ↔ IsAboveWithin form count maxval at bytes index
 
 -- a byte that continues no sample is answered exactly at its place, before the limit, and in plain rasters alone
-abbrev pub BadSamplesAreRefused : Type 0
-BadSamplesAreRefused = (form : RasterForm) (count maxval at : ℕ) (bytes : List ℕ) (p : ℕ) → at ≤ most_bytes → All (λ b. b < 256) bytes →
+abbrev pub RastersRefuseBadSamples : Type 0
+RastersRefuseBadSamples = (form : RasterForm) (count maxval at : ℕ) (bytes : List ℕ) (p : ℕ) → at ≤ most_bytes → All (λ b. b < 256) bytes →
     (raster_of form count maxval at bytes ≡ Err (BadSample p)) ↔ ((form ≡ Plain) × (place : ℕ) × (p ≡ at + place) × IsBadSampleAt count maxval bytes place × (p < most_bytes))
 
 -- a plain raster that is read ends within the most bytes of a file
@@ -68,7 +68,7 @@ NoneIsRefused count maxval at front = (fault : RasterFault) → ((more : List �
 
 -- none is refused exactly where the bytes are samples, each of them ended, and digits of one that is still wanted
 abbrev pub OpenRastersAreUnrefused : Type 0
-OpenRastersAreUnrefused = (count maxval at : ℕ) (front : List ℕ) → at + length front ≤ most_bytes → NoneIsRefused count maxval at front ↔ IsOpen count maxval front
+OpenRastersAreUnrefused = (count maxval at : ℕ) (front : List ℕ) → at + length front ≤ most_bytes → NoneIsRefused count maxval at front ↔ IsRasterOpen count maxval front
 
 -- a raster is too long exactly where a byte stands behind the most that a file has, in plain rasters alone, and none before it is refused
 abbrev pub LongRastersAreRefused : Type 0

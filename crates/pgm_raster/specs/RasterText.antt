@@ -1,9 +1,9 @@
 -- The raster of a PGM file: what stands behind its header. The forms are those of the Netpbm manual,
 -- "pgm": raw (`P5`) with one or two bytes a sample, and plain (`P2`) with decimal texts.
 --
--- Words: IsSampleText, IsSample, AreEndedTexts, AreEnded, HasOpenEnd,
--- IsRaster; IsCut, IsCutShort, IsStray, IsTrailingAt, EndsThere, IsAboveAt, IsBadSampleAt,
--- IsOpen.
+-- Words: IsSampleText, IsTextOfSample, AreEndedTexts, AreEnded, HasOpenEnd,
+-- IsRaster; IsSampleCut, IsRasterCutShort, IsStray, IsTrailingAt, EndsThere, IsAboveAt, IsBadSampleAt,
+-- IsRasterOpen.
 use Rattle.std.specs.Prelude.{◌≡◌, ℕ, ◌+◌, ◌<◌, ◌≤◌, ⊤, ◌⊎◌, List, [], ◌∷◌, ◌++◌, length, All}
 use Rattle.std.specs.List.{flat_map}
 use Rattle.text_laws.specs.Digits.{IsDigit, value_of}
@@ -20,10 +20,10 @@ pub record IsSampleText (text : List ℕ) (sample : ℕ) : Type 0 where
   pub value : value_of text ≡ sample
 
 -- the text of one sample
-abbrev pub IsSample : RasterForm → List ℕ → ℕ → Type 0
-IsSample form.Bytes text sample = text ≡ sample ∷ []
-IsSample form.Words text sample = text ≡ two_bytes sample
-IsSample form.Plain text sample = IsSampleText text sample
+abbrev pub IsTextOfSample : RasterForm → List ℕ → ℕ → Type 0
+IsTextOfSample form.Bytes text sample = text ≡ sample ∷ []
+IsTextOfSample form.Words text sample = text ≡ two_bytes sample
+IsTextOfSample form.Plain text sample = IsSampleText text sample
 
 -- the texts of samples, a whitespace byte behind each, and any whitespace before and behind
 abbrev pub AreEndedTexts : List ℕ → List ℕ → Type 0
@@ -51,19 +51,19 @@ IsRaster form.Plain samples bytes = AreEndedTexts samples bytes ⊎ HasOpenEnd s
 -- ---- rasters that are refused: so many samples are wanted, none above maxval
 
 -- a sample has begun that is not whole: the first of its two bytes has come, or nothing
-abbrev pub IsCut : RasterForm → List ℕ → Type 0
-IsCut form.Bytes cut = cut ≡ []
-IsCut form.Words cut = length cut ≤ 1
-IsCut form.Plain cut = cut ≡ []
+abbrev pub IsSampleCut : RasterForm → List ℕ → Type 0
+IsSampleCut form.Bytes cut = cut ≡ []
+IsSampleCut form.Words cut = length cut ≤ 1
+IsSampleCut form.Plain cut = cut ≡ []
 
 -- the bytes are a raster of fewer samples, and a sample that is not whole
-pub record IsCutShort (form : RasterForm) (count maxval : ℕ) (bytes : List ℕ) : Type 0 where
+pub record IsRasterCutShort (form : RasterForm) (count maxval : ℕ) (bytes : List ℕ) : Type 0 where
   pub samples : List ℕ
   pub text : List ℕ
   pub cut : List ℕ
   pub whole : bytes ≡ text ++ cut
   pub raster : IsRaster form samples text
-  pub part : IsCut form cut
+  pub part : IsSampleCut form cut
   pub bound : All (λ h. h ≤ maxval) samples
   pub fewer : length samples < count
 
@@ -103,7 +103,7 @@ pub record IsAboveAt (form : RasterForm) (count maxval : ℕ) (bytes : List ℕ)
   pub whole : bytes ≡ front ++ (text ++ more)
   pub at : index ≡ length samples
   pub ended : AreEnded form samples front
-  pub next : IsSample form text sample
+  pub next : IsTextOfSample form text sample
   pub ends : EndsThere form more
   pub bound : All (λ h. h ≤ maxval) samples
   pub above : maxval < sample
@@ -129,7 +129,7 @@ pub record IsBadSampleAt (count maxval : ℕ) (bytes : List ℕ) (place : ℕ) :
 -- ---- plain rasters none of whose bytes is refused
 
 -- the bytes are samples, each of them ended, and up to nine digits of one that is still wanted
-pub record IsOpen (count maxval : ℕ) (bytes : List ℕ) : Type 0 where
+pub record IsRasterOpen (count maxval : ℕ) (bytes : List ℕ) : Type 0 where
   pub samples : List ℕ
   pub front : List ℕ
   pub digits : List ℕ

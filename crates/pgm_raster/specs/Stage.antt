@@ -9,10 +9,10 @@ use Rattle.pgm_raster.specs.declared.part.Limits.{Limits}
 use Rattle.pgm_raster.specs.declared.part.Digits.{Digits}
 use Rattle.pgm_raster.specs.declared.part.Part.{Part}
 use Rattle.pgm_raster.specs.declared.part.Part.TheVariants as part
-use Rattle.pgm_raster.specs.Progress.{Progress, HasRefused}
+use Rattle.pgm_raster.specs.Progress.{RasterProgress, HasRefused}
 
 -- no more samples have come than are wanted, and there is room for all of them
-pub record HasRoom (l : Limits) (heights : Vec ℕ Global) : Type 0 where
+pub record HasSampleRoom (l : Limits) (heights : Vec ℕ Global) : Type 0 where
   pub within : vec_len heights ≤ l.count
   pub room : l.count ≤ vec_capacity heights
 
@@ -30,18 +30,18 @@ IsPart l index (part.Words (Some high)) = index < l.count
 IsPart l index (part.Plain digits) = IsDigits l index digits
 
 -- the samples that are still wanted fit a file; in the plain form so do the bytes so far
-abbrev pub IsPlace : Limits → ℕ → Part → ℕ → Type 0
-IsPlace l index part.Bytes at = at + (l.count - index) ≤ MOST_BYTES
-IsPlace l index (part.Words None) at = at + 2 * (l.count - index) ≤ MOST_BYTES
-IsPlace l index (part.Words (Some high)) at = at + 2 * (l.count - index) ≤ MOST_BYTES + 1
-IsPlace l index (part.Plain digits) at = at ≤ MOST_BYTES
+abbrev pub IsRasterPlace : Limits → ℕ → Part → ℕ → Type 0
+IsRasterPlace l index part.Bytes at = at + (l.count - index) ≤ MOST_BYTES
+IsRasterPlace l index (part.Words None) at = at + 2 * (l.count - index) ≤ MOST_BYTES
+IsRasterPlace l index (part.Words (Some high)) at = at + 2 * (l.count - index) ≤ MOST_BYTES + 1
+IsRasterPlace l index (part.Plain digits) at = at ≤ MOST_BYTES
 
 -- the fields of a reader that has refused no byte agree
-abbrev pub IsReader : Option RasterFault → Limits → Vec ℕ Global → Part → ℕ → Type 0
-IsReader None l heights part at = HasRoom l heights × IsPart l (vec_len heights) part × IsPlace l (vec_len heights) part at
-IsReader (Some fault) l heights part at = ⊤
+abbrev pub IsRasterReader : Option RasterFault → Limits → Vec ℕ Global → Part → ℕ → Type 0
+IsRasterReader None l heights part at = HasSampleRoom l heights × IsPart l (vec_len heights) part × IsRasterPlace l (vec_len heights) part at
+IsRasterReader (Some fault) l heights part at = ⊤
 
 -- what a reader has come to that has refused no byte, or this one
-abbrev pub progress_of : Option RasterFault → Progress → Progress
-progress_of None reading = reading
-progress_of (Some fault) reading = HasRefused fault
+abbrev pub raster_progress_of : Option RasterFault → RasterProgress → RasterProgress
+raster_progress_of None reading = reading
+raster_progress_of (Some fault) reading = HasRefused fault

@@ -3,7 +3,7 @@
 ghost use Rattle.std.specs.Prelude.{◌≡◌, ◌+◌, ◌*◌, ◌/◌, ◌≤◌, length, vec_len, OnOk, IfErr};
 ghost use Rattle.std.specs.Vec.{vec_capacity};
 ghost use Rattle.text_laws.specs.Words.{words_of};
-ghost use Rattle.pgm_raster.specs.Progress.{Answer, after, samples_then};
+ghost use Rattle.pgm_raster.specs.Progress.{RasterAnswer, after, samples_then};
 
 use crate::fault::RasterFault;
 use crate::part::Limits;
@@ -15,11 +15,11 @@ const CHUNK: usize = 1024;
 /// Adds samples, unless one is above the greatest that is allowed.
 fn push_samples(heights: &mut Vec<u16>, limits: Limits, samples: &[u16]) -> Result<(), RasterFault>
     requires room { vec_len heights.old + length samples.now ≤ vec_capacity heights.old }
-    ensures ok { OnOk result ((rest : Answer) →
+    ensures ok { OnOk result ((rest : RasterAnswer) →
         after heights.old.items (samples_then limits (length heights.old.items) samples.now rest)
         ≡ after heights.new.items rest) }
     ensures count { OnOk result (vec_len heights.new ≡ vec_len heights.old + length samples.now) }
-    ensures err { IfErr result (λ fault. (rest : Answer) →
+    ensures err { IfErr result (λ fault. (rest : RasterAnswer) →
         after heights.old.items (samples_then limits (length heights.old.items) samples.now rest)
         ≡ Err fault) }
     ensures capacity { vec_capacity heights.old ≤ vec_capacity heights.new }
@@ -43,11 +43,11 @@ pub(crate) fn push_words(
 ) -> Result<(), RasterFault>
     requires pairs { length pairs.now ≡ 2 * (length pairs.now / 2) }
     requires room { vec_len heights.old + length pairs.now / 2 ≤ vec_capacity heights.old }
-    ensures ok { OnOk result ((rest : Answer) →
+    ensures ok { OnOk result ((rest : RasterAnswer) →
         after heights.old.items (samples_then limits (length heights.old.items) (words_of pairs.now) rest)
         ≡ after heights.new.items rest) }
     ensures count { OnOk result (vec_len heights.new ≡ vec_len heights.old + length pairs.now / 2) }
-    ensures err { IfErr result (λ fault. (rest : Answer) →
+    ensures err { IfErr result (λ fault. (rest : RasterAnswer) →
         after heights.old.items (samples_then limits (length heights.old.items) (words_of pairs.now) rest)
         ≡ Err fault) }
     ensures capacity { vec_capacity heights.old ≤ vec_capacity heights.new }
@@ -71,11 +71,11 @@ pub(crate) fn push_bytes(
     bytes: &[u8],
 ) -> Result<(), RasterFault>
     requires room { vec_len heights.old + length bytes.now ≤ vec_capacity heights.old }
-    ensures ok { OnOk result ((rest : Answer) →
+    ensures ok { OnOk result ((rest : RasterAnswer) →
         after heights.old.items (samples_then limits (length heights.old.items) bytes.now rest)
         ≡ after heights.new.items rest) }
     ensures count { OnOk result (vec_len heights.new ≡ vec_len heights.old + length bytes.now) }
-    ensures err { IfErr result (λ fault. (rest : Answer) →
+    ensures err { IfErr result (λ fault. (rest : RasterAnswer) →
         after heights.old.items (samples_then limits (length heights.old.items) bytes.now rest)
         ≡ Err fault) }
     ensures capacity { vec_capacity heights.old ≤ vec_capacity heights.new }

@@ -1,6 +1,6 @@
 //! What the bytes of a raster mean.
 
-ghost use Rattle.pgm_raster.specs.Laws.{RastersAreRead, ReadBytesAreRasters, OnlyWantedSamplesAreRead, CutRastersAreRefused, TrailingBytesAreRefused, GreatSamplesAreRefused, BadSamplesAreRefused, ReadRastersAreShort, OpenRastersAreUnrefused, LongRastersAreRefused};
+ghost use Rattle.pgm_raster.specs.Laws.{RastersAreRead, ReadBytesAreRasters, OnlyWantedSamplesAreRead, CutRastersAreRefused, RastersRefuseTrailingBytes, RastersRefuseGreatSamples, RastersRefuseBadSamples, ReadRastersAreShort, OpenRastersAreUnrefused, LongRastersAreRefused};
 
 /// States what `raster_of` answers for the bytes of a raster, in the words of the format. It does nothing.
 pub fn raster_laws()
@@ -8,9 +8,9 @@ pub fn raster_laws()
     ensures samples { ReadBytesAreRasters }
     ensures wanted { OnlyWantedSamplesAreRead }
     ensures truncated { CutRastersAreRefused }
-    ensures trailing { TrailingBytesAreRefused }
-    ensures above { GreatSamplesAreRefused }
-    ensures bad_sample { BadSamplesAreRefused }
+    ensures trailing { RastersRefuseTrailingBytes }
+    ensures above { RastersRefuseGreatSamples }
+    ensures bad_sample { RastersRefuseBadSamples }
     ensures short { ReadRastersAreShort }
     ensures unrefused { OpenRastersAreUnrefused }
     ensures too_long { LongRastersAreRefused }

@@ -3,8 +3,8 @@
 ghost use Rattle.std.specs.Prelude.{◌≡◌, ◌+◌, ◌^◌, ◌<◌, ◌≤◌, ◌++◌, ◌∷◌, ℕ, List, length, drop, vec_len, OnOk, IfOk, IfErr};
 ghost use Rattle.std.specs.Vec.{vec_capacity};
 ghost use Rattle.text_laws.specs.Blanks.{is_white};
-ghost use Rattle.pgm_raster.specs.Progress.{Answer, after, reads, plain_from, ended_then, no_digits};
-ghost use Rattle.pgm_raster.specs.Stage.{HasRoom, IsPart, IsDigits};
+ghost use Rattle.pgm_raster.specs.Progress.{RasterAnswer, after, reads, plain_from, ended_then, no_digits};
+ghost use Rattle.pgm_raster.specs.Stage.{HasSampleRoom, IsPart, IsDigits};
 ghost use Rattle.pgm_raster.specs.declared.part.Part.TheVariants as part;
 ghost use Rattle.pgm_raster.specs.declared.plain.TheConstants.{MOST_BYTES};
 
@@ -37,14 +37,14 @@ pub(crate) fn end_digits(
     limits: Limits,
     digits: Digits,
 ) -> Result<(), RasterFault>
-    requires room { HasRoom limits heights.old }
+    requires room { HasSampleRoom limits heights.old }
     requires part { IsPart limits (vec_len heights.old) (part.Plain digits) }
-    ensures ok { OnOk result ((rest : ℕ → Answer) →
+    ensures ok { OnOk result ((rest : ℕ → RasterAnswer) →
         after heights.old.items (ended_then limits (length heights.old.items) digits rest)
         ≡ after heights.new.items (rest (length heights.new.items))) }
-    ensures err { IfErr result (λ fault. (rest : ℕ → Answer) →
+    ensures err { IfErr result (λ fault. (rest : ℕ → RasterAnswer) →
         after heights.old.items (ended_then limits (length heights.old.items) digits rest) ≡ Err fault) }
-    ensures valid { OnOk result (HasRoom limits heights.new) }
+    ensures valid { OnOk result (HasSampleRoom limits heights.new) }
 {
     if digits.count == 0 {
         return Ok(());
@@ -67,7 +67,7 @@ fn plain_step(
     digits: Digits,
     byte: u8,
 ) -> Result<Digits, RasterFault>
-    requires room { HasRoom limits heights.old }
+    requires room { HasSampleRoom limits heights.old }
     requires part { IsPart limits (vec_len heights.old) (part.Plain digits) }
     requires place { at < MOST_BYTES }
     ensures ok { IfOk result (λ next. (more : List ℕ) →
@@ -75,7 +75,7 @@ fn plain_step(
         ≡ reads limits heights.new.items (part.Plain next) (at + 1) more) }
     ensures err { IfErr result (λ fault. (more : List ℕ) →
         reads limits heights.old.items (part.Plain digits) at (byte ∷ more) ≡ Err fault) }
-    ensures valid { OnOk result (HasRoom limits heights.new) }
+    ensures valid { OnOk result (HasSampleRoom limits heights.new) }
     ensures part { IfOk result (λ next. IsPart limits (vec_len heights.new) (part.Plain next)) }
 {
     let wanted = heights.len() < limits.count;
@@ -153,7 +153,7 @@ pub(crate) fn plain_after(
     digits: Digits,
     piece: &[u8],
 ) -> Result<Digits, RasterFault>
-    requires room { HasRoom limits heights.old }
+    requires room { HasSampleRoom limits heights.old }
     requires part { IsPart limits (vec_len heights.old) (part.Plain digits) }
     requires place { at + length piece.now ≤ MOST_BYTES }
     ensures ok { IfOk result (λ next. (more : List ℕ) →
@@ -161,7 +161,7 @@ pub(crate) fn plain_after(
         ≡ reads limits heights.new.items (part.Plain next) (at + length piece.now) more) }
     ensures err { IfErr result (λ fault. (more : List ℕ) →
         reads limits heights.old.items (part.Plain digits) at (piece.now ++ more) ≡ Err fault) }
-    ensures valid { OnOk result (HasRoom limits heights.new) }
+    ensures valid { OnOk result (HasSampleRoom limits heights.new) }
     ensures part { IfOk result (λ next. IsPart limits (vec_len heights.new) (part.Plain next)) }
 {
     let mut digits = digits;
@@ -187,7 +187,7 @@ pub(crate) fn plain_within(
     digits: Digits,
     piece: &[u8],
 ) -> Result<Digits, RasterFault>
-    requires room { HasRoom limits heights.old }
+    requires room { HasSampleRoom limits heights.old }
     requires part { IsPart limits (vec_len heights.old) (part.Plain digits) }
     requires place { at ≤ MOST_BYTES }
     ensures ok { IfOk result (λ next. (more : List ℕ) →
@@ -195,7 +195,7 @@ pub(crate) fn plain_within(
         ≡ reads limits heights.new.items (part.Plain next) (at + length piece.now) more) }
     ensures err { IfErr result (λ fault. (more : List ℕ) →
         reads limits heights.old.items (part.Plain digits) at (piece.now ++ more) ≡ Err fault) }
-    ensures valid { OnOk result (HasRoom limits heights.new) }
+    ensures valid { OnOk result (HasSampleRoom limits heights.new) }
     ensures part { IfOk result (λ next. IsPart limits (vec_len heights.new) (part.Plain next)) }
     ensures place { OnOk result (at + length piece.now ≤ MOST_BYTES) }
 {

@@ -3,7 +3,7 @@
 ghost use Rattle.std.specs.Prelude.{◌≡◌, ◌+◌, ◌^◌, ◌<◌, ◌≤◌, ◌++◌, ℕ, List, None, length, vec_len, OnOk, IfOk, IfErr};
 ghost use Rattle.std.specs.Vec.{vec_capacity};
 ghost use Rattle.pgm_raster.specs.Progress.{reads};
-ghost use Rattle.pgm_raster.specs.Stage.{HasRoom, IsPart, IsPlace};
+ghost use Rattle.pgm_raster.specs.Stage.{HasSampleRoom, IsPart, IsRasterPlace};
 ghost use Rattle.pgm_raster.specs.declared.part.Part.TheVariants as part;
 
 use crate::bulk::{push_bytes, push_words};
@@ -17,15 +17,15 @@ pub(crate) fn bytes_after(
     at: u64,
     piece: &[u8],
 ) -> Result<(), RasterFault>
-    requires room { HasRoom limits heights.old }
-    requires place { IsPlace limits (vec_len heights.old) part.Bytes at }
+    requires room { HasSampleRoom limits heights.old }
+    requires place { IsRasterPlace limits (vec_len heights.old) part.Bytes at }
     ensures ok { OnOk result ((more : List ℕ) →
         reads limits heights.old.items part.Bytes at (piece.now ++ more)
         ≡ reads limits heights.new.items part.Bytes (at + length piece.now) more) }
     ensures err { IfErr result (λ fault. (more : List ℕ) →
         reads limits heights.old.items part.Bytes at (piece.now ++ more) ≡ Err fault) }
-    ensures valid { OnOk result (HasRoom limits heights.new) }
-    ensures place { OnOk result (IsPlace limits (vec_len heights.new) part.Bytes (at + length piece.now)) }
+    ensures valid { OnOk result (HasSampleRoom limits heights.new) }
+    ensures place { OnOk result (IsRasterPlace limits (vec_len heights.new) part.Bytes (at + length piece.now)) }
 {
     let wanted = limits.count - heights.len();
     let (front, back) = piece.split_at(piece.len().min(wanted));
@@ -46,16 +46,16 @@ pub(crate) fn words_after(
     at: u64,
     piece: &[u8],
 ) -> Result<Option<u8>, RasterFault>
-    requires room { HasRoom limits heights.old }
-    requires place { IsPlace limits (vec_len heights.old) (part.Words None) at }
+    requires room { HasSampleRoom limits heights.old }
+    requires place { IsRasterPlace limits (vec_len heights.old) (part.Words None) at }
     ensures ok { IfOk result (λ high. (more : List ℕ) →
         reads limits heights.old.items (part.Words None) at (piece.now ++ more)
         ≡ reads limits heights.new.items (part.Words high) (at + length piece.now) more) }
     ensures err { IfErr result (λ fault. (more : List ℕ) →
         reads limits heights.old.items (part.Words None) at (piece.now ++ more) ≡ Err fault) }
-    ensures valid { OnOk result (HasRoom limits heights.new) }
+    ensures valid { OnOk result (HasSampleRoom limits heights.new) }
     ensures part { IfOk result (λ high. IsPart limits (vec_len heights.new) (part.Words high)) }
-    ensures place { IfOk result (λ high. IsPlace limits (vec_len heights.new) (part.Words high) (at + length piece.now)) }
+    ensures place { IfOk result (λ high. IsRasterPlace limits (vec_len heights.new) (part.Words high) (at + length piece.now)) }
 {
     let wanted = limits.count - heights.len();
     let pairs = wanted.min(piece.len() / 2);
@@ -80,17 +80,17 @@ pub(crate) fn words_after_half(
     high: u8,
     piece: &[u8],
 ) -> Result<Option<u8>, RasterFault>
-    requires room { HasRoom limits heights.old }
+    requires room { HasSampleRoom limits heights.old }
     requires wanted { vec_len heights.old < limits.count }
-    requires place { IsPlace limits (vec_len heights.old) (part.Words (Some high)) at }
+    requires place { IsRasterPlace limits (vec_len heights.old) (part.Words (Some high)) at }
     ensures ok { IfOk result (λ half. (more : List ℕ) →
         reads limits heights.old.items (part.Words (Some high)) at (piece.now ++ more)
         ≡ reads limits heights.new.items (part.Words half) (at + length piece.now) more) }
     ensures err { IfErr result (λ fault. (more : List ℕ) →
         reads limits heights.old.items (part.Words (Some high)) at (piece.now ++ more) ≡ Err fault) }
-    ensures valid { OnOk result (HasRoom limits heights.new) }
+    ensures valid { OnOk result (HasSampleRoom limits heights.new) }
     ensures part { IfOk result (λ half. IsPart limits (vec_len heights.new) (part.Words half)) }
-    ensures place { IfOk result (λ half. IsPlace limits (vec_len heights.new) (part.Words half) (at + length piece.now)) }
+    ensures place { IfOk result (λ half. IsRasterPlace limits (vec_len heights.new) (part.Words half) (at + length piece.now)) }
 {
     let [low, rest @ ..] = piece else {
         return Ok(Some(high));

@@ -1,8 +1,8 @@
 //! The reader of rasters.
 
 ghost use Rattle.std.specs.Prelude.{◌≡◌, ◌+◌, ◌^◌, ◌<◌, ◌≤◌, [], ◌++◌, List, ℕ, Ok, Err, Some, None, IfSome, length, vec_len, OnOk, IfOk, IfErr};
-ghost use Rattle.pgm_raster.specs.Progress.{resume, raster_of, next_place, refusal_of, IsSettled, after, end_at, nothing_of, reads};
-ghost use Rattle.pgm_raster.specs.Stage.{HasRoom, IsPart, IsPlace};
+ghost use Rattle.pgm_raster.specs.Progress.{resume_raster, raster_of, next_place, refusal_of, RasterStaysRefused, after, end_at, nothing_of, reads};
+ghost use Rattle.pgm_raster.specs.Stage.{HasSampleRoom, IsPart, IsRasterPlace};
 ghost use Rattle.pgm_raster.specs.declared.plain.TheConstants.{MOST_BYTES};
 ghost use Rattle.pgm_raster.specs.declared.reader.TheConstants.{LAST_START};
 
@@ -38,15 +38,15 @@ pub struct RasterReader {
 }
 
 impl Model for RasterReader {
-    ghost use Rattle.pgm_raster.specs.Progress.{Progress, Reading};
+    ghost use Rattle.pgm_raster.specs.Progress.{RasterProgress, ReadingSamples};
 
-    ghost Value = { Progress };
+    ghost Value = { RasterProgress };
 
-    ghost use Rattle.pgm_raster.specs.Stage.{progress_of, IsReader};
+    ghost use Rattle.pgm_raster.specs.Stage.{raster_progress_of, IsRasterReader};
 
-    ghost view = { λ r. progress_of r.refused (Reading r.limits r.heights.items r.part r.at) };
+    ghost view = { λ r. raster_progress_of r.refused (ReadingSamples r.limits r.heights.items r.part r.at) };
 
-    ghost invariant = { λ r. IsReader r.refused r.limits r.heights r.part r.at };
+    ghost invariant = { λ r. IsRasterReader r.refused r.limits r.heights r.part r.at };
 }
 
 impl RasterReader {
@@ -63,7 +63,7 @@ impl RasterReader {
     ) -> Result<RasterReader, NoMemory>
         requires place_small { place ≤ LAST_START }
         requires count_small { count ≤ 2 ^ 23 }
-        ensures value { IfOk result (λ reader. (more : List ℕ) → resume reader more ≡ raster_of form count maxval place more) }
+        ensures value { IfOk result (λ reader. (more : List ℕ) → resume_raster reader more ≡ raster_of form count maxval place more) }
         ensures place { IfOk result (λ reader. next_place reader ≡ place) }
         ensures good { IfOk result (λ reader. refusal_of reader ≡ None) }
     {
@@ -96,14 +96,14 @@ impl RasterReader {
     /// A refusal comes with the piece that brings the byte that is refused.
     pub fn feed(&mut self, piece: &[u8]) -> Result<(), RasterFault>
         // What the bytes mean together is not changed by where they are cut.
-        ensures ok { OnOk result ((more : List ℕ) → resume self.old (piece.now ++ more) ≡ resume self.new more) }
+        ensures ok { OnOk result ((more : List ℕ) → resume_raster self.old (piece.now ++ more) ≡ resume_raster self.new more) }
         ensures place { OnOk result (next_place self.new ≡ next_place self.old + length piece.now) }
         ensures limit { OnOk result (next_place self.new ≤ MOST_BYTES) }
         // No byte so far is refused: what still comes decides.
-        ensures unsettled { OnOk result ((fault : RasterFault) → ¬ IsSettled self.new fault) }
+        ensures unsettled { OnOk result ((fault : RasterFault) → ¬ RasterStaysRefused self.new fault) }
         // The refusal is that of the file, whatever still comes.
-        ensures refusal { IfErr result (λ fault. (more : List ℕ) → resume self.old (piece.now ++ more) ≡ Err fault) }
-        ensures err { IfErr result (λ fault. IsSettled self.new fault) }
+        ensures refusal { IfErr result (λ fault. (more : List ℕ) → resume_raster self.old (piece.now ++ more) ≡ Err fault) }
+        ensures err { IfErr result (λ fault. RasterStaysRefused self.new fault) }
         ensures good { OnOk result (refusal_of self.new ≡ None) }
         ensures bad { IfErr result (λ fault. refusal_of self.new ≡ Some fault) }
         ensures sticks { IfSome (refusal_of self.old) (λ fault. result ≡ Err fault) }
@@ -126,8 +126,8 @@ impl RasterReader {
 
     /// Ends the bytes of the file, and answers the samples in file order.
     pub fn finish(self) -> Result<Vec<u16>, RasterFault>
-        ensures ok { IfOk result (λ heights. resume self [] ≡ Ok heights.items) }
-        ensures err { IfErr result (λ fault. resume self [] ≡ Err fault) }
+        ensures ok { IfOk result (λ heights. resume_raster self [] ≡ Ok heights.items) }
+        ensures err { IfErr result (λ fault. resume_raster self [] ≡ Err fault) }
     {
         if let Some(fault) = self.refused {
             return Err(fault);
@@ -144,17 +144,17 @@ fn part_after(
     at: u64,
     piece: &[u8],
 ) -> Result<Part, RasterFault>
-    requires room { HasRoom limits heights.old }
+    requires room { HasSampleRoom limits heights.old }
     requires part { IsPart limits (vec_len heights.old) part }
-    requires place { IsPlace limits (vec_len heights.old) part at }
+    requires place { IsRasterPlace limits (vec_len heights.old) part at }
     ensures ok { IfOk result (λ next. (more : List ℕ) →
         reads limits heights.old.items part at (piece.now ++ more)
         ≡ reads limits heights.new.items next (at + length piece.now) more) }
     ensures err { IfErr result (λ fault. (more : List ℕ) →
         reads limits heights.old.items part at (piece.now ++ more) ≡ Err fault) }
-    ensures valid { OnOk result (HasRoom limits heights.new) }
+    ensures valid { OnOk result (HasSampleRoom limits heights.new) }
     ensures part { IfOk result (λ next. IsPart limits (vec_len heights.new) next) }
-    ensures place { IfOk result (λ next. IsPlace limits (vec_len heights.new) next (at + length piece.now)) }
+    ensures place { IfOk result (λ next. IsRasterPlace limits (vec_len heights.new) next (at + length piece.now)) }
 {
     match part {
         Part::Bytes => {
@@ -171,7 +171,7 @@ fn part_after(
 
 /// Ends the sample that is not whole, if the end of the file can end it.
 fn end_part(heights: &mut Vec<u16>, limits: Limits, part: Part) -> Result<(), RasterFault>
-    requires room { HasRoom limits heights.old }
+    requires room { HasSampleRoom limits heights.old }
     requires part { IsPart limits (vec_len heights.old) part }
     ensures ok { OnOk result ((at : ℕ) → reads limits heights.old.items part at []
         ≡ after heights.new.items (end_at limits (length heights.new.items))) }
@@ -185,7 +185,7 @@ fn end_part(heights: &mut Vec<u16>, limits: Limits, part: Part) -> Result<(), Ra
 
 /// The answer if no byte comes any more.
 fn last_answer(heights: Vec<u16>, limits: Limits, part: Part) -> Result<Vec<u16>, RasterFault>
-    requires room { HasRoom limits heights }
+    requires room { HasSampleRoom limits heights }
     requires part { IsPart limits (vec_len heights) part }
     ensures ok { IfOk result (λ all. (at : ℕ) → reads limits heights.items part at [] ≡ Ok all.items) }
     ensures err { IfErr result (λ fault. (at : ℕ) → reads limits heights.items part at [] ≡ Err fault) }

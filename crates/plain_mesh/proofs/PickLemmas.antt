@@ -16,7 +16,7 @@ use Rattle.bintree_addr.specs.declared.rank.Rank.{Rank}
 use Rattle.bintree_addr.specs.RankOrder.{rank_cmp, ComesFirst}
 use Rattle.mesh_defs.proofs.ListLemmas.{one_if}
 use Rattle.mesh_defs.proofs.ListLemmas.{IsIn, IsIn-contains, Contains-in, some-count, count-some, count-cons}
-use Rattle.plain_mesh.specs.Ranks.{triangles_of, HavePriorities, positives_below, IsPicked, IsRanked}
+use Rattle.plain_mesh.specs.Ranks.{ranked_triangles, HavePriorities, positives_below, IsPicked, IsRanked}
 
 -- how often a stands in a list
 abbrev count_of : ℕ → List ℕ → ℕ
@@ -40,12 +40,12 @@ IsPicked-nothing priority ranks e = subst (λ (l : List Rank). IsPicked priority
 }
 
 -- one more at the end
-count-push : (a : ℕ) (ranks : List Rank) (r : Rank) → count_of a (triangles_of (ranks ++ r ∷ [])) ≡ count_of a (triangles_of ranks) + one_if (eqb r.tri a)
+count-push : (a : ℕ) (ranks : List Rank) (r : Rank) → count_of a (ranked_triangles (ranks ++ r ∷ [])) ≡ count_of a (ranked_triangles ranks) + one_if (eqb r.tri a)
 count-push a [] r = let c = count-cons (λ t. eqb t a) r.tri [] in omega arith
 count-push a (x ∷ ranks) r =
-    let c = count-cons (λ t. eqb t a) x.tri (triangles_of (ranks ++ r ∷ [])) in
-    let d = count-cons (λ t. eqb t a) x.tri (triangles_of ranks) in
-    let e : count_of a (triangles_of (ranks ++ r ∷ [])) ≡ count_of a (triangles_of ranks) + one_if (eqb r.tri a) = count-push a ranks r in
+    let c = count-cons (λ t. eqb t a) x.tri (ranked_triangles (ranks ++ r ∷ [])) in
+    let d = count-cons (λ t. eqb t a) x.tri (ranked_triangles ranks) in
+    let e : count_of a (ranked_triangles (ranks ++ r ∷ [])) ≡ count_of a (ranked_triangles ranks) + one_if (eqb r.tri a) = count-push a ranks r in
     omega arith
 
 -- the next address, if it has a positive priority
@@ -61,9 +61,9 @@ IsPicked-push priority b ranks r p low is value some = record {
       let e : r.tri ≡ a = omega arith in
       let one : one_if (eqb r.tri a) ≡ 1 = ap one_if (eq-eqb r.tri a e) in
       ⊎_elim
-      (λ (zero_count : count_of a (triangles_of ranks) < 1). omega arith)
-      (λ (counted : 1 ≤ count_of a (triangles_of ranks)). let o = (p.only a counted).1 in absurd (omega arith))
-      (cases_lt (count_of a (triangles_of ranks)) 1))
+      (λ (zero_count : count_of a (ranked_triangles ranks) < 1). omega arith)
+      (λ (counted : 1 ≤ count_of a (ranked_triangles ranks)). let o = (p.only a counted).1 in absurd (omega arith))
+      (cases_lt (count_of a (ranked_triangles ranks)) 1))
       (cases_lt a b);
   only = λ a counted.
       let c = count-push a ranks r in ⊎_elim
@@ -143,11 +143,11 @@ Compares = (r s : Rank) → MatchOrdering (rank_cmp r s) (ComesFirst r s) (r ≡
 
 -- sorted, with no triangle twice: each ranks before all that follow
 ordered-sorted : (priority : ℕ → ℕ) (xs : List Rank) → Compares → IsSorted rank_cmp xs → HavePriorities priority xs →
-    ((a : ℕ) → count_of a (triangles_of xs) ≤ 1) → AllPairs (RanksBefore priority) (triangles_of xs)
+    ((a : ℕ) → count_of a (ranked_triangles xs) ≤ 1) → AllPairs (RanksBefore priority) (ranked_triangles xs)
 ordered-sorted priority [] cases up valued once = λ i j d h k. absurd (omega arith)
 ordered-sorted priority (x ∷ []) cases up valued once = λ i j d h k. absurd (omega arith)
 ordered-sorted priority (x ∷ (y ∷ zs)) cases up valued once =
-    AllPairs-cons (RanksBefore priority) x.tri (triangles_of (y ∷ zs))
+    AllPairs-cons (RanksBefore priority) x.tri (ranked_triangles (y ∷ zs))
     (follow (ordered-sorted priority (y ∷ zs) cases tail_up tail_valued tail_once))
     (ordered-sorted priority (y ∷ zs) cases tail_up tail_valued tail_once)
   where
@@ -159,14 +159,14 @@ ordered-sorted priority (x ∷ (y ∷ zs)) cases up valued once =
         let e : suc k + 1 ≡ suc (k + 1) = omega arith in
         subst (λ z. is_lt (rank_cmp (get_or (x ∷ (y ∷ zs)) z d) (get_or (y ∷ zs) k d)) ≡ false) e (up (suc k) d (omega arith) (omega arith))
 
-    tail_once : (a : ℕ) → count_of a (triangles_of (y ∷ zs)) ≤ 1
+    tail_once : (a : ℕ) → count_of a (ranked_triangles (y ∷ zs)) ≤ 1
     tail_once a =
-        let c = count-cons (λ t. eqb t a) x.tri (triangles_of (y ∷ zs)) in let o = once a in omega arith
+        let c = count-cons (λ t. eqb t a) x.tri (ranked_triangles (y ∷ zs)) in let o = once a in omega arith
 
     differ : x.tri ≡ y.tri → ⊥
     differ e =
-        let c = count-cons (λ t. eqb t y.tri) x.tri (triangles_of (y ∷ zs)) in
-        let d = count-cons (λ t. eqb t y.tri) y.tri (triangles_of zs) in
+        let c = count-cons (λ t. eqb t y.tri) x.tri (ranked_triangles (y ∷ zs)) in
+        let d = count-cons (λ t. eqb t y.tri) y.tri (ranked_triangles zs) in
         let one_x : one_if (eqb x.tri y.tri) ≡ 1 = ap one_if (eq-eqb x.tri y.tri e) in
         let one_y : one_if (eqb y.tri y.tri) ≡ 1 = ap one_if (eq-eqb y.tri y.tri refl) in
         let o = once y.tri in omega arith
@@ -179,10 +179,10 @@ ordered-sorted priority (x ∷ (y ∷ zs)) cases up valued once =
         (All-head (λ (r : Rank). r.p ≡ priority r.tri) y zs tail_valued) before)
         (not_less (rank_cmp y x) (ComesFirst y x) (y ≡ x) (ComesFirst x y) (cases y x) (up 0 x (omega arith) (omega arith)))
 
-    follow : AllPairs (RanksBefore priority) (triangles_of (y ∷ zs)) → All (RanksBefore priority x.tri) (triangles_of (y ∷ zs))
+    follow : AllPairs (RanksBefore priority) (ranked_triangles (y ∷ zs)) → All (RanksBefore priority x.tri) (ranked_triangles (y ∷ zs))
     follow rest zero d h = first
     follow rest (suc k) d h =
-        before-trans priority x.tri y.tri (get_or (triangles_of zs) k d) first (rest zero (suc k) d (omega arith) (omega arith))
+        before-trans priority x.tri y.tri (get_or (ranked_triangles zs) k d) first (rest zero (suc k) d (omega arith) (omega arith))
 
 -- the ranking
 
@@ -196,13 +196,13 @@ IsRanked-sorted n priority ranks sorted cases level p moved up = record {
     ordered = ordered-sorted priority sorted cases up valued once;
     members = λ a. (
       (λ has.
-          let only = p.only a (let c = same a in let k = count-some (λ t. eqb t a) a (triangles_of sorted) (IsIn-contains a (triangles_of sorted) has) (eq-eqb a a refl) in omega arith) in
+          let only = p.only a (let c = same a in let k = count-some (λ t. eqb t a) a (ranked_triangles sorted) (IsIn-contains a (ranked_triangles sorted) has) (eq-eqb a a refl) in omega arith) in
           (record { low = only.0; coarse = (level a (2 * n) only.0).1 only.1 }, only.2)),
       (λ is.
           let below = (level a (2 * n) is.0.low).0 is.0.coarse in
           let one = p.once a is.0.low below is.1 in
-          let found = some-count (λ t. eqb t a) (triangles_of sorted) (let c = same a in omega arith) in
-          Contains-in a (triangles_of sorted) (subst (λ z. IsIn z (triangles_of sorted)) (eqb-true found.0 a found.2) found.1)),
+          let found = some-count (λ t. eqb t a) (ranked_triangles sorted) (let c = same a in omega arith) in
+          Contains-in a (ranked_triangles sorted) (subst (λ z. IsIn z (ranked_triangles sorted)) (eqb-true found.0 a found.2) found.1)),
     );
   };
 }
@@ -210,12 +210,12 @@ IsRanked-sorted n priority ranks sorted cases level p moved up = record {
     valued : HavePriorities priority sorted
     valued = All-permutation (λ (r : Rank). r.p ≡ priority r.tri) ranks sorted moved p.valued
 
-    same : (a : ℕ) → count_of a (triangles_of sorted) ≡ count_of a (triangles_of ranks)
-    same a = sum_by-IsPermutation (λ t. cond (eqb t a) 1 0) (triangles_of ranks) (triangles_of sorted) (IsPermutation-map (λ (r : Rank). r.tri) ranks sorted moved)
+    same : (a : ℕ) → count_of a (ranked_triangles sorted) ≡ count_of a (ranked_triangles ranks)
+    same a = sum_by-IsPermutation (λ t. cond (eqb t a) 1 0) (ranked_triangles ranks) (ranked_triangles sorted) (IsPermutation-map (λ (r : Rank). r.tri) ranks sorted moved)
 
-    once : (a : ℕ) → count_of a (triangles_of sorted) ≤ 1
+    once : (a : ℕ) → count_of a (ranked_triangles sorted) ≤ 1
     once a = let e = same a in ⊎_elim
-        (λ (none : count_of a (triangles_of ranks) < 1). omega arith)
-        (λ (some : 1 ≤ count_of a (triangles_of ranks)).
+        (λ (none : count_of a (ranked_triangles ranks) < 1). omega arith)
+        (λ (some : 1 ≤ count_of a (ranked_triangles ranks)).
         let only = p.only a some in let o = p.once a only.0 only.1 only.2 in omega arith)
-        (cases_lt (count_of a (triangles_of ranks)) 1)
+        (cases_lt (count_of a (ranked_triangles ranks)) 1)

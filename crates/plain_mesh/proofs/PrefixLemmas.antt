@@ -10,7 +10,7 @@ use Rattle.closure_laws.proofs.RankLemmas.{prefix-next, prefix-longer}
 use Rattle.bintree_addr.specs.declared.blocked.Blocked.{Blocked}
 use Rattle.bintree_addr.specs.declared.rank.Rank.{Rank}
 use Rattle.mesh_defs.specs.GridSet.{IsForced}
-use Rattle.plain_mesh.specs.Ranks.{triangles_of}
+use Rattle.plain_mesh.specs.Ranks.{ranked_triangles}
 use Rattle.plain_mesh.specs.Stop.{IsOver, IsStop}
 
 -- closures of prefixes
@@ -54,25 +54,25 @@ IsBlockedBy-over n budget xs i t need before within e p o = record {
 -- along a list of ranks
 
 -- the triangle at a place
-tri-at : (ranks : List Rank) (i : ℕ) (d : Rank) → i < length ranks → (get_or ranks i d).tri ≡ get_or (triangles_of ranks) i 0
+tri-at : (ranks : List Rank) (i : ℕ) (d : Rank) → i < length ranks → (get_or ranks i d).tri ≡ get_or (ranked_triangles ranks) i 0
 tri-at [] i d h = absurd (omega arith)
 tri-at (x ∷ ranks) zero d h = refl
 tri-at (x ∷ ranks) (suc i) d h = tri-at ranks i d (omega arith)
 
 -- of what is read there
-tri-read : (ranks : List Rank) (i : ℕ) (r : Rank) → i < length ranks → r ≡ get_or ranks i r → r.tri ≡ get_or (triangles_of ranks) i 0
+tri-read : (ranks : List Rank) (i : ℕ) (r : Rank) → i < length ranks → r ≡ get_or ranks i r → r.tri ≡ get_or (ranked_triangles ranks) i 0
 tri-read ranks i r h e = ap (λ (z : Rank). z.tri) e ∙ tri-at ranks i r h
 
 -- so many triangles as ranks
-length-triangles : (ranks : List Rank) → length (triangles_of ranks) ≡ length ranks
+length-triangles : (ranks : List Rank) → length (ranked_triangles ranks) ≡ length ranks
 length-triangles ranks = length-map ranks (λ (z : Rank). z.tri)
 
 -- a forced split takes the closure to that of one entry more
 pub closure-forced : (n m : ℕ) (ranks : List Rank) (i : ℕ) (r : Rank) (before after : List ℕ) → m ≡ n → i < length ranks → r ≡ get_or ranks i r →
-    IsPrefixClosure n (triangles_of ranks) i (among before) → IsForced m before r.tri after → IsPrefixClosure n (triangles_of ranks) (i + 1) (among after)
+    IsPrefixClosure n (ranked_triangles ranks) i (among before) → IsForced m before r.tri after → IsPrefixClosure n (ranked_triangles ranks) (i + 1) (among after)
 closure-forced n m ranks i r before after grid h e p f =
     let length_same = length-triangles ranks in
-    closure-more n (triangles_of ranks) i r.tri (among before) (among after) (omega arith) (tri-read ranks i r h e) p
+    closure-more n (ranked_triangles ranks) i r.tri (among before) (among after) (omega arith) (tri-read ranks i r h e) p
     (subst (λ k. IsLeastClosed k (with_triangle (among before) r.tri) (among after)) grid f.least)
 
 -- what blocks with this need
@@ -81,22 +81,22 @@ blocking r need = record { tri = r.tri; need = need }
 
 -- an entry that does not fit is where it stops
 pub IsStop-over : (n m budget : ℕ) (ranks : List Rank) (i : ℕ) (r : Rank) (need : ℕ) (before : List ℕ) → m ≡ n → i < length ranks → r ≡ get_or ranks i r →
-    IsPrefixClosure n (triangles_of ranks) i (among before) → length (leaves_of n (among before)) ≤ budget → IsOver m budget before r.tri need →
+    IsPrefixClosure n (ranked_triangles ranks) i (among before) → length (leaves_of n (among before)) ≤ budget → IsOver m budget before r.tri need →
     IsStop n budget ranks before r.p (Some record { tri = r.tri; need = need })
 IsStop-over n m budget ranks i r need before grid h e p fits o = record {
   chosen = i;
-  closure = IsRankClosure-over n budget (triangles_of ranks) i r.tri need before within place p fits over;
+  closure = IsRankClosure-over n budget (ranked_triangles ranks) i r.tri need before within place p fits over;
   whole = λ none. absurd (none-some (blocking r need) (sym none));
   next = λ b some. subst
-      (λ (z : Blocked). (x : Rank) × (slice_get ranks i ≡ Some x) × (x.tri ≡ z.tri) × (x.p ≡ r.p) × IsBlockedBy n (triangles_of ranks) i z.tri z.need)
+      (λ (z : Blocked). (x : Rank) × (slice_get ranks i ≡ Some x) × (x.tri ≡ z.tri) × (x.p ≡ r.p) × IsBlockedBy n (ranked_triangles ranks) i z.tri z.need)
       (same_Some (blocking r need) b some)
-      (r, slice_get_read ranks (length ranks) i r refl h e, refl, refl, IsBlockedBy-over n budget (triangles_of ranks) i r.tri need before within place p over);
+      (r, slice_get_read ranks (length ranks) i r refl h e, refl, refl, IsBlockedBy-over n budget (ranked_triangles ranks) i r.tri need before within place p over);
 }
   where
-    within : i < length (triangles_of ranks)
+    within : i < length (ranked_triangles ranks)
     within = let length_same = length-triangles ranks in omega arith
 
-    place : r.tri ≡ get_or (triangles_of ranks) i 0
+    place : r.tri ≡ get_or (ranked_triangles ranks) i 0
     place = tri-read ranks i r h e
 
     over : IsOver n budget before r.tri need

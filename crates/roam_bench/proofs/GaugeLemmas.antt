@@ -7,7 +7,7 @@ use Rattle.mesh_defs.specs.View.{mark_of}
 use Rattle.mesh_defs.specs.Priority.{ratio_of, priority_of}
 use Rattle.mesh_defs.specs.State.{move_length}
 use Rattle.frame_steps.specs.Deferred.{IsEntry}
-use Rattle.frame_steps.specs.Stamps.{Stamp, IsBetween, is_due, stamp_now, StampsHold}
+use Rattle.frame_steps.specs.Stamps.{Stamp, IsInStamp, is_due, stamp_now, StampsHold}
 use Rattle.deferred_loop.specs.Seen.{SeenMesh}
 use Rattle.deferred_loop.specs.Promise.{AreStampsGood}
 use Rattle.mesh_defs.specs.ClosedSet.{among}
@@ -25,7 +25,7 @@ priority_of-seen n heights camera a = refl
 pub between-near : (n : ℕ) (heights : List ℕ) (from to : CameraAt) (odometer a : ℕ) →
     far_from n heights to a ≤ far_from n heights from a + far_from n heights from a / 8 →
     far_from n heights from a ≤ far_from n heights to a + far_from n heights from a / 8 →
-    IsBetween (stamp_now (readings_from n heights from) odometer a) (priority_of n heights (view_from to 30 []) a)
+    IsInStamp (stamp_now (readings_from n heights from) odometer a) (priority_of n heights (view_from to 30 []) a)
 between-near n heights from to odometer a far near =
     let seen = priority_of-seen n heights to a in
     let e = thickness_of n heights a in
@@ -58,5 +58,5 @@ stamps-after n heights from to odometer later before after far near way none goo
     let there = far a in
     let back = near a in
     let both = move_length-back from to in
-    subst (λ (z : Stamp). IsBetween z ((told_from n heights to).of a)) (sym same)
+    subst (λ (z : Stamp). IsInStamp z ((told_from n heights to).of a)) (sym same)
     (between-near n heights from to odometer a (omega (arith, way, within, there)) (omega (arith, way, within, back, both)))

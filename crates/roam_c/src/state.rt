@@ -3,7 +3,7 @@
 ghost use Rattle.std.specs.Prelude.{⊤};
 ghost use Rattle.roam_embed.specs.Calls.{IsCameraMoved, IsPlaneAdded, ArePlanesCleared, IsBudgetPut, IsHeightPut, IsAreaRaised};
 ghost use Rattle.roam_embed.specs.Looking.{ArePlanesPut};
-ghost use Rattle.roam_embed.specs.Renewal.{IsRenewed};
+ghost use Rattle.roam_embed.specs.Renewal.{IsEngineRenewed};
 ghost use Rattle.roam_c.specs.Handle.{OnFull, OnEmpty};
 
 use crate::handle::{Handle, put, take};
@@ -92,7 +92,7 @@ pub extern "C" fn roam_look(alloc: Global, h: &mut Handle, planes: &[PlaneNumber
 #[unsafe(no_mangle)]
 pub extern "C" fn roam_renew(alloc: Global, h: &mut Handle) -> i32
     ensures full { OnFull h.old.value h.new.value result (λ was now answer.
-        IsRenewed was now answer) }
+        IsEngineRenewed was now answer) }
     ensures empty { OnEmpty h.old.value h.new.value result ⊤ }
 {
     match take(h, alloc) {

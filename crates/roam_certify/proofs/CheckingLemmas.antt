@@ -11,7 +11,7 @@ use Rattle.closure_laws.proofs.ForcingLemmas.{with-cases, with-old, with-new}
 use Rattle.certificate_laws.specs.declared.reason.Reason.{Reason}
 use Rattle.certificate_laws.specs.declared.reason.Kind.{Kind}
 use Rattle.certificate_laws.specs.declared.reason.Kind.TheVariants.{Want, Parent, Mate}
-use Rattle.certificate_laws.specs.Certificate.{triangles_of, named_in, IsWhy, IsReason, AreReasons, IsFirstBad}
+use Rattle.certificate_laws.specs.Certificate.{reason_triangles, named_in, IsWhy, IsReason, AreReasons, IsFirstBad}
 use Rattle.certificate_laws.proofs.VerdictLemmas.{parent-why, mate-why, no_mate-why, reason-same, reasons-splittable}
 use Rattle.certificate_laws.proofs.SoundLemmas.{earlier_cases, earlier_old, earlier_new, reasons_next}
 
@@ -54,13 +54,13 @@ module _ (n : ℕ) (priority : ℕ → ℕ) (worst : ℕ) (earlier : ℕ → Boo
 pub named-next : (before : List Reason) (r : Reason) (a : ℕ) → named_in (before ++ r ∷ []) a ≡ with_triangle (named_in before) r.triangle a
 named-next before r a = same_tests (named_in (before ++ r ∷ []) a) (with_triangle (named_in before) r.triangle a)
     (λ h. ⊎_elim
-    (λ old. with-old (named_in before) r.triangle a (among-in a (triangles_of before) old))
+    (λ old. with-old (named_in before) r.triangle a (among-in a (reason_triangles before) old))
     (λ same. subst (λ z. IsTrue (with_triangle (named_in before) r.triangle z)) same (with-new (named_in before) r.triangle))
-    (earlier_cases before r a (IsIn-among a (triangles_of (before ++ r ∷ [])) h)))
+    (earlier_cases before r a (IsIn-among a (reason_triangles (before ++ r ∷ [])) h)))
     (λ h. ⊎_elim
-    (λ old. among-in a (triangles_of (before ++ r ∷ [])) (earlier_old before r a (IsIn-among a (triangles_of before) old)))
+    (λ old. among-in a (reason_triangles (before ++ r ∷ [])) (earlier_old before r a (IsIn-among a (reason_triangles before) old)))
     (λ same. subst (λ z. IsTrue (named_in (before ++ r ∷ []) z)) same
-    (among-in r.triangle (triangles_of (before ++ r ∷ [])) (earlier_new before r)))
+    (among-in r.triangle (reason_triangles (before ++ r ∷ [])) (earlier_new before r)))
     (with-cases (named_in before) r.triangle a h))
 
 -- sets that agree still do with one triangle more
@@ -74,7 +74,7 @@ take-next reasons k r within is = take_more reasons k r within ∙ ap (λ x. tak
 -- the triangles of good reasons may be split
 pub named-splittable : (n : ℕ) (priority : ℕ → ℕ) (worst : ℕ) (reasons : List Reason) (a : ℕ) → AreReasons n priority worst [] reasons →
     IsTrue (named_in reasons a) → IsSplittable n a
-named-splittable n priority worst reasons a are h = reasons-splittable n priority worst [] reasons are a (IsIn-among a (triangles_of reasons) h)
+named-splittable n priority worst reasons a are h = reasons-splittable n priority worst [] reasons are a (IsIn-among a (reason_triangles reasons) h)
 
 module _ (n : ℕ) (priority : ℕ → ℕ) (worst : ℕ) (reasons : List Reason) (k : ℕ) (r : Reason) (within : k < length reasons) (is : r ≡ get_or reasons k r)
     (earlier : ℕ → Bool) (same : (a : ℕ) → earlier a ≡ named_in (take k reasons) a) (good : AreReasons n priority worst [] (take k reasons)) where

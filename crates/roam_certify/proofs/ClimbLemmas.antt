@@ -16,15 +16,15 @@ use Rattle.std.specs.List.{IsDistinct}
 use Rattle.certificate_laws.proofs.DistinctLemmas.{distinct-none, distinct-cons, distinct-head, distinct-tail}
 use Rattle.closure_laws.proofs.SetListLemmas.{length-distinct}
 use Rattle.least_laws.specs.Sweep.{IsParentMarked}
-use Rattle.roam_certify.specs.Climb.{IsEntered, IsClimbed, IsCounted, AreLeavesOf}
+use Rattle.roam_certify.specs.Climb.{AreParentsFlagged, IsClimbed, IsCountedBelow, AreLeavesOf}
 use Rattle.certificate_laws.proofs.CutLemmas.{ancestor_of, ancestor-splittable, ancestor-parent, conforming-cut, cut-conforming}
 
 -- ancestors
 
 module _ (n : ℕ) (triangles : List ℕ) (addresses : All (IsAddress n) triangles) where
   -- one entry more
-  pub entered-next : (first : List ℕ) (has next : ℕ → Bool) (e : ℕ) → IsIn e triangles → IsEntered triangles first has → IsParentMarked e has next →
-      IsEntered triangles (first ++ e ∷ []) next
+  pub entered-next : (first : List ℕ) (has next : ℕ → Bool) (e : ℕ) → IsIn e triangles → AreParentsFlagged triangles first has → IsParentMarked e has next →
+      AreParentsFlagged triangles (first ++ e ∷ []) next
   entered-next first has next e listed is m = record {
     within = λ a h. ⊎_elim
         (λ old. is.within a old)
@@ -44,7 +44,7 @@ module _ (n : ℕ) (triangles : List ℕ) (addresses : All (IsAddress n) triangl
       last_in (x ∷ xs) d (inr i) = ⊎_elim (λ h. inl (inr h)) (λ same. inr same) (last_in xs d i)
 
   -- once all entries are there, no address was visited
-  pub climbed-first : (has : ℕ → Bool) (k : ℕ) → IsEntered triangles triangles has → ((a : ℕ) → IsSplittable n a → a < k) → IsClimbed triangles has k
+  pub climbed-first : (has : ℕ → Bool) (k : ℕ) → AreParentsFlagged triangles triangles has → ((a : ℕ) → IsSplittable n a → a < k) → IsClimbed triangles has k
   climbed-first has k is all = record {
     within = is.within;
     holds = is.holds;
@@ -89,7 +89,7 @@ module _ (n : ℕ) (triangles : List ℕ) (addresses : All (IsAddress n) triangl
 -- counting
 
 -- at first nothing is counted
-pub counted-first : (n : ℕ) (has : ℕ → Bool) → ((a : ℕ) → IsTrue (has a) → 2 ≤ a) → IsCounted n has 2 0
+pub counted-first : (n : ℕ) (has : ℕ → Bool) → ((a : ℕ) → IsTrue (has a) → 2 ≤ a) → IsCountedBelow n has 2 0
 counted-first n has low = record {
   members = [];
   once = distinct-none;
@@ -100,8 +100,8 @@ counted-first n has low = record {
 }
 
 -- one member more, whose mate is there
-pub counted-more : (n : ℕ) (has : ℕ → Bool) (k count : ℕ) → IsCounted n has k count → IsTrue (has k) → ((b : ℕ) → IsMate n k b → IsTrue (has b)) →
-    IsCounted n has (k + 1) (count + 1)
+pub counted-more : (n : ℕ) (has : ℕ → Bool) (k count : ℕ) → IsCountedBelow n has k count → IsTrue (has k) → ((b : ℕ) → IsMate n k b → IsTrue (has b)) →
+    IsCountedBelow n has (k + 1) (count + 1)
 counted-more n has k count is member mate = record {
   members = k ∷ is.members;
   once = distinct-cons k is.members (λ h. let r = (is.same k).0 h in let less = r.0 in absurd (omega arith)) is.once;
@@ -124,7 +124,7 @@ counted-more n has k count is member mate = record {
 }
 
 -- an address that is no member
-pub counted-skip : (n : ℕ) (has : ℕ → Bool) (k count : ℕ) → IsCounted n has k count → has k ≡ false → IsCounted n has (k + 1) count
+pub counted-skip : (n : ℕ) (has : ℕ → Bool) (k count : ℕ) → IsCountedBelow n has k count → has k ≡ false → IsCountedBelow n has (k + 1) count
 counted-skip n has k count is none = record {
   members = is.members;
   once = is.once;
@@ -178,7 +178,7 @@ distinct-before (z ∷ zs) x ys d h = ⊎_elim
 
 -- flags of the ancestors, all counted, and entries that are leaves: conforming exactly where the number fits
 pub conforming-counted : (n : ℕ) (triangles : List ℕ) (has : ℕ → Bool) (k count : ℕ) → All (IsAddress n) triangles → ((a : ℕ) → has a ≡ ancestors_of triangles a) →
-    ((a : ℕ) → IsSplittable n a → a < k) → IsCounted n has k count → AreLeavesOf has triangles → length triangles ≡ count + 2 → IsConforming n triangles
+    ((a : ℕ) → IsSplittable n a → a < k) → IsCountedBelow n has k count → AreLeavesOf has triangles → length triangles ≡ count + 2 → IsConforming n triangles
 conforming-counted n triangles has k count addresses same below counted leaves fits = conforming-cut n triangles record {
   addresses = addresses;
   distinct = leaves.distinct;
@@ -212,7 +212,7 @@ module _ (n : ℕ) (triangles : List ℕ) (has : ℕ → Bool) (same : (a : ℕ)
       }
 
   -- and their number fits
-  pub conforming-fits : (k count : ℕ) → ((a : ℕ) → IsSplittable n a → a < k) → IsCounted n has k count → length triangles ≡ count + 2
+  pub conforming-fits : (k count : ℕ) → ((a : ℕ) → IsSplittable n a → a < k) → IsCountedBelow n has k count → length triangles ≡ count + 2
   conforming-fits k count below is =
       let cut = cut-conforming n triangles conforming in
       let fewer = length-distinct is.members cut.members is.once (λ a h. (cut.same a).1 (sym (same a) ∙ ((is.same a).0 h).1)) in
@@ -248,9 +248,9 @@ module _ (triangles : List ℕ) (k x : ℕ) (within : k < length triangles) (is 
       in_left (y ∷ ys) zs (inr i) = inr (in_left ys zs i)
 
   -- what was entered
-  pub entered-step : (n : ℕ) (has next : ℕ → Bool) → All (IsAddress n) triangles → IsEntered triangles (take k triangles) has → IsParentMarked x has next →
-      IsEntered triangles (take (k + 1) triangles) next
-  entered-step n has next addresses entered m = subst (λ l. IsEntered triangles l next) (sym take-entry)
+  pub entered-step : (n : ℕ) (has next : ℕ → Bool) → All (IsAddress n) triangles → AreParentsFlagged triangles (take k triangles) has → IsParentMarked x has next →
+      AreParentsFlagged triangles (take (k + 1) triangles) next
+  entered-step n has next addresses entered m = subst (λ l. AreParentsFlagged triangles l next) (sym take-entry)
       (entered-next n triangles addresses (take k triangles) has next x entry-in entered m)
 
   -- what was seen

@@ -7,41 +7,41 @@ use Rattle.mesh_defs.proofs.ListLemmas.{IsIn, IsIn-among, among-in}
 use Rattle.least_laws.specs.Sweep.{is_flagged}
 use Rattle.certificate_laws.specs.declared.reason.Reason.{Reason}
 use Rattle.certificate_laws.specs.declared.reason.Kind.{Kind}
-use Rattle.certificate_laws.specs.Certificate.{triangles_of, named_in, IsWhy, AreReasons, AreAllReasons}
-use Rattle.roam_certify.specs.Making.{IsListed, IsPushed, left_out, listed, HasCauses, IsGrown, AreWanted, IsQueue}
+use Rattle.certificate_laws.specs.Certificate.{reason_triangles, named_in, IsWhy, AreReasons, AreAllReasons}
+use Rattle.roam_certify.specs.Making.{AreReasonsListed, IsPushed, left_out, listed, HasCauses, AreGrownReasons, AreWanted, IsQueue}
 use Rattle.certificate_laws.proofs.SoundLemmas.{earlier_cases, earlier_new, reasons_next}
 use Rattle.roam_certify.proofs.CheckingLemmas.{named-next, with-same, take-next}
 
 -- growing
 
 -- what is listed stays listed
-pub named-grown : (before after : List Reason) (a : ℕ) → IsGrown before after → IsTrue (named_in before a) → IsTrue (named_in after a)
+pub named-grown : (before after : List Reason) (a : ℕ) → AreGrownReasons before after → IsTrue (named_in before a) → IsTrue (named_in after a)
 named-grown before after a g h = subst (λ l. IsTrue (named_in l a)) (sym g.grown)
-    (among-in a (triangles_of (before ++ g.extra)) (keep before (IsIn-among a (triangles_of before) h)))
+    (among-in a (reason_triangles (before ++ g.extra)) (keep before (IsIn-among a (reason_triangles before) h)))
   where
-    keep : (xs : List Reason) → IsIn a (triangles_of xs) → IsIn a (triangles_of (xs ++ g.extra))
+    keep : (xs : List Reason) → IsIn a (reason_triangles xs) → IsIn a (reason_triangles (xs ++ g.extra))
     keep [] i = absurd i
     keep (x ∷ xs) (inl e) = inl e
     keep (x ∷ xs) (inr i) = inr (keep xs i)
 
 -- a list is no shorter
-pub length-grown : (before after : List Reason) → IsGrown before after → length before ≤ length after
+pub length-grown : (before after : List Reason) → AreGrownReasons before after → length before ≤ length after
 length-grown before after g = let e = ap (λ (l : List Reason). length l) g.grown in omega (arith, length-append before g.extra)
 
 -- growing twice
-pub grown-trans : (some more most : List Reason) → IsGrown some more → IsGrown more most → IsGrown some most
+pub grown-trans : (some more most : List Reason) → AreGrownReasons some more → AreGrownReasons more most → AreGrownReasons some most
 grown-trans some more most g h = record { extra = g.extra ++ h.extra; grown = h.grown ∙ ap (λ l. l ++ h.extra) g.grown ∙ append_assoc some g.extra h.extra }
 
 -- and not at all
-pub grown-same : (some more : List Reason) → more ≡ some → IsGrown some more
+pub grown-same : (some more : List Reason) → more ≡ some → AreGrownReasons some more
 grown-same some more same = record { extra = []; grown = same ∙ sym (append-nil some) }
 
 -- its first ones stay
-pub take-grown : (before after : List Reason) (k : ℕ) → IsGrown before after → k ≤ length before → take k after ≡ take k before
+pub take-grown : (before after : List Reason) (k : ℕ) → AreGrownReasons before after → k ≤ length before → take k after ≡ take k before
 take-grown before after k g le = ap (λ l. take k l) g.grown ∙ take-append-le k before g.extra le
 
 -- causes stay
-pub causes-grown : (n : ℕ) (before after : List Reason) (b : ℕ) → IsGrown before after → HasCauses n before b → HasCauses n after b
+pub causes-grown : (n : ℕ) (before after : List Reason) (b : ℕ) → AreGrownReasons before after → HasCauses n before b → HasCauses n after b
 causes-grown n before after b g c = record {
   parent = λ big. named-grown before after (b / 2) g (c.parent big);
   mate = λ m mate. named-grown before after m g (c.mate m mate);
@@ -51,7 +51,7 @@ causes-grown n before after b g c = record {
 
 module _ (n limit : ℕ) (kind : Kind) (t : ℕ) (flags : List Bool) (reasons : List Reason) where
   -- the list grows
-  pub pushed-grown : (flags_after : List Bool) (after : List Reason) → IsPushed limit kind t flags reasons flags_after after → IsGrown reasons after
+  pub pushed-grown : (flags_after : List Bool) (after : List Reason) → IsPushed limit kind t flags reasons flags_after after → AreGrownReasons reasons after
   pushed-grown flags_after after (left_out why same_flags same) = grown-same reasons after same
   pushed-grown flags_after after (listed new less room added grown) = record { extra = (record { kind = kind; triangle = t }) ∷ []; grown = grown }
 
@@ -76,11 +76,11 @@ module _ (n limit : ℕ) (kind : Kind) (t : ℕ) (flags : List Bool) (reasons : 
   pushed-listed flags_after after same (left_out (inr full) same_flags kept) less = absurd (let e = ap (λ (l : List Reason). length l) kept in omega arith)
   pushed-listed flags_after after same (listed new room_left room added grown) less =
       subst (λ l. IsTrue (named_in l t)) (sym grown)
-      (among-in t (triangles_of (reasons ++ (record { kind = kind; triangle = t }) ∷ [])) (earlier_new reasons (record { kind = kind; triangle = t })))
+      (among-in t (reason_triangles (reasons ++ (record { kind = kind; triangle = t }) ∷ [])) (earlier_new reasons (record { kind = kind; triangle = t })))
 
   -- so the list is kept
-  pub pushed-list : (flags_after : List Bool) (after : List Reason) → IsListed n limit flags reasons → IsSplittable n t →
-      (pushed : IsPushed limit kind t flags reasons flags_after after) → IsListed n limit flags_after after
+  pub pushed-list : (flags_after : List Bool) (after : List Reason) → AreReasonsListed n limit flags reasons → IsSplittable n t →
+      (pushed : IsPushed limit kind t flags reasons flags_after after) → AreReasonsListed n limit flags_after after
   pushed-list flags_after after m splittable pushed = record {
     room = pushed-room flags_after after pushed ∙ m.room;
     same = pushed-same flags_after after m.same pushed;
@@ -91,9 +91,9 @@ module _ (n limit : ℕ) (kind : Kind) (t : ℕ) (flags : List Bool) (reasons : 
       by_case : (flags_after : List Bool) (after : List Reason) → IsPushed limit kind t flags reasons flags_after after → (a : ℕ) → IsTrue (named_in after a) → IsSplittable n a
       by_case flags_after after (left_out why same_flags kept) a h = m.splittable a (subst (λ l. IsTrue (named_in l a)) kept h)
       by_case flags_after after (listed new less room added grown) a h = ⊎_elim
-          (λ old. m.splittable a (among-in a (triangles_of reasons) old))
+          (λ old. m.splittable a (among-in a (reason_triangles reasons) old))
           (λ same. subst (λ z. IsSplittable n z) same splittable)
-          (earlier_cases reasons (record { kind = kind; triangle = t }) a (IsIn-among a (triangles_of (reasons ++ (record { kind = kind; triangle = t }) ∷ []))
+          (earlier_cases reasons (record { kind = kind; triangle = t }) a (IsIn-among a (reason_triangles (reasons ++ (record { kind = kind; triangle = t }) ∷ []))
           (subst (λ l. IsTrue (named_in l a)) grown h)))
 
       short_after : (flags_after : List Bool) (after : List Reason) → IsPushed limit kind t flags reasons flags_after after → length after ≤ limit
@@ -102,7 +102,7 @@ module _ (n limit : ℕ) (kind : Kind) (t : ℕ) (flags : List Bool) (reasons : 
           let e = ap (λ (l : List Reason). length l) grown in omega (arith, length-append reasons ((record { kind = kind; triangle = t }) ∷ []))
 
   -- and a triangle with a cause keeps them reasons
-  pub pushed-reasoned : (priority : ℕ → ℕ) (worst : ℕ) (flags_after : List Bool) (after : List Reason) → IsListed n limit flags reasons → IsSplittable n t →
+  pub pushed-reasoned : (priority : ℕ → ℕ) (worst : ℕ) (flags_after : List Bool) (after : List Reason) → AreReasonsListed n limit flags reasons → IsSplittable n t →
       IsWhy n priority worst (named_in reasons) kind t → AreReasons n priority worst [] reasons → IsPushed limit kind t flags reasons flags_after after →
       AreReasons n priority worst [] after
   pushed-reasoned priority worst flags_after after m splittable why are (left_out left same_flags kept) = subst (λ l. AreReasons n priority worst [] l) (sym kept) are
@@ -113,7 +113,7 @@ module _ (n limit : ℕ) (kind : Kind) (t : ℕ) (flags : List Bool) (reasons : 
 -- the turns of the two loops
 
 -- wanted ones stay wanted, and a turn lists one more or finds that it is not wanted
-pub wanted-next : (limit : ℕ) (priority : ℕ → ℕ) (worst k : ℕ) (before after : List Reason) → IsGrown before after → AreWanted limit priority worst k before →
+pub wanted-next : (limit : ℕ) (priority : ℕ → ℕ) (worst k : ℕ) (before after : List Reason) → AreGrownReasons before after → AreWanted limit priority worst k before →
     (length after < limit → worst ≤ priority k → IsTrue (named_in after k)) → AreWanted limit priority worst (k + 1) after
 wanted-next limit priority worst k before after g wanted own less a low high big = ⊎_elim
     (λ earlier. named-grown before after a g (wanted (let more = length-grown before after g in omega arith) a low earlier big))
@@ -121,21 +121,21 @@ wanted-next limit priority worst k before after g wanted own less a low high big
     (cases_lt a k)
 
 -- a turn of the queue
-pub queue-next : (n limit next : ℕ) (before after : List Reason) (r : Reason) → IsGrown before after → next < length before → r ≡ get_or before next r →
+pub queue-next : (n limit next : ℕ) (before after : List Reason) (r : Reason) → AreGrownReasons before after → next < length before → r ≡ get_or before next r →
     IsQueue n limit next before → (length after < limit → HasCauses n after r.triangle) → IsQueue n limit (next + 1) after
 queue-next n limit next before after r g within is queue own less b h =
     let first : take (next + 1) after ≡ take next before ++ r ∷ [] = take-grown before after (next + 1) g (omega arith) ∙ take-next before next r within is in
     ⊎_elim
-    (λ old. causes-grown n before after b g (queue (let more = length-grown before after g in omega arith) b (among-in b (triangles_of (take next before)) old)))
+    (λ old. causes-grown n before after b g (queue (let more = length-grown before after g in omega arith) b (among-in b (reason_triangles (take next before)) old)))
     (λ same. subst (λ z. HasCauses n after z) same (own less))
-    (earlier_cases (take next before) r b (IsIn-among b (triangles_of (take next before ++ r ∷ [])) (subst (λ l. IsTrue (named_in l b)) first h)))
+    (earlier_cases (take next before) r b (IsIn-among b (reason_triangles (take next before ++ r ∷ [])) (subst (λ l. IsTrue (named_in l b)) first h)))
 
 -- a triangle of a list is named
 pub named-at : (reasons : List Reason) (k : ℕ) (r : Reason) → k < length reasons → r ≡ get_or reasons k r → IsTrue (named_in reasons r.triangle)
 named-at reasons k r within is =
     named-grown (take (k + 1) reasons) reasons r.triangle record { extra = drop (k + 1) reasons; grown = sym (take-append-drop (k + 1) reasons) }
     (subst (λ l. IsTrue (named_in l r.triangle)) (sym (take-next reasons k r within is))
-    (among-in r.triangle (triangles_of (take k reasons ++ r ∷ [])) (earlier_new (take k reasons) r)))
+    (among-in r.triangle (reason_triangles (take k reasons ++ r ∷ [])) (earlier_new (take k reasons) r)))
 
 -- the end
 
@@ -153,7 +153,7 @@ all-queue n limit priority worst reasons wanted queue below = ⊎_elim
     (cases_lt (length reasons) limit)
 
 -- what was wanted is still listed in a longer list
-pub wanted-grown : (limit : ℕ) (priority : ℕ → ℕ) (worst bound : ℕ) (before after : List Reason) → IsGrown before after → AreWanted limit priority worst bound before →
+pub wanted-grown : (limit : ℕ) (priority : ℕ → ℕ) (worst bound : ℕ) (before after : List Reason) → AreGrownReasons before after → AreWanted limit priority worst bound before →
     AreWanted limit priority worst bound after
 wanted-grown limit priority worst bound before after g wanted less a low few high =
     named-grown before after a g (wanted (let more = length-grown before after g in omega arith) a low few high)

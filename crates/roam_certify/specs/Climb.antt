@@ -1,5 +1,5 @@
 -- What the loops keep that test whether a list of triangles is conforming.
--- Words: IsEntered, IsClimbed, IsCounted, AreLeavesOf.
+-- Words: AreParentsFlagged, IsClimbed, IsCountedBelow, AreLeavesOf.
 use Rattle.std.specs.Prelude.{◌≡◌, ℕ, ◌/◌, ◌<◌, ◌≤◌, ◌↔◌, Bool, false, nat_eq, IsTrue, List, length, Contains}
 use Rattle.std.specs.List.{IsDistinct}
 use Rattle.mesh_defs.specs.Triangle.{IsMate}
@@ -7,7 +7,7 @@ use Rattle.mesh_defs.specs.ClosedSet.{IsSubset, among}
 use Rattle.tiling_laws.specs.Ancestors.{ancestors_of}
 
 -- flags of the parents of the first entries: nothing but ancestors is flagged
-pub record IsEntered (triangles first : List ℕ) (has : ℕ → Bool) : Type 0 where
+pub record AreParentsFlagged (triangles first : List ℕ) (has : ℕ → Bool) : Type 0 where
   pub within : IsSubset has (ancestors_of triangles)
   pub holds : (e : ℕ) → Contains first e → 4 ≤ e → IsTrue (has (e / 2))
 
@@ -19,7 +19,7 @@ pub record IsClimbed (triangles : List ℕ) (has : ℕ → Bool) (k : ℕ) : Typ
   pub parent : (a : ℕ) → k ≤ a → IsTrue (has a) → 4 ≤ a → IsTrue (has (a / 2))
 
 -- so many members below k, and each has its mate
-pub record IsCounted (n : ℕ) (has : ℕ → Bool) (k count : ℕ) : Type 0 where
+pub record IsCountedBelow (n : ℕ) (has : ℕ → Bool) (k count : ℕ) : Type 0 where
   pub members : List ℕ
   pub once : IsDistinct nat_eq members
   pub same : (a : ℕ) → IsTrue (among members a) ↔ ((a < k) × IsTrue (has a))

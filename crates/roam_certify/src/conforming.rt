@@ -6,7 +6,7 @@ ghost use Rattle.mesh_defs.specs.Tiling.{IsConforming};
 ghost use Rattle.mesh_defs.specs.declared.level.TheConstants.{GREATEST_LEVEL};
 ghost use Rattle.tiling_laws.specs.Ancestors.{ancestors_of};
 ghost use Rattle.least_laws.specs.Sweep.{is_flagged};
-ghost use Rattle.roam_certify.specs.Climb.{IsEntered, IsClimbed, IsCounted, AreLeavesOf};
+ghost use Rattle.roam_certify.specs.Climb.{AreParentsFlagged, IsClimbed, IsCountedBelow, AreLeavesOf};
 
 use address_flags::{end, flag, flag_parent, is_set};
 use bintree_addr::Tri;
@@ -38,7 +38,7 @@ fn flag_parents(flags: &mut [bool], n: u32, triangles: &[Tri])
     requires empty { (a : ℕ) → is_flagged flags.old a ≡ false }
     requires addresses { All (IsAddress n) triangles.now }
     ensures room { length flags.new ≡ length flags.old }
-    ensures entered { IsEntered triangles.now triangles.now (is_flagged flags.new) }
+    ensures entered { AreParentsFlagged triangles.now triangles.now (is_flagged flags.new) }
 {
     for index in 0..triangles.len() {
         flag_parent(flags, triangles[index]);
@@ -51,7 +51,7 @@ fn climb(flags: &mut [bool], n: u32)
     requires room { length flags.old ≡ 2 ^ (2 * n + 1) }
     ensures room { length flags.new ≡ length flags.old }
     ensures climbed { (triangles : List ℕ) → All (IsAddress n) triangles →
-        IsEntered triangles triangles (is_flagged flags.old) → IsClimbed triangles (is_flagged flags.new) 2 }
+        AreParentsFlagged triangles triangles (is_flagged flags.old) → IsClimbed triangles (is_flagged flags.new) 2 }
 {
     for number in (2..end(n)).rev() {
         if flags[number as usize] {
@@ -65,7 +65,7 @@ fn count_splits(flags: &[bool], n: u32) -> Option<u32>
     requires in_grid { (1 ≤ n) × (n ≤ GREATEST_LEVEL) }
     requires room { length flags.now ≡ 2 ^ (2 * n + 1) }
     requires splittable { (a : ℕ) → IsTrue (is_flagged flags.now a) → IsSplittable n a }
-    ensures some { IfSome result (λ count. IsCounted n (is_flagged flags.now) (2 ^ (2 * n + 1)) count) }
+    ensures some { IfSome result (λ count. IsCountedBelow n (is_flagged flags.now) (2 ^ (2 * n + 1)) count) }
     ensures none { IfNone result ((a : ℕ) × (b : ℕ) × IsTrue (is_flagged flags.now a) × IsMate n a b
         × (is_flagged flags.now b ≡ false)) }
 {

@@ -7,7 +7,7 @@ ghost use Rattle.mesh_defs.specs.declared.level.TheConstants.{GREATEST_LEVEL};
 ghost use Rattle.least_laws.specs.Sweep.{is_flagged};
 ghost use Rattle.certificate_laws.specs.declared.reason.Reason.{Reason};
 ghost use Rattle.certificate_laws.specs.Certificate.{named_in, AreReasons, AreAllReasons};
-ghost use Rattle.roam_certify.specs.Making.{IsListed, IsPushed, IsCause, HasCauses, IsGrown, KeepsReasons, AreWanted, IsQueue};
+ghost use Rattle.roam_certify.specs.Making.{AreReasonsListed, IsPushed, IsCause, HasCauses, AreGrownReasons, KeepsReasons, AreWanted, IsQueue};
 
 use address_flags::{end, flag, is_set};
 use bintree_addr::Tri;
@@ -58,9 +58,9 @@ fn push_wants(
 ) -> Result<(), NoMemory>
     requires in_grid { (1 ≤ n) × (n ≤ GREATEST_LEVEL) }
     requires grid { scene.now.grid.n ≡ n }
-    requires listed { IsListed n limit flags.old reasons.old.items }
+    requires listed { AreReasonsListed n limit flags.old reasons.old.items }
     requires reasoned { AreReasons n (priority_seen scene.now) worst [] reasons.old.items }
-    ensures listed { OnOk result (IsListed n limit flags.new reasons.new.items) }
+    ensures listed { OnOk result (AreReasonsListed n limit flags.new reasons.new.items) }
     ensures reasoned { OnOk result (AreReasons n (priority_seen scene.now) worst [] reasons.new.items) }
     ensures wanted { OnOk result (AreWanted limit (priority_seen scene.now) worst (2 ^ (2 * n + 1)) reasons.new.items) }
 {
@@ -86,13 +86,13 @@ fn push_wanted(
 ) -> Result<(), NoMemory>
     requires in_grid { (1 ≤ n) × (n ≤ GREATEST_LEVEL) }
     requires grid { scene.now.grid.n ≡ n }
-    requires listed { IsListed n limit flags.old reasons.old.items }
+    requires listed { AreReasonsListed n limit flags.old reasons.old.items }
     requires reasoned { AreReasons n (priority_seen scene.now) worst [] reasons.old.items }
     requires splittable { IsSplittable n t }
     requires before { AreWanted limit (priority_seen scene.now) worst t reasons.old.items }
-    ensures listed { OnOk result (IsListed n limit flags.new reasons.new.items) }
+    ensures listed { OnOk result (AreReasonsListed n limit flags.new reasons.new.items) }
     ensures reasoned { OnOk result (AreReasons n (priority_seen scene.now) worst [] reasons.new.items) }
-    ensures grown { OnOk result (IsGrown reasons.old.items reasons.new.items) }
+    ensures grown { OnOk result (AreGrownReasons reasons.old.items reasons.new.items) }
     ensures wanted { OnOk result (length reasons.new.items < limit → worst ≤ priority_seen scene.now t →
         IsTrue (named_in reasons.new.items t)) }
 {
@@ -126,10 +126,10 @@ fn follow(
     n: u32,
 ) -> Result<(), NoMemory>
     requires in_grid { (1 ≤ n) × (n ≤ GREATEST_LEVEL) }
-    requires listed { IsListed n limit flags.old reasons.old.items }
+    requires listed { AreReasonsListed n limit flags.old reasons.old.items }
     ensures short { OnOk result (length reasons.new.items ≤ limit) }
     ensures reasoned { OnOk result (KeepsReasons n reasons.old.items reasons.new.items) }
-    ensures grown { OnOk result (IsGrown reasons.old.items reasons.new.items) }
+    ensures grown { OnOk result (AreGrownReasons reasons.old.items reasons.new.items) }
     ensures queue { OnOk result (IsQueue n limit (length reasons.new.items) reasons.new.items) }
 {
     let mut next = 0;
@@ -150,11 +150,11 @@ fn push_causes(
     t: Tri,
 ) -> Result<(), NoMemory>
     requires in_grid { (1 ≤ n) × (n ≤ GREATEST_LEVEL) }
-    requires listed { IsListed n limit flags.old reasons.old.items }
+    requires listed { AreReasonsListed n limit flags.old reasons.old.items }
     requires named { IsTrue (named_in reasons.old.items t) }
-    ensures listed { OnOk result (IsListed n limit flags.new reasons.new.items) }
+    ensures listed { OnOk result (AreReasonsListed n limit flags.new reasons.new.items) }
     ensures reasoned { OnOk result (KeepsReasons n reasons.old.items reasons.new.items) }
-    ensures grown { OnOk result (IsGrown reasons.old.items reasons.new.items) }
+    ensures grown { OnOk result (AreGrownReasons reasons.old.items reasons.new.items) }
     ensures causes { OnOk result (length reasons.new.items < limit → HasCauses n reasons.new.items t) }
 {
     push_cause(reasons, flags, limit, n, Kind::Parent, t.parent())?;
@@ -171,11 +171,11 @@ fn push_cause(
     kind: Kind,
     cause: Option<Tri>,
 ) -> Result<(), NoMemory>
-    requires listed { IsListed n limit flags.old reasons.old.items }
+    requires listed { AreReasonsListed n limit flags.old reasons.old.items }
     requires cause { IfSome cause (IsCause n reasons.old.items kind) }
-    ensures listed { OnOk result (IsListed n limit flags.new reasons.new.items) }
+    ensures listed { OnOk result (AreReasonsListed n limit flags.new reasons.new.items) }
     ensures reasoned { OnOk result (KeepsReasons n reasons.old.items reasons.new.items) }
-    ensures grown { OnOk result (IsGrown reasons.old.items reasons.new.items) }
+    ensures grown { OnOk result (AreGrownReasons reasons.old.items reasons.new.items) }
     ensures named { OnOk result (length reasons.new.items < limit →
         IfSome cause (λ a. IsTrue (named_in reasons.new.items a))) }
 {

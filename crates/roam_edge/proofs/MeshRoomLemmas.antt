@@ -5,7 +5,7 @@ use Rattle.std.proofs.lemmas.Bool.{cases_lt}
 use Rattle.std.proofs.lemmas.Bool.Decides.{nat_tests}
 use Rattle.std.proofs.lemmas.List.{drop-append-le, take-append-le}
 use Rattle.std.proofs.lemmas.List.Elements.{All-head, All-tail}
-use Rattle.roam_edge.specs.MeshSink.{Mesh, longer}
+use Rattle.roam_edge.specs.MeshSink.{WrittenMesh, longer}
 use Rattle.roam_edge.specs.MeshRoom.{mesh_from, mesh_at, LieWithin, StartsWithin}
 use Rattle.roam_edge.specs.declared.mesh_room.Heading.{Heading}
 use Rattle.roam_edge.specs.declared.mesh_room.Placed.{Placed}
@@ -54,7 +54,7 @@ finished_at room [] (Some heading) (suc i) within = absurd (omega arith)
 finished_at room (placed ∷ done) current zero within = grind (arith, nat_tests)
 finished_at room (placed ∷ done) current (suc i) within = finished_at room done current i (omega arith) ∙ ap Some (nat_lt-suc i (length done))
 
-pub finished-place : (room : List ℕ) (done : List Placed) (current : Option Heading) (meshes : List Mesh) (i count : ℕ)
+pub finished-place : (room : List ℕ) (done : List Placed) (current : Option Heading) (meshes : List WrittenMesh) (i count : ℕ)
     → map (mesh_at room) done ++ option_to_list (option_map (mesh_from room) current) ≡ meshes → count ≡ length done → i < length meshes
     → option_map (λ mesh. mesh.finished) (slice_get meshes i) ≡ Some (nat_lt i count)
 finished-place room done current meshes i count are all within =

@@ -12,5 +12,5 @@ pub record CalmFiles : Type 0 where
   pub ended : Bool
 
 -- a borrowed file, as a name and its bytes
-abbrev pub file_of : CalmFile → NamedFile
-file_of file = record { name = file.name.now; bytes = file.bytes.now }
+abbrev pub calm_file : CalmFile → NamedFile
+calm_file file = record { name = file.name.now; bytes = file.bytes.now }

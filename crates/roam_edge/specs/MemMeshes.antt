@@ -3,15 +3,15 @@
 use Rattle.std.specs.Prelude.{ℕ, ◌-◌, Bool, false, List, ◌++◌, map, length, Option, Some, None, option_map, option_to_list, nat_lt, ◌==◌, ◌||◌, if◌then◌else◌}
 use Rattle.std.specs.List.{list_any}
 use Rattle.roam_edge.specs.Fault.{next_count, late_after}
-use Rattle.roam_edge.specs.MeshSink.{Mesh, begun, longer, closed}
+use Rattle.roam_edge.specs.MeshSink.{WrittenMesh, begun, longer, closed}
 use Rattle.roam_edge.specs.declared.mesh_call.MeshCall.{MeshCall}
 use Rattle.roam_edge.specs.declared.mesh_call.MeshCall.TheVariants.{Begin, Write, Finish}
 
 -- the finished meshes, the mesh under way, for how many more meshes and bytes there is room, the
 -- calls that are to fail, how many calls of each kind and failures there were, and whether a call came after a failure
 pub record KeptMeshes : Type 0 where
-  pub done : List Mesh
-  pub current : Option Mesh
+  pub done : List WrittenMesh
+  pub current : Option WrittenMesh
   pub mesh_room : ℕ
   pub byte_room : ℕ
   pub fails : List MeshCall
@@ -22,7 +22,7 @@ pub record KeptMeshes : Type 0 where
   pub late : Bool
 
 -- the meshes in the order in which they were begun
-abbrev pub all_meshes : KeptMeshes → List Mesh
+abbrev pub all_meshes : KeptMeshes → List WrittenMesh
 all_meshes kept = kept.done ++ option_to_list kept.current
 
 -- one call is the other: of the same kind, with the same number

@@ -15,12 +15,12 @@ pub record KeptBytes : Type 0 where
   pub late : Bool
 
 -- the next write of this piece fails: its number, counted from 1, is named, or there is no room for it
-abbrev pub write_fails : KeptBytes → List ℕ → Bool
-write_fails kept piece = list_any (λ k. k == next_count kept.writes) kept.fails || nat_lt kept.room (length piece)
+abbrev pub sink_write_fails : KeptBytes → List ℕ → Bool
+sink_write_fails kept piece = list_any (λ k. k == next_count kept.writes) kept.fails || nat_lt kept.room (length piece)
 
 -- the sink after that write: a failure is counted and adds nothing
-abbrev pub after_write : KeptBytes → List ℕ → KeptBytes
-after_write kept piece =
-    if write_fails kept piece
+abbrev pub after_sink_write : KeptBytes → List ℕ → KeptBytes
+after_sink_write kept piece =
+    if sink_write_fails kept piece
     then record kept { writes = next_count kept.writes; faults = next_count kept.faults; late = late_after kept.late kept.faults }
     else record kept { writes = next_count kept.writes; contents = kept.contents ++ piece; room = kept.room - length piece; late = late_after kept.late kept.faults }

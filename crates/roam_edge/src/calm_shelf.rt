@@ -3,7 +3,7 @@
 ghost use Rattle.std.specs.Prelude.{◌≡◌, ◌<◌, ◌≤◌, ℕ, [], ◌∷◌, ◌++◌, Some, Ok, true, false, IfOk, IsOk, is_err, length, map, min};
 ghost use Rattle.roam_edge.specs.Fault.{HasCause, next_count};
 ghost use Rattle.roam_edge.specs.Shelf.{Opens, Reads, Ends, bytes_of};
-ghost use Rattle.roam_edge.specs.CalmShelf.{file_of};
+ghost use Rattle.roam_edge.specs.CalmShelf.{calm_file};
 
 use crate::{Failed, Shelf};
 use std::marker::Model;
@@ -32,12 +32,12 @@ pub struct CalmShelf<'a> {
 
 impl<'a> Model for CalmShelf<'a> {
     ghost use Rattle.std.specs.Prelude.{◌≡◌, ◌≤◌, take, map, length};
-    ghost use Rattle.roam_edge.specs.CalmShelf.{CalmFiles, file_of};
+    ghost use Rattle.roam_edge.specs.CalmShelf.{CalmFiles, calm_file};
 
     ghost Value = { CalmFiles };
 
     ghost view = { λ s. record {
-      files = map file_of (take s.count s.files);
+      files = map calm_file (take s.count s.files);
       unread = s.unread.now;
       opens = s.opens;
       ended = s.ended;
@@ -126,7 +126,7 @@ impl<'a> Shelf for CalmShelf<'a> {
 
 /// The bytes of the first file of this name, and none where there is no such file.
 fn first_named<'a>(files: &[CalmFile<'a>], name: &str) -> &'a [u8]
-    ensures { result.now ≡ bytes_of (map file_of files.now) name.now }
+    ensures { result.now ≡ bytes_of (map calm_file files.now) name.now }
 {
     for file in files {
         if file.name == name {

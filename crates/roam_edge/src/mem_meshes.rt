@@ -2,7 +2,7 @@
 
 ghost use Rattle.std.specs.Prelude.{◌≡◌, ◌^◌, ◌<◌, ◌≤◌, ℕ, [], Some, None, true, false, IfOk, is_ok, is_err, is_some, length, option_map, slice_get};
 ghost use Rattle.roam_edge.specs.Fault.{HasCause, late_after};
-ghost use Rattle.roam_edge.specs.MeshSink.{Begins, Writes, Finishes};
+ghost use Rattle.roam_edge.specs.MeshSink.{BeginsMesh, Writes, Finishes};
 ghost use Rattle.roam_edge.specs.declared.mesh_sink.TheConstants.{LONGEST_PREFIX, GREATEST_NUMBER};
 ghost use Rattle.roam_edge.specs.MemMeshes.{all_meshes, begin_fails, after_begin, write_fails, after_write, finish_fails, after_finish};
 
@@ -192,7 +192,7 @@ impl MeshSink for MemMeshes {
         requires number_high { number ≤ GREATEST_NUMBER }
         ensures fails { is_err result ≡ begin_fails self.old }
         ensures after { self.new ≡ after_begin self.old prefix.now number }
-        ensures mesh { Begins (Some (all_meshes self.old)) (Some (all_meshes self.new))
+        ensures mesh { BeginsMesh (Some (all_meshes self.old)) (Some (all_meshes self.new))
             prefix.now number result }
         ensures under_way { is_some self.new.current ≡ is_ok result }
         ensures faults { HasCause self.old.faults self.new.faults result }

@@ -3,7 +3,7 @@
 ghost use Rattle.std.specs.Prelude.{◌≡◌, ◌^◌, ◌≤◌, ℕ, [], Some, false, IfOk, is_err};
 ghost use Rattle.roam_edge.specs.Fault.{HasCause, late_after};
 ghost use Rattle.roam_edge.specs.Sink.{Appends};
-ghost use Rattle.roam_edge.specs.MemSink.{write_fails, after_write};
+ghost use Rattle.roam_edge.specs.MemSink.{sink_write_fails, after_sink_write};
 
 use crate::{Failed, NoMemory, Sink};
 use std::alloc::Global;
@@ -74,8 +74,8 @@ impl Sink for MemSink {
     ghost late = { λ s. s.late };
 
     fn write(&mut self, piece: &[u8]) -> Result<(), Failed>
-        ensures fails { is_err result ≡ write_fails self.old piece.now }
-        ensures after { self.new ≡ after_write self.old piece.now }
+        ensures fails { is_err result ≡ sink_write_fails self.old piece.now }
+        ensures after { self.new ≡ after_sink_write self.old piece.now }
         ensures bytes { Appends (Some self.old.contents) (Some self.new.contents) piece.now result }
         ensures faults { HasCause self.old.faults self.new.faults result }
         ensures late { self.new.late ≡ late_after self.old.late self.old.faults }

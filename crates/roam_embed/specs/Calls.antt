@@ -12,7 +12,7 @@ use Rattle.mesh_defs.specs.BestMesh.{IsBestMesh}
 use Rattle.bintree_laws.specs.Areas.{overlaps}
 use Rattle.triangle_pool.specs.declared.pool.TheConstants.{MOST_LEAVES}
 use Rattle.wedgie_tree.specs.declared.wedges.TheConstants.{GREATEST_SPACING}
-use Rattle.wedgie_tree.specs.Edits.{area_of}
+use Rattle.wedgie_tree.specs.Edits.{area_between}
 use Rattle.cull_marks.specs.Plane.{IsPlane}
 use Rattle.view_priority.specs.Camera.{IsCamera}
 use Rattle.roam_mesh.specs.Mesh.{stamp_of, pool_members}
@@ -92,8 +92,8 @@ pub record IsAreaRaised (before after : EngineState) (x0 y0 x1 y1 : ℕ) (dz : �
   pub done : (answer ≡ Done) ↔ (IsAreaOf before.state.grid.n x0 y0 x1 y1 × (unsigned_abs dz ≤ GREATEST_CHANGE))
   pub outside_grid : (answer ≡ OutsideGrid) ↔ (IsAreaOf before.state.grid.n x0 y0 x1 y1 → ⊥)
   pub bad_change : (answer ≡ BadChange) ↔ (IsAreaOf before.state.grid.n x0 y0 x1 y1 × (GREATEST_CHANGE < unsigned_abs dz))
-  pub raised : answer ≡ Done → after ≡ record before { state = with_raised (area_of x0 y0 x1 y1) dz before.state; mesh = after.mesh }
-  pub expired : answer ≡ Done → IsExpired before.mesh after.mesh (λ a. overlaps (corners_of before.state.grid.n a) (area_of x0 y0 x1 y1))
+  pub raised : answer ≡ Done → after ≡ record before { state = with_raised (area_between x0 y0 x1 y1) dz before.state; mesh = after.mesh }
+  pub expired : answer ≡ Done → IsExpired before.mesh after.mesh (λ a. overlaps (corners_of before.state.grid.n a) (area_between x0 y0 x1 y1))
   pub kept : (answer ≡ Done → ⊥) → after ≡ before
 
 -- the mesh is the best one of the state, and what is told of it

@@ -1,5 +1,5 @@
 -- The mesh of the heights alone for a tolerance and a budget. This project's own.
--- Words: tolerance_of, most_triangles, IsFit, IsFitTold.
+-- Words: fit_tolerance_of, most_triangles, IsFit, IsFitTold.
 use Rattle.std.specs.Prelude.{◌≡◌, ℕ, ◌*◌, ◌/◌, ◌^◌, ◌<◌, ◌≤◌, ◌↔◌, ◌⊎◌, min, List, ◌++◌, length, drop}
 use Rattle.mesh_defs.specs.HeightField.{HeightField}
 use Rattle.mesh_defs.specs.MeshText.{vertices_of}
@@ -14,8 +14,8 @@ use Rattle.roam_embed.specs.declared.notes.Fitted.{Fitted}
 use Rattle.roam_embed.specs.declared.fitting.TheConstants.{GREATEST_TOLERANCE}
 
 -- a tolerance in thousandths of a unit of height, times 2 ^ n, rounded down: errors are whole numbers of these
-abbrev pub tolerance_of : ℕ → ℕ → ℕ
-tolerance_of n thousandths = thousandths * 2 ^ n / 1000
+abbrev pub fit_tolerance_of : ℕ → ℕ → ℕ
+fit_tolerance_of n thousandths = thousandths * 2 ^ n / 1000
 
 -- the most triangles that a mesh of the budget can have
 abbrev pub most_triangles : ℕ → ℕ → ℕ
@@ -28,8 +28,8 @@ pub record IsFit (grid : HeightField) (thousandths budget : ℕ) (leaves : List 
   pub off : told.off ≡ deviation_of grid.n grid.heights leaves
   pub over : told.over ≡ 2 ^ grid.n
   pub least : IsLeastMesh grid.n told.off (error_of grid.n grid.heights) leaves
-  pub fewest : told.off ≤ tolerance_of grid.n thousandths → IsLeastMesh grid.n (tolerance_of grid.n thousandths) (error_of grid.n grid.heights) leaves
-  pub best : tolerance_of grid.n thousandths < told.off → IsBudgetMesh grid.n budget (error_of grid.n grid.heights) leaves
+  pub fewest : told.off ≤ fit_tolerance_of grid.n thousandths → IsLeastMesh grid.n (fit_tolerance_of grid.n thousandths) (error_of grid.n grid.heights) leaves
+  pub best : fit_tolerance_of grid.n thousandths < told.off → IsBudgetMesh grid.n budget (error_of grid.n grid.heights) leaves
   pub triangles : told.triangles ≡ length leaves
   pub vertices : told.vertices ≡ length (vertices_of grid.n leaves)
 

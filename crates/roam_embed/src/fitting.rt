@@ -3,7 +3,7 @@
 ghost use Rattle.std.specs.Prelude.{◌≡◌, ◌*◌, ◌^◌, ◌<◌, ◌≤◌, ◌++◌, ℕ, List, length, drop};
 ghost use Rattle.mesh_defs.specs.declared.level.TheConstants.{GREATEST_LEVEL};
 ghost use Rattle.mesh_arrays.specs.Indices.{indices_of};
-ghost use Rattle.roam_embed.specs.Fitting.{tolerance_of, most_triangles, IsFit, IsFitTold};
+ghost use Rattle.roam_embed.specs.Fitting.{fit_tolerance_of, most_triangles, IsFit, IsFitTold};
 
 use crate::answer::Answer;
 use crate::notes::Fitted;
@@ -78,7 +78,7 @@ fn fit_into(fit: &mut Fit, grid: &Grid, thousandths: u32, out: &mut [u32]) -> Fi
 fn tolerance(n: u32, thousandths: u32) -> u32
     requires in_grid { n ≤ GREATEST_LEVEL }
     requires low { thousandths ≤ GREATEST_TOLERANCE }
-    ensures { result ≡ tolerance_of n thousandths }
+    ensures { result ≡ fit_tolerance_of n thousandths }
 {
     ((u64::from(thousandths) << n) / 1000) as u32
 }

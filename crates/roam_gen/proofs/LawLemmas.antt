@@ -15,7 +15,7 @@ use Rattle.std.proofs.lemmas.Bool.{cond_both}
 use Rattle.pgm_grid.specs.PgmText.{IsFileText}
 use Rattle.roam_gen.specs.Generated.{height_of_place, made_grid, octave_base, camera_line, edit_line}
 use Rattle.roam_gen.specs.LineAt.{line_at}
-use Rattle.roam_gen.specs.Written.{header_of, header_text, grid_text}
+use Rattle.roam_gen.specs.Written.{generated_header, header_text, grid_text}
 use Rattle.roam_gen.specs.Laws.{IsMadeLine}
 use Rattle.roam_gen.proofs.OctaveLemmas.{octaves-bound, lattice-small, width-small}
 
@@ -47,10 +47,10 @@ points-small side small =
     omega (arith, one, small)
 
 -- the header is that of the format
-pub header-is_text : WrittenHeadersAreTexts → (n : ℕ) → n ≤ 11 → IsHeaderText (header_text n) (header_of n)
+pub header-is_text : WrittenHeadersAreTexts → (n : ℕ) → n ≤ 11 → IsHeaderText (header_text n) (generated_header n)
 header-is_text written n high =
     let small = side-small n high in
-    written (header_of n) [] (omega (arith, small)) (omega (arith, small)) (lit< tt) refl
+    written (generated_header n) [] (omega (arith, small)) (omega (arith, small)) (lit< tt) refl
 
 header-short : (n : ℕ) → n ≤ 11 → length (header_text n) ≤ 65536
 header-short n high =
@@ -60,7 +60,7 @@ header-short n high =
     omega (arith, length-append {A = ℕ}, side, most)
 
 -- what is written of it is a file text of it
-pub made-is_text : (n seed : ℕ) → n ≤ 11 → IsHeaderText (header_text n) (header_of n) → IsFileText (made_grid n seed) (grid_text n seed)
+pub made-is_text : (n seed : ℕ) → n ≤ 11 → IsHeaderText (header_text n) (generated_header n) → IsFileText (made_grid n seed) (grid_text n seed)
 unfolding made_grid
 made-is_text n seed high is_text =
     let heights : List ℕ = map (height_of_place n seed) (range_with_len 0 (side_of n * side_of n)) in
@@ -72,7 +72,7 @@ made-is_text n seed high is_text =
     record {
       header = header_text n;
       raster = raster;
-      values = header_of n;
+      values = generated_header n;
       is_header = is_text;
       short_header = short;
       width = refl;

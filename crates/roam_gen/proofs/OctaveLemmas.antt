@@ -4,12 +4,12 @@ use Rattle.std.proofs.Math.Nat.{mul_assoc, mul_comm, add-mul, mul-add, mul-le-mu
 use Rattle.std.proofs.lemmas.Nat.{le-div, pow_pos, pow-add, shl_whole, and_mask}
 use Rattle.roam_gen.specs.declared.octave.Cell.{Cell}
 use Rattle.roam_gen.specs.Rows.{cell_at}
-use Rattle.roam_gen.specs.Generated.{plus, times, mixed, octave_base, lattice_from, between, octave, octaves}
+use Rattle.roam_gen.specs.Generated.{plus, product, mixed, octave_base, lattice_from, between, octave, octaves}
 
 -- the values of a lattice have 16 bits
 pub mixed-small : (z : ℕ) → mixed z < 2 ^ 64
 unfolding mixed
-mixed-small z = mod-lt (plus (times z 6364136223846793005) (times (z / 2 ^ 32) (z % 2 ^ 32)) + 1442695040888963407) (lit< tt)
+mixed-small z = mod-lt (plus (product z 6364136223846793005) (product (z / 2 ^ 32) (z % 2 ^ 32)) + 1442695040888963407) (lit< tt)
 
 pub lattice-small : (base i j : ℕ) → lattice_from base i j < 2 ^ 16
 lattice-small base i j = let small = mixed-small (mixed (plus (mixed (plus base i)) j)) in omega (arith, small)

@@ -1,6 +1,6 @@
 -- A grid and a script that are made from a level and a seed. This project's own.
 --
--- Words: plus, times, mixed, octave_base, lattice_from, lattice, between, octave, octaves, made_height, made_heights,
+-- Words: plus, product, mixed, octave_base, lattice_from, lattice, between, octave, octaves, made_height, made_heights,
 -- made_grid, camera_line, edit_line, frame_lines, made_lines.
 use Rattle.std.specs.Prelude.{ℕ, zero, suc, ◌+◌, ◌-◌, ◌*◌, ◌/◌, ◌%◌, ◌^◌, ◌==◌, if◌then◌else◌, List, [], ◌∷◌, ◌++◌, map, pos}
 use Rattle.std.specs.List.{range_with_len, flat_map}
@@ -12,12 +12,12 @@ use Rattle.roam_script.specs.declared.line.Line.TheVariants.{Camera, Set, Frame}
 abbrev pub plus : ℕ → ℕ → ℕ
 plus a b = (a + b) % 2 ^ 64
 
-abbrev pub times : ℕ → ℕ → ℕ
-times a b = (a * b) % 2 ^ 64
+abbrev pub product : ℕ → ℕ → ℕ
+product a b = (a * b) % 2 ^ 64
 
 -- a number of 64 bits, mixed: a linear congruence, and the product of its halves
 unfoldable pub mixed : ℕ → ℕ
-mixed z = plus (plus (times z 6364136223846793005) (times (z / 2 ^ 32) (z % 2 ^ 32))) 1442695040888963407
+mixed z = plus (plus (product z 6364136223846793005) (product (z / 2 ^ 32) (z % 2 ^ 32))) 1442695040888963407
 
 -- what the values of an octave's lattice begin with
 abbrev pub octave_base : ℕ → ℕ → ℕ

@@ -1,5 +1,5 @@
 -- What stands in a row of heights while it is made, and in a grid whose rows are made one after the other.
--- Words: cell_at, AreSmall, HasOctaves, HasRow, Wrote.
+-- Words: cell_at, IsCellSmall, HasOctaves, HasRow, Wrote.
 use Rattle.std.specs.Prelude.{◌≡◌, ℕ, ◌+◌, ◌<◌, ◌≤◌, ◌^◌, List, ◌++◌, length, slice_index, Option, Some}
 use Rattle.mesh_defs.specs.HeightField.{HeightField, height_at}
 use Rattle.roam_gen.specs.declared.octave.Cell.{Cell}
@@ -16,7 +16,7 @@ cell_at base i j = record {
 }
 
 -- the values at its corners have 16 bits
-pub record AreSmall (cell : Cell) : Type 0 where
+pub record IsCellSmall (cell : Cell) : Type 0 where
   pub low_left : cell.low_left < 2 ^ 16
   pub low_right : cell.low_right < 2 ^ 16
   pub high_left : cell.high_left < 2 ^ 16

@@ -4,7 +4,7 @@ ghost use Rattle.std.specs.Prelude.{◌≡◌, ◌≢◌, ◌+◌, ◌-◌, ◌/
 ghost use Rattle.mesh_defs.specs.HeightField.{height_at, side_of};
 ghost use Rattle.mesh_defs.specs.declared.level.TheConstants.{GREATEST_LEVEL};
 ghost use Rattle.roam_gen.specs.Generated.{octave, octave_base, octaves, made_height, made_grid};
-ghost use Rattle.roam_gen.specs.Rows.{cell_at, AreSmall, HasOctaves, HasRow};
+ghost use Rattle.roam_gen.specs.Rows.{cell_at, IsCellSmall, HasOctaves, HasRow};
 
 use crate::octave::{Cell, base_of, last_of, within};
 use pgm_grid::Grid;
@@ -39,7 +39,7 @@ pub fn gen_height(n: u32, seed: u32, x: u32, y: u32) -> u16
 fn part(cell: &Cell, n: u32, k: u32, x: u32, y: u32) -> u16
     requires n_high { n ≤ GREATEST_LEVEL }
     requires octave { k ≤ n }
-    requires small { AreSmall cell.now }
+    requires small { IsCellSmall cell.now }
     ensures value { (seed : ℕ) → cell.now ≡ cell_at (octave_base seed k) (x / 2 ^ k) (y / 2 ^ k)
         → result ≡ octave seed k x y / 2 ^ (n - k + 1) }
     ensures bounded { result ≤ 65535 / 2 ^ (n - k + 1) }

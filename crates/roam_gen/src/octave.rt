@@ -3,7 +3,7 @@
 ghost use Rattle.std.specs.Prelude.{◌≡◌, ◌+◌, ◌-◌, ◌*◌, ◌/◌, ◌%◌, ◌^◌, ◌<◌, ◌≤◌};
 ghost use Rattle.mesh_defs.specs.declared.level.TheConstants.{GREATEST_LEVEL};
 ghost use Rattle.roam_gen.specs.Generated.{mixed, octave_base, lattice_from, between};
-ghost use Rattle.roam_gen.specs.Rows.{cell_at, AreSmall};
+ghost use Rattle.roam_gen.specs.Rows.{cell_at, IsCellSmall};
 
 /// The multiplier of the congruence.
 const MULTIPLIER: u64 = 6_364_136_223_846_793_005;
@@ -58,7 +58,7 @@ impl Cell {
         requires columns { column < 2 ^ 16 }
         requires lines { line < 2 ^ 16 }
         ensures value { result ≡ cell_at base column line }
-        ensures small { AreSmall result }
+        ensures small { IsCellSmall result }
     {
         Cell {
             column,
@@ -74,9 +74,9 @@ impl Cell {
         requires columns { column < 2 ^ 16 }
         requires lines { line < 2 ^ 16 }
         requires here { self ≡ cell_at base self.column line }
-        requires small { AreSmall self }
+        requires small { IsCellSmall self }
         ensures value { result ≡ cell_at base column line }
-        ensures small { AreSmall result }
+        ensures small { IsCellSmall result }
     {
         if column == self.column {
             self
@@ -90,7 +90,7 @@ impl Cell {
         requires octave { k ≤ GREATEST_LEVEL }
         requires columns { a < 2 ^ k }
         requires lines { b < 2 ^ k }
-        requires small { AreSmall self.now }
+        requires small { IsCellSmall self.now }
         ensures value { result ≡ between (2 ^ k) a b self.now.low_left self.now.low_right
             self.now.high_left self.now.high_right }
         ensures bounded { result ≤ 65535 }

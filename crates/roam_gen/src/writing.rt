@@ -10,7 +10,7 @@ ghost use Rattle.mesh_defs.specs.HeightField.{side_of};
 ghost use Rattle.mesh_defs.specs.declared.level.TheConstants.{GREATEST_LEVEL};
 ghost use Rattle.text_laws.specs.Words.{two_bytes};
 ghost use Rattle.roam_gen.specs.Generated.{made_grid};
-ghost use Rattle.roam_gen.specs.Written.{line_text, number_text, script_text, header_text, grid_text};
+ghost use Rattle.roam_gen.specs.Written.{line_text, spaced_number, script_text, header_text, grid_text};
 
 use crate::heights::{GREATEST_HEIGHT, LONGEST_SIDE, fill_row};
 use crate::octave::last_of;
@@ -71,7 +71,7 @@ fn bytes_of(line: Line) -> ArrayVec<u8, LONGEST_LINE>
 fn text_of(word: &[u8], numbers: &[i64]) -> ArrayVec<u8, LONGEST_LINE>
     requires word { length word.now ≤ 8 }
     requires few { length numbers.now ≤ 5 }
-    ensures { result.items ≡ word.now ++ flat_map number_text numbers.now ++ 10 ∷ [] }
+    ensures { result.items ≡ word.now ++ flat_map spaced_number numbers.now ++ 10 ∷ [] }
 {
     let mut text = ArrayVec::new();
     text.try_extend_from_slice(word).unwrap();

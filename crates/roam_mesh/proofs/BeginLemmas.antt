@@ -14,7 +14,7 @@ use Rattle.frame_steps.specs.Deferred.{IsEntry}
 use Rattle.deferred_loop.specs.Seen.{IsQuiet, IsBegun}
 use Rattle.roam_mesh.specs.Mesh.{slot_of, pool_set, pool_members}
 use Rattle.roam_mesh.specs.Parts.{PartsState, entry_at, entry_of, is_leaf_at, is_entry_at, deadline_of, stamp_in, seen_parts, IsWhole, IsPlaced, IsNear, IsParts}
-use Rattle.roam_mesh.specs.Change.{chief_slot, taken_out, begun}
+use Rattle.roam_mesh.specs.Change.{chief_slot, taken_out, begun_at}
 use Rattle.roam_mesh.specs.declared.entry.Entry.{Entry}
 use Rattle.roam_mesh.proofs.PlaceLemmas.{slot_of-at}
 use Rattle.roam_mesh.proofs.RoleLemmas.{entry_live, entry_of-at, entry_at-of}
@@ -111,17 +111,17 @@ taken_whole parts s whole = record {
 }
 
 -- a slot that is due is fresh after, and all others stay
-begun_has : (parts : PartsState) (s : ℕ) → IsWhole parts → is_entry_at parts.pool.pairs s ≡ true → HasPushed (taken_out parts s) (begun parts s) (s ∷ [])
+begun_has : (parts : PartsState) (s : ℕ) → IsWhole parts → is_entry_at parts.pool.pairs s ≡ true → HasPushed (taken_out parts s) (begun_at parts s) (s ∷ [])
 begun_has parts s whole entry = pushed_has (taken_out parts s) (s ∷ []) (taken_whole parts s whole)
     (All-cons (λ r. r < length parts.entries) s [] (entry_below parts s whole entry) (All-nil (λ r. r < length parts.entries)))
 
 -- so it stays with one more slot that is due
-pub beginning_step : (start now : PartsState) (odometer : ℕ) (s : Slot) → IsWhole now → IsDue now.due odometer s → IsBeginning start now odometer → IsBeginning start (begun now s.0) odometer
+pub beginning_step : (start now : PartsState) (odometer : ℕ) (s : Slot) → IsWhole now → IsDue now.due odometer s → IsBeginning start now odometer → IsBeginning start (begun_at now s.0) odometer
 beginning_step start now odometer s whole due is = record {
   parts = record {
     pool = subst (λ (p : PoolState). IsPool p.n p.pairs) (sym has.pool) is.parts.pool;
     near = λ r. subst IsNear (sym (has.entries r)) (is.parts.near r);
-    placed = placed_same (begun now s.0) (with_triangle (among now.fresh) s.0) (among (begun now s.0).fresh) tests
+    placed = placed_same (begun_at now s.0) (with_triangle (among now.fresh) s.0) (among (begun_at now s.0).fresh) tests
         (has.placed (with_triangle (among now.fresh) s.0) (taken_placed now (among now.fresh) s.0 whole is.parts.pool slot.0 is.parts.placed));
     entries = λ r fresh. subst (λ (p : PoolState). is_entry_at p.pairs r ≡ true) (sym has.pool) (⊎_elim
         (λ (old : among now.fresh r ≡ true). is.parts.entries r old)
@@ -140,15 +140,15 @@ beginning_step start now odometer s whole due is = record {
     slot : (is_entry_at now.pool.pairs s.0 ≡ true) × (among now.fresh s.0 ≡ false) × (deadline_of (entry_at now s.0) ≤ odometer)
     slot = due_slot now (among now.fresh) odometer s is.parts.placed due
 
-    has : HasPushed (taken_out now s.0) (begun now s.0) (s.0 ∷ [])
+    has : HasPushed (taken_out now s.0) (begun_at now s.0) (s.0 ∷ [])
     has = begun_has now s.0 whole slot.0
 
-    tests : (r : ℕ) → among (begun now s.0).fresh r ≡ with_triangle (among now.fresh) s.0 r
+    tests : (r : ℕ) → among (begun_at now s.0).fresh r ≡ with_triangle (among now.fresh) s.0 r
     tests r = has.fresh r ∙ ap (λ b. among now.fresh r || b) (or-false (nat_eq s.0 r))
 
 -- and there are more of them
 pub beginning_more : (start now : PartsState) (odometer : ℕ) (s : Slot) → IsWhole now → IsDue now.due odometer s → IsBeginning start now odometer →
-    (length (begun now s.0).fresh ≡ length now.fresh + 1) × (length now.fresh < 2 * length now.pool.pairs) × ((begun now s.0).pool ≡ now.pool)
+    (length (begun_at now s.0).fresh ≡ length now.fresh + 1) × (length now.fresh < 2 * length now.pool.pairs) × ((begun_at now s.0).pool ≡ now.pool)
 beginning_more start now odometer s whole due is =
     let slot = due_slot now (among now.fresh) odometer s is.parts.placed due in
     let stale = whole.fresh.marked s.0 ∙ slot.1 in

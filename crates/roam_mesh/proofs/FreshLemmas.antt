@@ -11,7 +11,7 @@ use Rattle.bintree_addr.specs.declared.rank.Rank.{Rank}
 use Rattle.bintree_addr.specs.declared.slot.Slot.{Slot}
 use Rattle.triangle_pool.specs.Slots.{PoolState}
 use Rattle.roam_mesh.specs.Mesh.{slot_of}
-use Rattle.roam_mesh.specs.Parts.{PartsState, blank, best_of, worst_of, deadline_of, entry_at, is_leaf_at, is_chief_at, is_entry_at, is_out, worst_rank, better_of, diamond_rank, IsWhole, IsPlaced, parts_of}
+use Rattle.roam_mesh.specs.Parts.{PartsState, blank, best_of, merging_key, deadline_of, entry_at, is_leaf_at, is_chief_at, is_entry_at, is_out, worst_rank, better_of, diamond_rank, IsWhole, IsPlaced, parts_of}
 use Rattle.roam_mesh.specs.Change.{pushed, pushed_all}
 use Rattle.roam_mesh.specs.declared.entry.Entry.{Entry}
 use Rattle.roam_mesh.proofs.PlaceLemmas.{entry_at-set}
@@ -75,7 +75,7 @@ marked_placed parts entries fresh out same placed = record {
     best s = ap best_of (same s)
 
     worst : (a : ℕ) → worst_rank (record parts { entries = entries; fresh = fresh }) a ≡ worst_rank parts a
-    worst a = ap (λ e. record { p = worst_of e; tri = a }) (same (slot_of parts.pool.pairs a))
+    worst a = ap (λ e. record { p = merging_key e; tri = a }) (same (slot_of parts.pool.pairs a))
 
     rank : (a : ℕ) → diamond_rank (record parts { entries = entries; fresh = fresh }) a ≡ diamond_rank parts a
     rank a = ap₂ (λ q r. cond (nat_eq (mate_of a) 0) q (better_of q r)) (worst a) (worst (mate_of a))

@@ -12,12 +12,12 @@ use Rattle.edge_laws.specs.Edge.{mate_of}
 use Rattle.edge_laws.specs.Slots.{address_at, has_children, IsLive, IsPool, HasLeaf, diamond_size}
 use Rattle.edge_laws.proofs.SlotLemmas.{size_one, size_two}
 use Rattle.frame_steps.specs.Stamps.{Stamp}
-use Rattle.split_queue.specs.First.{IsFirstRank}
+use Rattle.split_queue.specs.First.{IsFirstEntry}
 use Rattle.force_split.specs.Chain.{chain_size}
 use Rattle.triangle_pool.specs.Slots.{PoolState}
 use Rattle.deferred_loop.specs.Seen.{upper_of, lower_of, best_key, worst_key, sure, IsHead}
 use Rattle.roam_mesh.specs.Mesh.{slot_of, pool_members}
-use Rattle.roam_mesh.specs.Parts.{PartsState, stamp_in, best_of, worst_of, entry_at, entry_of, seen_parts, is_leaf_at, is_chief_at, is_out, leaf_rank, diamond_rank, blank, IsWhole, IsPlaced, IsParts}
+use Rattle.roam_mesh.specs.Parts.{PartsState, stamp_in, best_of, merging_key, entry_at, entry_of, seen_parts, is_leaf_at, is_chief_at, is_out, leaf_rank, diamond_rank, blank, IsWhole, IsPlaced, IsParts}
 use Rattle.roam_mesh.specs.Keys.{is_sure}
 use Rattle.roam_mesh.specs.declared.entry.Entry.{Entry}
 use Rattle.roam_mesh.proofs.PlaceLemmas.{slot_of-at, live_below}
@@ -88,7 +88,7 @@ unfolding best_key
 best_key_seen parts a = ap (cond (entry_of parts a).known (entry_of parts a).exact) (upper_in (entry_of parts a))
 
 -- and so is its worst
-pub worst_key_seen : (parts : PartsState) (a : ℕ) → worst_key (seen_parts parts) a ≡ worst_of (entry_of parts a)
+pub worst_key_seen : (parts : PartsState) (a : ℕ) → worst_key (seen_parts parts) a ≡ merging_key (entry_of parts a)
 unfolding worst_key
 worst_key_seen parts a = ap (cond (entry_of parts a).known (entry_of parts a).exact) (lower_in (entry_of parts a))
 
@@ -120,7 +120,7 @@ settled_placed parts s none = ap (λ xs. among xs s) none
 -- ---- the head of the split queue
 
 leaf_head : (parts : PartsState) (slot : Slot) → IsParts parts → parts.fresh ≡ [] → is_leaf_at parts.pool.pairs slot.0 ≡ true →
-    IsFirstRank parts.split slot (leaf_rank parts slot.0) →
+    IsFirstEntry parts.split slot (leaf_rank parts slot.0) →
     IsHead (seen_parts parts) (record { rank = leaf_rank parts slot.0; slot = slot; sure = is_sure (entry_at parts slot.0) })
 leaf_head parts slot is none leaf first =
     let a : ℕ = address_at parts.pool.pairs slot.0 in
@@ -156,11 +156,11 @@ leaf_head parts slot is none leaf first =
 -- the first key of the split queue is the head, and e is what is kept of its slot
 pub split_head : (parts : PartsState) (slot : Slot) (rank : Rank) (e : Entry) (certain : Bool) → IsWhole parts → IsParts parts →
     (seen_parts parts).fresh ≡ [] →
-    IsFirstRank parts.split slot rank → e ≡ slice_index_or parts.entries slot.0 e → certain ≡ is_sure e →
+    IsFirstEntry parts.split slot rank → e ≡ slice_index_or parts.entries slot.0 e → certain ≡ is_sure e →
     IsHead (seen_parts parts) (record { rank = rank; slot = slot; sure = certain })
 split_head parts slot rank e certain whole is settled first read says =
     let key = split_key parts (among parts.fresh) slot.0 rank is.placed first.0 in
-    let head = leaf_head parts slot is (settled_fresh parts settled) key.0 (subst (IsFirstRank parts.split slot) key.2 first) in
+    let head = leaf_head parts slot is (settled_fresh parts settled) key.0 (subst (IsFirstEntry parts.split slot) key.2 first) in
     let below = live_below parts.pool.pairs slot.0 (leaf_live parts.pool.pairs slot.0 key.0) in
     let room = whole.entries in
     let kept : e ≡ entry_at parts slot.0 = get_or_read parts.entries slot.0 e (omega arith) read blank in
@@ -168,7 +168,7 @@ split_head parts slot rank e certain whole is settled first read says =
     (subst (λ r. IsHead (seen_parts parts) (record { rank = r; slot = slot; sure = is_sure (entry_at parts slot.0) })) (sym key.2) head)
 
 -- the leaf that its rank names is at its slot
-pub head_at : (parts : PartsState) (slot : Slot) (rank : Rank) → IsParts parts → IsFirstRank parts.split slot rank →
+pub head_at : (parts : PartsState) (slot : Slot) (rank : Rank) → IsParts parts → IsFirstEntry parts.split slot rank →
     address_at parts.pool.pairs slot.0 ≡ rank.tri
 head_at parts slot rank is first = sym (ap (λ (r : Rank). r.tri) (split_key parts (among parts.fresh) slot.0 rank is.placed first.0).2)
 

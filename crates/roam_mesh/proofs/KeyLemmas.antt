@@ -13,7 +13,7 @@ use Rattle.edge_laws.specs.Chief.{chief_of}
 use Rattle.edge_laws.specs.Slots.{address_at, IsLive, IsPool}
 use Rattle.bintree_addr.specs.declared.slot.Slot.{Slot}
 use Rattle.roam_mesh.specs.Mesh.{slot_of}
-use Rattle.roam_mesh.specs.Parts.{PartsState, IsWhole, blank, entry_at, entry_of, is_ready, is_ready_at, best_of, worst_of, leaf_rank, worst_rank, better_of, diamond_rank}
+use Rattle.roam_mesh.specs.Parts.{PartsState, IsWhole, blank, entry_at, entry_of, is_ready, is_ready_at, best_of, merging_key, leaf_rank, worst_rank, better_of, diamond_rank}
 use Rattle.roam_mesh.specs.Keys.{is_sure, IsOfDiamond, IsBetterFirst, IsKnownRank, IsUnasked}
 use Rattle.roam_mesh.specs.declared.entry.Entry.{Entry}
 use Rattle.roam_mesh.proofs.PlaceLemmas.{live_below, slot_of-at, one_slot}
@@ -117,7 +117,7 @@ diamond_rank_own parts a = ⊎_elim
     (cases_lt (mate_of a) 1)
 
 -- the keys of a sure entry are one
-sure_keys : (e : Entry) → is_sure e ≡ true → best_of e ≡ worst_of e
+sure_keys : (e : Entry) → is_sure e ≡ true → best_of e ≡ merging_key e
 sure_keys e sure = by_cases e.known e.stamped e.exact e.upper e.lower sure
   where
     by_cases : (known stamped : Bool) (exact upper lower : ℕ) → (known || nat_eq (cond stamped upper 0) (cond stamped lower 0)) ≡ true →
@@ -250,11 +250,11 @@ module _ (parts : PartsState) (pool : IsPool parts.pool.n parts.pool.pairs) wher
       first : IsKnownRank parts s → ComesFirst (worst_rank parts (address_at parts.pool.pairs b.0)) (leaf_rank parts m.0)
       first known =
           let a : ℕ = address_at parts.pool.pairs b.0 in
-          let no_later : IsNoLater (worst_of (entry_of parts a)) a (best_of (entry_of parts (mate_of a))) (mate_of a) =
-          subst (λ z. 1 ≤ mate_of z → IsNoLater (worst_of (entry_of parts z)) z (best_of (entry_of parts (mate_of z))) (mate_of z)) (sym named) known.mate some in
+          let no_later : IsNoLater (merging_key (entry_of parts a)) a (best_of (entry_of parts (mate_of a))) (mate_of a) =
+          subst (λ z. 1 ≤ mate_of z → IsNoLater (merging_key (entry_of parts z)) z (best_of (entry_of parts (mate_of z))) (mate_of z)) (sym named) known.mate some in
           let there : slot_of parts.pool.pairs (mate_of a) ≡ m.0 = one_slot parts.pool.n parts.pool.pairs m.0 (mate_of a) pool (mate_of-low a live some) better.other.0 in
-          subst (λ z. IsBefore (worst_of (entry_of parts a)) a (best_of (entry_at parts m.0)) z) (sym better.other.0)
-          (subst (λ z. IsBefore (worst_of (entry_of parts a)) a (best_of (entry_at parts z)) (mate_of a)) there
+          subst (λ z. IsBefore (merging_key (entry_of parts a)) a (best_of (entry_at parts m.0)) z) (sym better.other.0)
+          (subst (λ z. IsBefore (merging_key (entry_of parts a)) a (best_of (entry_at parts z)) (mate_of a)) there
           (no_later_other no_later (λ same. mate_of-other a live some (sym same))))
 
   -- the key of a diamond of one triangle is known
@@ -265,25 +265,25 @@ module _ (parts : PartsState) (pool : IsPool parts.pool.n parts.pool.pairs) wher
       let none : mate_of (address_at parts.pool.pairs b.0) ≡ 0 = better.alone.0 refl in
       record {
         own = subst (λ (z : Rank). is_sure (entry_of parts z.tri) ≡ true) better.key own;
-        mate = subst (λ (z : Rank). 1 ≤ mate_of z.tri → IsNoLater (worst_of (entry_of parts z.tri)) z.tri (best_of (entry_of parts (mate_of z.tri))) (mate_of z.tri)) better.key (λ some. absurd (omega arith));
+        mate = subst (λ (z : Rank). 1 ≤ mate_of z.tri → IsNoLater (merging_key (entry_of parts z.tri)) z.tri (best_of (entry_of parts (mate_of z.tri))) (mate_of z.tri)) better.key (λ some. absurd (omega arith));
       }
 
   -- and so is that of two where the other one is sure, or comes later by the best that it can be
   pub known_two : (s : ℕ) (b m : Slot) → is_ready_at parts.pool.pairs s ≡ true → IsBetterFirst parts s (b, Some m) → is_sure (entry_at parts b.0) ≡ true →
-      (is_sure (entry_at parts m.0) ≡ true) ⊎ IsBefore (worst_of (entry_of parts (address_at parts.pool.pairs b.0))) (address_at parts.pool.pairs b.0) (best_of (entry_at parts m.0)) (address_at parts.pool.pairs m.0) → IsKnownRank parts s
+      (is_sure (entry_at parts m.0) ≡ true) ⊎ IsBefore (merging_key (entry_of parts (address_at parts.pool.pairs b.0))) (address_at parts.pool.pairs b.0) (best_of (entry_at parts m.0)) (address_at parts.pool.pairs m.0) → IsKnownRank parts s
   known_two s b m ready better sure decided =
       let a : ℕ = address_at parts.pool.pairs b.0 in
       let live : 2 ≤ address_at parts.pool.pairs b.0 = ready_live parts.pool.pairs b.0 better.ready in
       let own : is_sure (entry_of parts (address_at parts.pool.pairs b.0)) ≡ true = subst (λ z. is_sure (entry_at parts z) ≡ true) (sym (slot_of-at parts.pool.n parts.pool.pairs b.0 pool live)) sure in
       record {
         own = subst (λ (z : Rank). is_sure (entry_of parts z.tri) ≡ true) better.key own;
-        mate = subst (λ (z : Rank). 1 ≤ mate_of z.tri → IsNoLater (worst_of (entry_of parts z.tri)) z.tri (best_of (entry_of parts (mate_of z.tri))) (mate_of z.tri)) better.key
+        mate = subst (λ (z : Rank). 1 ≤ mate_of z.tri → IsNoLater (merging_key (entry_of parts z.tri)) z.tri (best_of (entry_of parts (mate_of z.tri))) (mate_of z.tri)) better.key
             (λ some. no_later some (one_slot parts.pool.n parts.pool.pairs m.0 (mate_of a) pool (mate_of-low a live some) better.other.0) decided);
       }
     where
       no_later : 1 ≤ mate_of (address_at parts.pool.pairs b.0) → slot_of parts.pool.pairs (mate_of (address_at parts.pool.pairs b.0)) ≡ m.0 →
-          (is_sure (entry_at parts m.0) ≡ true) ⊎ IsBefore (worst_of (entry_of parts (address_at parts.pool.pairs b.0))) (address_at parts.pool.pairs b.0) (best_of (entry_at parts m.0)) (address_at parts.pool.pairs m.0) →
-          IsNoLater (worst_of (entry_of parts (address_at parts.pool.pairs b.0))) (address_at parts.pool.pairs b.0)
+          (is_sure (entry_at parts m.0) ≡ true) ⊎ IsBefore (merging_key (entry_of parts (address_at parts.pool.pairs b.0))) (address_at parts.pool.pairs b.0) (best_of (entry_at parts m.0)) (address_at parts.pool.pairs m.0) →
+          IsNoLater (merging_key (entry_of parts (address_at parts.pool.pairs b.0))) (address_at parts.pool.pairs b.0)
           (best_of (entry_of parts (mate_of (address_at parts.pool.pairs b.0)))) (mate_of (address_at parts.pool.pairs b.0))
       no_later some there (inl other) =
           let a : ℕ = address_at parts.pool.pairs b.0 in
@@ -291,10 +291,10 @@ module _ (parts : PartsState) (pool : IsPool parts.pool.n parts.pool.pairs) wher
           sym (diamond_two parts a some) ∙ diamond_same parts s b.0 (ready_live parts.pool.pairs s ready) better.own ∙ sym better.key in
           let least : IsNoLater (worst_rank parts a).p a (worst_rank parts (mate_of a)).p (mate_of a) =
           subst (λ (z : Rank). IsNoLater z.p z.tri (worst_rank parts (mate_of a)).p (mate_of a)) same (better_least (worst_rank parts a) (worst_rank parts (mate_of a))).1 in
-          subst (λ z. IsNoLater (worst_of (entry_of parts a)) a z (mate_of a)) (sym (sure_keys (entry_of parts (mate_of a)) (subst (λ z. is_sure (entry_at parts z) ≡ true) (sym there) other))) least
+          subst (λ z. IsNoLater (merging_key (entry_of parts a)) a z (mate_of a)) (sym (sure_keys (entry_of parts (mate_of a)) (subst (λ z. is_sure (entry_at parts z) ≡ true) (sym there) other))) least
       no_later some there (inr before) =
           let a : ℕ = address_at parts.pool.pairs b.0 in
-          let first : IsBefore (worst_of (entry_of parts a)) a (best_of (entry_of parts (mate_of a))) (mate_of a) =
-          subst (λ z. IsBefore (worst_of (entry_of parts a)) a (best_of (entry_at parts z)) (mate_of a)) (sym there)
-          (subst (λ z. IsBefore (worst_of (entry_of parts a)) a (best_of (entry_at parts m.0)) z) better.other.0 before) in
+          let first : IsBefore (merging_key (entry_of parts a)) a (best_of (entry_of parts (mate_of a))) (mate_of a) =
+          subst (λ z. IsBefore (merging_key (entry_of parts a)) a (best_of (entry_at parts z)) (mate_of a)) (sym there)
+          (subst (λ z. IsBefore (merging_key (entry_of parts a)) a (best_of (entry_at parts m.0)) z) better.other.0 before) in
           ⊎_elim (λ more. inl more) (λ tie. inr (tie.0, omega arith)) first

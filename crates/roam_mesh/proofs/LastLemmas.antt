@@ -15,11 +15,11 @@ use Rattle.bintree_addr.specs.declared.slot.Slot.{Slot}
 use Rattle.bintree_addr.specs.RankOrder.{ComesFirst}
 use Rattle.slot_heap.specs.Keys.{IsEmpty}
 use Rattle.edge_laws.specs.Chief.{chief_of}
-use Rattle.merge_queue.specs.Last.{IsLastRank}
+use Rattle.merge_queue.specs.Last.{IsLastEntry}
 use Rattle.deferred_loop.specs.Seen.{best_key, worst_key, sure, IsDecided, IsToAsk, IsLastHead}
 use Rattle.deferred_loop.specs.declared.queued.Located.{Located}
 use Rattle.roam_mesh.specs.Mesh.{slot_of, pool_members}
-use Rattle.roam_mesh.specs.Parts.{PartsState, entry_at, entry_of, best_of, worst_of, seen_parts, is_ready_at, is_out, worst_rank, diamond_rank, IsParts}
+use Rattle.roam_mesh.specs.Parts.{PartsState, entry_at, entry_of, best_of, merging_key, seen_parts, is_ready_at, is_out, worst_rank, diamond_rank, IsParts}
 use Rattle.roam_mesh.specs.Change.{chief_slot}
 use Rattle.roam_mesh.specs.Keys.{is_sure, IsOfDiamond, IsKnownRank, IsTurn, IsUnasked}
 use Rattle.roam_mesh.proofs.PlaceLemmas.{slot_of-at}
@@ -102,7 +102,7 @@ module _ (parts : PartsState) (is : IsParts parts) (none : parts.fresh ≡ []) w
 
   -- the head of the queue
 
-  module _ (head : Slot) (rank : Rank) (last : IsLastRank parts.merge head rank) where
+  module _ (head : Slot) (rank : Rank) (last : IsLastEntry parts.merge head rank) where
     -- the triangle at its slot
     abbrev top : ℕ
     top = address_at parts.pool.pairs head.0
@@ -186,7 +186,7 @@ module _ (parts : PartsState) (is : IsParts parts) (none : parts.fresh ≡ []) w
         IsNoLater (worst_key (seen_parts parts) rank.tri) rank.tri (worst_key (seen_parts parts) b) b
     better_than b inside = subst (λ z. IsNoLater z rank.tri (worst_key (seen_parts parts) b) b) value
         (subst (λ z. IsNoLater rank.p rank.tri z b) (sym (worst_key_seen parts b))
-        (subst (λ (z : Rank). IsNoLater z.p z.tri (worst_of (entry_of parts b)) b) (sym own_diamond)
+        (subst (λ (z : Rank). IsNoLater z.p z.tri (merging_key (entry_of parts b)) b) (sym own_diamond)
         (diamond_least parts rank.tri b (diamond_mate parts.pool.n rank.tri b bounds.0 bounds.1 inside))))
 
     -- the key of each queued diamond comes no later
@@ -223,9 +223,9 @@ module _ (parts : PartsState) (is : IsParts parts) (none : parts.fresh ≡ []) w
     -- where the rank is known, the loop sees a head that is decided
     decided : IsKnownRank parts head.0 → IsDecided (seen_parts parts) rank.tri
     decided known =
-        let mate : 1 ≤ mate_of rank.tri → IsNoLater (worst_of (entry_of parts rank.tri)) rank.tri
+        let mate : 1 ≤ mate_of rank.tri → IsNoLater (merging_key (entry_of parts rank.tri)) rank.tri
         (best_of (entry_of parts (mate_of rank.tri))) (mate_of rank.tri) =
-        subst (λ (z : Rank). 1 ≤ mate_of z.tri → IsNoLater (worst_of (entry_of parts z.tri)) z.tri
+        subst (λ (z : Rank). 1 ≤ mate_of z.tri → IsNoLater (merging_key (entry_of parts z.tri)) z.tri
         (best_of (entry_of parts (mate_of z.tri))) (mate_of z.tri)) key_is known.mate in
         record {
           own = sure_seen parts rank.tri ∙ subst (λ (z : Rank). is_sure (entry_of parts z.tri) ≡ true) key_is known.own;
@@ -233,8 +233,8 @@ module _ (parts : PartsState) (is : IsParts parts) (none : parts.fresh ≡ []) w
               let same : mate_of rank.tri ≡ b = mate_of-IsMate parts.pool.n rank.tri b bounds.0 bounds.1 other in
               let some : 2 ≤ b = other.address.low in
               subst (λ z. IsNoLater z rank.tri (best_key (seen_parts parts) b) b) (sym (worst_key_seen parts rank.tri))
-              (subst (λ z. IsNoLater (worst_of (entry_of parts rank.tri)) rank.tri z b) (sym (best_key_seen parts b))
-              (subst (λ z. IsNoLater (worst_of (entry_of parts rank.tri)) rank.tri (best_of (entry_of parts z)) z) same
+              (subst (λ z. IsNoLater (merging_key (entry_of parts rank.tri)) rank.tri z b) (sym (best_key_seen parts b))
+              (subst (λ z. IsNoLater (merging_key (entry_of parts rank.tri)) rank.tri (best_of (entry_of parts z)) z) same
               (mate (omega arith))));
         }
 
@@ -242,9 +242,9 @@ module _ (parts : PartsState) (is : IsParts parts) (none : parts.fresh ≡ []) w
     known_of : IsDecided (seen_parts parts) rank.tri → IsKnownRank parts head.0
     known_of d = record {
       own = subst (λ (z : Rank). is_sure (entry_of parts z.tri) ≡ true) (sym key_is) (sym (sure_seen parts rank.tri) ∙ d.own);
-      mate = subst (λ (z : Rank). 1 ≤ mate_of z.tri → IsNoLater (worst_of (entry_of parts z.tri)) z.tri
+      mate = subst (λ (z : Rank). 1 ≤ mate_of z.tri → IsNoLater (merging_key (entry_of parts z.tri)) z.tri
           (best_of (entry_of parts (mate_of z.tri))) (mate_of z.tri)) (sym key_is)
-          (λ some. subst (λ z. IsNoLater (worst_of (entry_of parts rank.tri)) rank.tri z (mate_of rank.tri))
+          (λ some. subst (λ z. IsNoLater (merging_key (entry_of parts rank.tri)) rank.tri z (mate_of rank.tri))
           (best_key_seen parts (mate_of rank.tri))
           (subst (λ z. IsNoLater z rank.tri (best_key (seen_parts parts) (mate_of rank.tri)) (mate_of rank.tri))
           (worst_key_seen parts rank.tri)

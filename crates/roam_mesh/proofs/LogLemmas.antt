@@ -15,7 +15,7 @@ use Rattle.force_split.specs.Chain.{IsChain, AreAnswers, IsBornOf, chain_size}
 use Rattle.deferred_loop.specs.Seen.{PoolSet}
 use Rattle.deferred_loop.specs.Log.{Log, IsListed, IsLogged}
 use Rattle.roam_mesh.specs.Mesh.{pool_members, pool_set}
-use Rattle.roam_mesh.specs.Splitting.{born_slots, IsCarriedOut}
+use Rattle.roam_mesh.specs.Splitting.{born_slots, IsChainSplit}
 use Rattle.roam_mesh.specs.Log.{with_one, noted, noted_all, second_parent, parents_of, diamond_of, IsBornOfSplit}
 use Rattle.roam_mesh.proofs.SlotListLemmas.{in_left, in_right, in_first, in_later, in_cases, choice_in, all_of}
 use Rattle.roam_mesh.proofs.ChainSlotLemmas.{link_leaf}
@@ -175,7 +175,7 @@ parents_size old new (c ∷ rest) answers (before, born, same, are, answer) =
 
 -- so what a chain of splits gives out tells what it split
 pub carried_born : (before after : PoolState) (chain : List ℕ) (answers : List Born) → IsChain before.pairs chain →
-    IsCarriedOut before after chain answers → IsBornOfSplit before after answers
+    IsChainSplit before after chain answers → IsBornOfSplit before after answers
 carried_born before after chain answers linked carried = record {
   low = all_of (λ r. 4 ≤ address_at after.pairs r) (born_slots answers) (λ r h.
       let found = born_parent before.pairs after.pairs chain answers r carried.answered (in_born answers r h) in

@@ -13,7 +13,7 @@ use Rattle.frame_steps.specs.Stamps.{Stamp, Readings, StampsHold}
 use Rattle.deferred_loop.specs.Seen.{IsQuiet}
 use Rattle.deferred_loop.specs.Log.{Log}
 use Rattle.roam_mesh.specs.Mesh.{MeshState, slot_of, stamp_of, pool_members, with_expired, uncounted, OnlyEntriesStamped, seen_of}
-use Rattle.roam_mesh.specs.Parts.{PartsState, entry_at, entry_of, blank, best_of, worst_of, better_of, deadline_of, stamp_in, seen_parts, mesh_of, is_leaf_at, is_chief_at, is_entry_at, is_out, IsParts, IsWhole}
+use Rattle.roam_mesh.specs.Parts.{PartsState, entry_at, entry_of, blank, best_of, merging_key, better_of, deadline_of, stamp_in, seen_parts, mesh_of, is_leaf_at, is_chief_at, is_entry_at, is_out, IsParts, IsWhole}
 use Rattle.roam_mesh.specs.Change.{expired_at}
 use Rattle.roam_mesh.specs.declared.entry.Entry.{Entry}
 use Rattle.roam_mesh.proofs.PlaceLemmas.{at-slot_of, one_slot, live_below}
@@ -116,11 +116,11 @@ expired_parts parts s whole live is =
             (better_of (record { p = x; tri = a }) (record { p = y; tri = mate_of a })) in
             is.placed.merge r
             ∙ ap (λ x. cond (is_chief_at pairs r && not (is_out pairs (among parts.fresh) r))
-            (Some (rank x (worst_of (entry_of parts (mate_of a))))) None)
-            (sym (expired_read worst_of (λ e. refl) parts s (slot_of pairs a) below))
+            (Some (rank x (merging_key (entry_of parts (mate_of a))))) None)
+            (sym (expired_read merging_key (λ e. refl) parts s (slot_of pairs a) below))
             ∙ ap (λ y. cond (is_chief_at pairs r && not (is_out pairs (among parts.fresh) r))
-            (Some (rank (worst_of (entry_of (expired_at parts s) a)) y)) None)
-            (sym (expired_read worst_of (λ e. refl) parts s (slot_of pairs (mate_of a)) below));
+            (Some (rank (merging_key (entry_of (expired_at parts s) a)) y)) None)
+            (sym (expired_read merging_key (λ e. refl) parts s (slot_of pairs (mate_of a)) below));
         due = λ r. ⊎_elim
             (λ own. subst (λ z. slice_index_or (expired_at parts s).due z None ≡ cond (test z)
             (Some (deadline_of (entry_at (expired_at parts s) z))) None) own

@@ -14,7 +14,7 @@ use Rattle.edge_laws.proofs.MateLemmas.{mate_of-low, mate_of-back}
 use Rattle.edge_laws.specs.Chief.{chief_of}
 use Rattle.roam_mesh.specs.declared.entry.Entry.{Entry}
 use Rattle.roam_mesh.specs.Mesh.{slot_of}
-use Rattle.roam_mesh.specs.Parts.{PartsState, blank, entry_at, entry_of, best_of, worst_of, leaf_rank, worst_rank, better_of, diamond_rank, deadline_of, is_leaf_at, is_ready_at, is_chief_at, is_entry_at, is_out, IsSlotList, IsWhole, IsPlaced}
+use Rattle.roam_mesh.specs.Parts.{PartsState, blank, entry_at, entry_of, best_of, merging_key, leaf_rank, worst_rank, better_of, diamond_rank, deadline_of, is_leaf_at, is_ready_at, is_chief_at, is_entry_at, is_out, IsSlotList, IsWhole, IsPlaced}
 use Rattle.roam_mesh.specs.Change.{chief_slot, gone_entry, taken_out, left, left_all, is_mate_fresh}
 use Rattle.roam_mesh.proofs.PlaceLemmas.{live_below, slot_of-at, one_slot, entry_at-set}
 use Rattle.roam_mesh.proofs.RoleLemmas.{entry_live, ready_live, not_both, entry_cases, ready_mate, chief_ready}
@@ -234,7 +234,7 @@ taken_placed parts out s whole pool entry placed = ⊎_elim
 
 -- what is kept of a slot, with its address, as the key of a diamond's triangle
 abbrev worst_by : Entry → ℕ → Rank
-worst_by e a = record { p = worst_of e; tri = a }
+worst_by e a = record { p = merging_key e; tri = a }
 
 -- what is kept of another slot stays
 pub entry_other : (parts : PartsState) (s r : ℕ) (e : Entry) → s < length parts.entries → s ≢ r → slice_index_or (slice_set parts.entries s e) r blank ≡ entry_at parts r
@@ -408,11 +408,11 @@ left_all-append parts (x ∷ xs) ys = left_all-append (left parts x) xs ys
 
 -- the key of a live slot's triangle, by the worst
 pub worst_read : (parts : PartsState) (s p tri : ℕ) → IsPool parts.pool.n parts.pool.pairs → IsLive parts.pool.pairs s →
-    p ≡ worst_of (entry_at parts s) → tri ≡ address_at parts.pool.pairs s → record { p = p; tri = tri } ≡ worst_rank parts (address_at parts.pool.pairs s)
+    p ≡ merging_key (entry_at parts s) → tri ≡ address_at parts.pool.pairs s → record { p = p; tri = tri } ≡ worst_rank parts (address_at parts.pool.pairs s)
 worst_read parts s p tri pool live value at =
     let slot : slot_of parts.pool.pairs (address_at parts.pool.pairs s) ≡ s = slot_of-at parts.pool.n parts.pool.pairs s pool live in
-    let known : p ≡ worst_of (entry_of parts (address_at parts.pool.pairs s)) = value ∙ ap (λ q. worst_of (entry_at parts q)) (sym slot) in
-    ap (λ (z : ℕ). worst_pair z tri) known ∙ ap (λ (z : ℕ). worst_pair (worst_of (entry_of parts (address_at parts.pool.pairs s))) z) at
+    let known : p ≡ merging_key (entry_of parts (address_at parts.pool.pairs s)) = value ∙ ap (λ q. merging_key (entry_at parts q)) (sym slot) in
+    ap (λ (z : ℕ). worst_pair z tri) known ∙ ap (λ (z : ℕ). worst_pair (merging_key (entry_of parts (address_at parts.pool.pairs s))) z) at
   where
     worst_pair : ℕ → ℕ → Rank
     worst_pair p tri = record { p = p; tri = tri }

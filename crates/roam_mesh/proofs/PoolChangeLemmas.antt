@@ -8,7 +8,7 @@ use Rattle.edge_laws.specs.Chief.{chief_of}
 use Rattle.triangle_pool.specs.Slots.{PoolState}
 use Rattle.bintree_addr.specs.declared.rank.Rank.{Rank}
 use Rattle.roam_mesh.specs.Mesh.{slot_of, pool_members}
-use Rattle.roam_mesh.specs.Parts.{PartsState, entry_at, worst_of, is_leaf_at, is_ready_at, is_chief_at, is_entry_at, is_out, leaf_rank, better_of, diamond_rank, deadline_of, IsPlaced, IsWhole, seen_parts, stamp_in, IsNear}
+use Rattle.roam_mesh.specs.Parts.{PartsState, entry_at, merging_key, is_leaf_at, is_ready_at, is_chief_at, is_entry_at, is_out, leaf_rank, better_of, diamond_rank, deadline_of, IsPlaced, IsWhole, seen_parts, stamp_in, IsNear}
 use Rattle.roam_mesh.proofs.PlaceLemmas.{slot_of-at, one_slot}
 use Rattle.roam_mesh.proofs.RoleLemmas.{leaf_entry, ready_entry, entry_cases, ready_live, ready_mate, entry_live, entry_of-at, entry_at-of, IsChiefIn, chief_in, in_chief}
 use Rattle.roam_mesh.proofs.TestLemmas.{same_cond}
@@ -102,7 +102,7 @@ rank_same : (parts : PartsState) (pool : PoolState) (a : ℕ) → slot_of pool.p
     (1 ≤ mate_of a → slot_of pool.pairs (mate_of a) ≡ slot_of parts.pool.pairs (mate_of a)) →
     diamond_rank parts a ≡ diamond_rank (record parts { pool = pool }) a
 rank_same parts pool a own other =
-    let rank : ℕ → ℕ → Rank = λ t b. record { p = worst_of (entry_at parts t); tri = b } in
+    let rank : ℕ → ℕ → Rank = λ t b. record { p = merging_key (entry_at parts t); tri = b } in
     let first : rank (slot_of parts.pool.pairs a) a ≡ rank (slot_of pool.pairs a) a = ap (λ t. rank t a) (sym own) in
     by_bool (nat_eq (mate_of a) 0)
     (λ none. cond-true (nat_eq (mate_of a) 0) _ _ none ∙ first ∙ sym (cond-true (nat_eq (mate_of a) 0) _ _ none))

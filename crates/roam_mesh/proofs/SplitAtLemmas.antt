@@ -13,7 +13,7 @@ use Rattle.force_split.specs.Chain.{IsChain, AreAnswers, IsGainOf, chain_size}
 use Rattle.roam_mesh.specs.Mesh.{slot_of}
 use Rattle.roam_mesh.specs.Parts.{PartsState, is_leaf_at, is_ready_at}
 use Rattle.roam_mesh.specs.Change.{with_above, with_mate, with_chain, left, left_all, pushed_all, diamond_slots}
-use Rattle.roam_mesh.specs.Splitting.{IsLeafMate, pair_slots, second_slots, born_slots, born_leaves, IsCarriedOut, IsSplitAt}
+use Rattle.roam_mesh.specs.Splitting.{IsLeafMate, pair_slots, second_slots, born_slots, born_leaves, IsChainSplit, IsSplitAt}
 use Rattle.mesh_defs.specs.ClosedSet.{IsLeastClosed}
 use Rattle.roam_mesh.proofs.BornLemmas.{in_born, born_parent}
 use Rattle.roam_mesh.proofs.ChainSlotLemmas.{link_leaf}
@@ -121,12 +121,12 @@ pub record IsPlanned (pool : PoolState) (s : ℕ) (slots : List ℕ) (gain : ℕ
 
 -- what the pool does after the chain has left is a split of the pool before
 pub carried_parts : (parts mid : PartsState) (cut : PoolState) (slots : List ℕ) (answers : List Born) → mid ≡ left_all parts (with_chain parts.pool.pairs slots) →
-    IsCarriedOut mid.pool cut slots answers → IsCarriedOut parts.pool cut slots answers
+    IsChainSplit mid.pool cut slots answers → IsChainSplit parts.pool cut slots answers
 carried_parts parts mid cut slots answers is carried =
-    subst (λ (z : PoolState). IsCarriedOut z cut slots answers) (ap (λ z. z.pool) is ∙ left_all-pool parts (with_chain parts.pool.pairs slots)) carried
+    subst (λ (z : PoolState). IsChainSplit z cut slots answers) (ap (λ z. z.pool) is ∙ left_all-pool parts (with_chain parts.pool.pairs slots)) carried
 
 carried_split : (before cut : PoolState) (s : ℕ) (slots : List ℕ) (gain : ℕ) (answers : List Born) → 1 ≤ length slots → IsPlanned before s slots gain →
-    is_leaf_at before.pairs s ≡ true → IsCarriedOut before cut slots answers → IsPoolSplit before cut s slots answers
+    is_leaf_at before.pairs s ≡ true → IsChainSplit before cut slots answers → IsPoolSplit before cut s slots answers
 carried_split before cut s slots gain answers some planned leaf carried = record {
   pool = carried.old;
   valid = carried.valid;
@@ -142,13 +142,13 @@ carried_split before cut s slots gain answers some planned leaf carried = record
 
 -- so the diamond of the leaf can be merged, also after the new leaves were listed
 pub split_own_ready : (before cut : PoolState) (s : ℕ) (slots : List ℕ) (gain : ℕ) (answers : List Born) → 1 ≤ length slots → IsPlanned before s slots gain →
-    is_leaf_at before.pairs s ≡ true → IsCarriedOut before cut slots answers → is_ready_at cut.pairs s ≡ true
+    is_leaf_at before.pairs s ≡ true → IsChainSplit before cut slots answers → is_ready_at cut.pairs s ≡ true
 split_own_ready before cut s slots gain answers some planned leaf carried =
     own_ready before cut s slots answers (carried_split before cut s slots gain answers some planned leaf carried)
 
 -- and all together is the split
 pub split_at_end : (parts mid cut listed end : PartsState) (s : ℕ) (slots : List ℕ) (gain : ℕ) (answers : List Born) → 1 ≤ length slots → IsPlanned parts.pool s slots gain →
-    is_leaf_at parts.pool.pairs s ≡ true → mid ≡ left_all parts (with_chain parts.pool.pairs slots) → IsCarriedOut mid.pool cut.pool slots answers →
+    is_leaf_at parts.pool.pairs s ≡ true → mid ≡ left_all parts (with_chain parts.pool.pairs slots) → IsChainSplit mid.pool cut.pool slots answers →
     cut ≡ record mid { pool = cut.pool } → listed ≡ pushed_all cut (born_leaves cut.pool.pairs answers) → end ≡ pushed_all listed (diamond_slots listed.pool.pairs s) →
     IsSplitAt parts end s
 split_at_end parts mid cut listed end s slots gain answers some planned leaf left carried rest born diamond =
@@ -157,8 +157,8 @@ split_at_end parts mid cut listed end s slots gain answers some planned leaf lef
     let pool : listed.pool ≡ cut.pool = ap (λ z. z.pool) born ∙ pushed_all-pool cut (born_leaves cut.pool.pairs answers) in
     let now : cut.pool ≡ end.pool = sym (ap (λ z. z.pool) diamond ∙ pushed_all-pool listed (diamond_slots listed.pool.pairs s) ∙ pool) in
     let cut_is : cut ≡ record (left_all parts (with_chain parts.pool.pairs slots)) { pool = cut.pool } = rest ∙ ap (λ (z : PartsState). record z { pool = cut.pool }) left in
-    let final = carried_split parts.pool end.pool s slots gain answers some planned leaf (subst (λ (z : PoolState). IsCarriedOut parts.pool z slots answers) now all) in
-    let counts = subst (λ (z : PoolState). IsCarriedOut parts.pool z slots answers) now all in
+    let final = carried_split parts.pool end.pool s slots gain answers some planned leaf (subst (λ (z : PoolState). IsChainSplit parts.pool z slots answers) now all) in
+    let counts = subst (λ (z : PoolState). IsChainSplit parts.pool z slots answers) now all in
     record {
       chain = slots;
       answers = answers;

@@ -12,11 +12,11 @@ use Rattle.bintree_addr.specs.declared.rank.Rank.{Rank}
 use Rattle.bintree_addr.specs.declared.slot.Slot.{Slot}
 use Rattle.triangle_pool.specs.Slots.{PoolState}
 use Rattle.edge_laws.specs.Chief.{chief_of}
-use Rattle.deferred_loop.specs.Seen.{IsTold, IsForgotten}
+use Rattle.deferred_loop.specs.Seen.{IsRated, IsForgotten}
 use Rattle.frame_steps.specs.Deferred.{IsEntry}
 use Rattle.roam_mesh.specs.Mesh.{slot_of, pool_members, pool_set}
-use Rattle.roam_mesh.specs.Parts.{PartsState, parts_of, blank, stamp_in, best_of, worst_of, deadline_of, entry_at, entry_of, seen_parts, is_leaf_at, is_ready_at, is_chief_at, is_entry_at, is_out, leaf_rank, better_of, diamond_rank, IsSlotList, IsWhole, IsPlaced, IsNear, IsParts}
-use Rattle.roam_mesh.specs.Change.{chief_slot, rekeyed, heard, told, unheard, forgotten}
+use Rattle.roam_mesh.specs.Parts.{PartsState, parts_of, blank, stamp_in, best_of, merging_key, deadline_of, entry_at, entry_of, seen_parts, is_leaf_at, is_ready_at, is_chief_at, is_entry_at, is_out, leaf_rank, better_of, diamond_rank, IsSlotList, IsWhole, IsPlaced, IsNear, IsParts}
+use Rattle.roam_mesh.specs.Change.{chief_slot, rekeyed, heard, rated, unheard, forgotten}
 use Rattle.roam_mesh.specs.declared.entry.Entry.{Entry}
 use Rattle.roam_mesh.proofs.PlaceLemmas.{live_below, slot_of-at, one_slot, entry_at-set, entry_of-set}
 use Rattle.roam_mesh.proofs.RoleLemmas.{entry_live, entry_at-of, ready_live, entry_cases, ready_mate, chief_ready}
@@ -49,8 +49,8 @@ field_kept f parts s e asked below same r = by_bool (nat_eq s r)
     (λ apart. ap f (sym (entry_other parts s r e below (eqb-false s r apart))))
 
 -- diamonds whose triangles have the same keys have the same key
-diamond_by : (before after : PartsState) (a : ℕ) → worst_of (entry_of before a) ≡ worst_of (entry_of after a) →
-    (1 ≤ mate_of a → worst_of (entry_of before (mate_of a)) ≡ worst_of (entry_of after (mate_of a))) → diamond_rank before a ≡ diamond_rank after a
+diamond_by : (before after : PartsState) (a : ℕ) → merging_key (entry_of before a) ≡ merging_key (entry_of after a) →
+    (1 ≤ mate_of a → merging_key (entry_of before (mate_of a)) ≡ merging_key (entry_of after (mate_of a))) → diamond_rank before a ≡ diamond_rank after a
 diamond_by before after a own mate =
     let rank : ℕ → ℕ → Rank = λ tri p. record { p = p; tri = tri } in
     ⊎_elim
@@ -59,11 +59,11 @@ diamond_by before after a own mate =
     (cases_lt (mate_of a) 1)
 
 -- a change that keeps each key keeps the places
-kept_placed : (parts : PartsState) (out : ℕ → Bool) (s : ℕ) (e : Entry) (asked : List ℕ) → s < length parts.entries → best_of e ≡ best_of (entry_at parts s) → worst_of e ≡ worst_of (entry_at parts s) →
+kept_placed : (parts : PartsState) (out : ℕ → Bool) (s : ℕ) (e : Entry) (asked : List ℕ) → s < length parts.entries → best_of e ≡ best_of (entry_at parts s) → merging_key e ≡ merging_key (entry_at parts s) →
     deadline_of e ≡ deadline_of (entry_at parts s) → e.stamped ≡ (entry_at parts s).stamped → e.known ≡ (entry_at parts s).known → IsPlaced parts out → IsPlaced (changed parts s e asked) out
 kept_placed parts out s e asked below best worst deadline stamped known placed =
     let pairs : List ℕ = parts.pool.pairs in
-    let worst_same : (r : ℕ) → worst_of (entry_at parts r) ≡ worst_of (entry_at (changed parts s e asked) r) = field_kept worst_of parts s e asked below worst in
+    let worst_same : (r : ℕ) → merging_key (entry_at parts r) ≡ merging_key (entry_at (changed parts s e asked) r) = field_kept merging_key parts s e asked below worst in
     let rank : ℕ → ℕ → Rank = λ tri p. record { p = p; tri = tri } in
     record {
       split = λ r. placed.split r ∙ ap (λ p. cond (is_leaf_at pairs r && not (out r)) (Some (rank (address_at pairs r) p)) None) (field_kept best_of parts s e asked below best r);
@@ -82,8 +82,8 @@ diamond_apart parts s r e asked pool below ready own mate =
     let pairs : List ℕ = parts.pool.pairs in
     let slot : slot_of pairs (address_at pairs r) ≡ r = slot_of-at parts.pool.n pairs r pool (ready_live pairs r ready) in
     diamond_by parts (changed parts s e asked) (address_at pairs r)
-    (ap worst_of (sym (entry_other parts s (slot_of pairs (address_at pairs r)) e below (λ same. own (same ∙ slot)))))
-    (λ some. ap worst_of (sym (entry_other parts s (slot_of pairs (mate_of (address_at pairs r))) e below (mate some))))
+    (ap merging_key (sym (entry_other parts s (slot_of pairs (address_at pairs r)) e below (λ same. own (same ∙ slot)))))
+    (λ some. ap merging_key (sym (entry_other parts s (slot_of pairs (mate_of (address_at pairs r))) e below (mate some))))
 
 module _ (parts : PartsState) (out : ℕ → Bool) (s : ℕ) (e : Entry) (asked : List ℕ) (whole : IsWhole parts) (pool : IsPool parts.pool.n parts.pool.pairs)
     (entry : is_entry_at parts.pool.pairs s ≡ true) (none : (q : ℕ) → out q ≡ false) (deadline : deadline_of e ≡ deadline_of (entry_at parts s)) (placed : IsPlaced parts out) where
@@ -250,11 +250,11 @@ unheard_whole parts rest s whole asked =
 
 -- the places after a slot was told
 told_placed : (parts : PartsState) (out : ℕ → Bool) (s p : ℕ) → IsWhole parts → IsPool parts.pool.n parts.pool.pairs → is_entry_at parts.pool.pairs s ≡ true →
-    ((q : ℕ) → out q ≡ false) → IsPlaced parts out → IsPlaced (told parts s p) out
+    ((q : ℕ) → out q ≡ false) → IsPlaced parts out → IsPlaced (rated parts s p) out
 told_placed parts out s p whole pool entry none placed = renewed_placed parts out s (heard (entry_at parts s) p) (asked_with parts s) whole pool entry none refl placed
 
 -- what holds between two calls of the loop still does
-pub told_parts : (parts : PartsState) (s p : ℕ) → IsWhole parts → IsParts parts → parts.fresh ≡ [] → is_entry_at parts.pool.pairs s ≡ true → IsParts (told parts s p)
+pub told_parts : (parts : PartsState) (s p : ℕ) → IsWhole parts → IsParts parts → parts.fresh ≡ [] → is_entry_at parts.pool.pairs s ≡ true → IsParts (rated parts s p)
 told_parts parts s p whole is none entry = record {
   pool = is.pool;
   near = λ r.
@@ -269,13 +269,13 @@ told_parts parts s p whole is none entry = record {
 
 -- and the loop sees a told rank
 pub told_seen : (parts : PartsState) (s : ℕ) (rank : Rank) → IsWhole parts → IsPool parts.pool.n parts.pool.pairs → IsLive parts.pool.pairs s → address_at parts.pool.pairs s ≡ rank.tri →
-    IsTold (seen_parts parts) (seen_parts (told parts s rank.p)) rank
+    IsRated (seen_parts parts) (seen_parts (rated parts s rank.p)) rank
 told_seen parts s rank whole pool live at =
     let e : Entry = heard (entry_at parts s) rank.p in
     let slot = live_below parts.pool.pairs s live in
     let size = whole.entries in
     let below : s < length parts.entries = omega arith in
-    let kept : (a : ℕ) → entry_of (told parts s rank.p) a ≡ cond (nat_eq rank.tri a) e (entry_of parts a) = λ a.
+    let kept : (a : ℕ) → entry_of (rated parts s rank.p) a ≡ cond (nat_eq rank.tri a) e (entry_of parts a) = λ a.
     entry_of-set parts.pool.n parts.pool.pairs parts.entries s e a pool live below ∙ ap (λ t. cond (nat_eq t a) e (entry_of parts a)) at in
     record {
       set = refl;

@@ -1,7 +1,7 @@
 -- What each call does to the parts of a mesh, as functions.
 -- All of it is this project's own.
 -- Words: chief_slot, diamond_slots, child_slots, above_slots, with_above, with_mate, with_chain, gone_entry, taken_out, left, left_all,
--- pushed, pushed_all, rekeyed, is_mate_fresh, put_in, heard, told, read_entry, entered, seated, unheard, forgotten, begun, expired_at.
+-- pushed, pushed_all, rekeyed, is_mate_fresh, put_in, heard, rated, read_entry, entered, seated, unheard, forgotten, begun_at, expired_at.
 use Rattle.std.specs.Prelude.{ℕ, ◌+◌, ◌*◌, ◌/◌, ◌&&◌, ◌||◌, Bool, true, false, cond, nat_le, nat_lt, List, [], ◌∷◌, ◌++◌, None, Some, option_map, slice_index_or, slice_set}
 use Rattle.edge_laws.specs.Edge.{mate_of}
 use Rattle.edge_laws.specs.Slots.{address_at, has_children}
@@ -101,8 +101,8 @@ put_in parts s = cond (is_leaf_at parts.pool.pairs s || not_fresh parts s) (reke
 abbrev pub heard : Entry → ℕ → Entry
 heard e p = record e { exact = p; known = true; listed = true }
 
-abbrev pub told : PartsState → ℕ → ℕ → PartsState
-told parts s p = rekeyed (record parts {
+abbrev pub rated : PartsState → ℕ → ℕ → PartsState
+rated parts s p = rekeyed (record parts {
   entries = slice_set parts.entries s (heard (entry_at parts s) p);
   asked = cond (entry_at parts s).listed parts.asked (parts.asked ++ (s ∷ []));
 }) s
@@ -147,8 +147,8 @@ forgotten parts rest s = cond (entry_at parts s).known (rekeyed (unasked_slot pa
     unasked_slot parts rest s = record parts { entries = slice_set parts.entries s (unheard (entry_at parts s)); asked = rest }
 
 -- a slot that is due is out of its place, and fresh
-abbrev pub begun : PartsState → ℕ → PartsState
-begun parts s = pushed (taken_out parts s) s
+abbrev pub begun_at : PartsState → ℕ → PartsState
+begun_at parts s = pushed (taken_out parts s) s
 
 -- what is kept of the slot is expired, and its deadline, where it has one, is 0
 abbrev pub expired_at : PartsState → ℕ → PartsState

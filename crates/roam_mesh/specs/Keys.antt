@@ -9,7 +9,7 @@ use Rattle.mesh_defs.specs.Ranking.{IsBefore}
 use Rattle.closure_laws.specs.Order.{IsNoLater}
 use Rattle.bintree_addr.specs.declared.rank.Rank.{Rank}
 use Rattle.bintree_addr.specs.declared.slot.Slot.{Slot}
-use Rattle.roam_mesh.specs.Parts.{PartsState, entry_at, entry_of, is_ready_at, best_of, worst_of, worst_rank, diamond_rank}
+use Rattle.roam_mesh.specs.Parts.{PartsState, entry_at, entry_of, is_ready_at, best_of, merging_key, worst_rank, diamond_rank}
 use Rattle.roam_mesh.specs.declared.entry.Entry.{Entry}
 
 -- the priority of an entry is known: it was told, or its bounds are equal
@@ -34,7 +34,7 @@ pub record IsBetterFirst (parts : PartsState) (s : ℕ) (pair : Slot × Option S
 pub record IsKnownRank (parts : PartsState) (s : ℕ) : Type 0 where
   pub own : is_sure (entry_of parts (diamond_rank parts (chief_of (address_at parts.pool.pairs s))).tri) ≡ true
   pub mate : 1 ≤ mate_of (diamond_rank parts (chief_of (address_at parts.pool.pairs s))).tri →
-      IsNoLater (worst_of (entry_of parts (diamond_rank parts (chief_of (address_at parts.pool.pairs s))).tri)) (diamond_rank parts (chief_of (address_at parts.pool.pairs s))).tri
+      IsNoLater (merging_key (entry_of parts (diamond_rank parts (chief_of (address_at parts.pool.pairs s))).tri)) (diamond_rank parts (chief_of (address_at parts.pool.pairs s))).tri
       (best_of (entry_of parts (mate_of (diamond_rank parts (chief_of (address_at parts.pool.pairs s))).tri))) (mate_of (diamond_rank parts (chief_of (address_at parts.pool.pairs s))).tri)
 
 -- the slot t has the triangle of this key, unless that is sure, or t comes first by the best that each can be

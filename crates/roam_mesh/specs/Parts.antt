@@ -1,6 +1,6 @@
 -- A mesh half way through a frame: its pool, what is kept of each slot, and what the three heaps hold.
 -- All of it is this project's own.
--- Words: PartsState, parts_of, stamp_in, best_of, worst_of, deadline_of, blank, entry_at, entry_of, seen_parts, QueuedState, mesh_of, is_leaf_at, is_bare,
+-- Words: PartsState, parts_of, stamp_in, best_of, merging_key, deadline_of, blank, entry_at, entry_of, seen_parts, QueuedState, mesh_of, is_leaf_at, is_bare,
 -- is_ready, is_ready_at, is_chief_at, is_entry_at, is_out, leaf_rank, worst_rank, better_of, diamond_rank, IsSlotList, IsWhole,
 -- IsPlaced, IsNear, IsParts.
 use Rattle.std.specs.Prelude.{◌≡◌, ℕ, ◌+◌, ◌*◌, ◌^◌, ◌≤◌, Bool, true, false, not, ◌&&◌, ◌||◌, cond, nat_eq, nat_le, nat_lt, List, length, map, take, reverse, Option, None, Some, slice_index, slice_index_or}
@@ -51,8 +51,8 @@ abbrev pub best_of : Entry → ℕ
 best_of e = cond e.known e.exact (cond e.stamped e.upper 0)
 
 -- its key in the merge queue
-abbrev pub worst_of : Entry → ℕ
-worst_of e = cond e.known e.exact (cond e.stamped e.lower 0)
+abbrev pub merging_key : Entry → ℕ
+merging_key e = cond e.known e.exact (cond e.stamped e.lower 0)
 
 -- the odometer from which on it is due
 abbrev pub deadline_of : Entry → ℕ
@@ -122,7 +122,7 @@ leaf_rank parts s = record { p = best_of (entry_at parts s); tri = address_at pa
 
 -- an address with the worst that its priority can be
 abbrev pub worst_rank : PartsState → ℕ → Rank
-worst_rank parts a = record { p = worst_of (entry_of parts a); tri = a }
+worst_rank parts a = record { p = merging_key (entry_of parts a); tri = a }
 
 -- the better of two ranks
 abbrev pub better_of : Rank → Rank → Rank

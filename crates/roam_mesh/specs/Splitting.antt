@@ -1,6 +1,6 @@
 -- What a split does to the parts of a mesh.
 -- All of it is this project's own.
--- Words: pair_slots, second_slots, born_slots, born_leaves, IsLeafMate, IsCarriedOut, IsSplitAt.
+-- Words: pair_slots, second_slots, born_slots, born_leaves, IsLeafMate, IsChainSplit, IsSplitAt.
 use Rattle.std.specs.Prelude.{◌≡◌, ℕ, ◌+◌, ◌/◌, ◌≤◌, ◌⊎◌, true, List, [], ◌∷◌, ◌++◌, length, slice_index, Option, None, Some}
 use Rattle.std.specs.List.{filter}
 use Rattle.mesh_defs.specs.ClosedSet.{IsLeastClosed}
@@ -40,7 +40,7 @@ pub record IsLeafMate (parts : PartsState) (s t : ℕ) : Type 0 where
   pub leaf : is_leaf_at parts.pool.pairs t ≡ true
 
 -- what the pool's splits of a chain do to it
-pub record IsCarriedOut (before after : PoolState) (chain : List ℕ) (answers : List Born) : Type 0 where
+pub record IsChainSplit (before after : PoolState) (chain : List ℕ) (answers : List Born) : Type 0 where
   pub n : after.n ≡ before.n
   pub most : after.most ≡ before.most
   pub merges : after.merges ≡ before.merges

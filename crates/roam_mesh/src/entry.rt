@@ -1,7 +1,7 @@
 //! What is kept of a slot.
 
 ghost use Rattle.std.specs.Prelude.{◌≡◌, ◌<◌, ◌||◌, nat_eq, cond, true, length, Some, slice_set};
-ghost use Rattle.roam_mesh.specs.Parts.{best_of, worst_of, deadline_of, blank, IsNear};
+ghost use Rattle.roam_mesh.specs.Parts.{best_of, merging_key, deadline_of, blank, IsNear};
 ghost use Rattle.roam_mesh.specs.Change.{gone_entry, heard, read_entry, unheard};
 
 use bintree_addr::Slot;
@@ -67,7 +67,7 @@ impl Entry {
 
     /// The worst that it can be.
     pub fn worst(&self) -> u64
-        ensures { result ≡ worst_of self.now }
+        ensures { result ≡ merging_key self.now }
     {
         if self.known {
             self.exact

@@ -3,7 +3,7 @@
 ghost use Rattle.std.specs.Prelude.{◌≡◌, ℕ, ◌<◌, ◌≤◌, ◌+◌, ◌*◌, ◌^◌, ◌++◌, ◌∷◌, List, [], true, false, None, Some, IfNone, IfSome, IsNone, IsSome, length, slice_index_or};
 ghost use Rattle.lazy_priority.specs.Due.{IsDue, NoneIsDue};
 ghost use Rattle.roam_mesh.specs.Parts.{is_leaf_at, is_entry_at, is_ready_at, entry_at, IsWhole, IsPlaced, IsParts};
-ghost use Rattle.roam_mesh.specs.Change.{chief_slot, diamond_slots, above_slots, pushed, pushed_all, told, entered, seated, forgotten, begun};
+ghost use Rattle.roam_mesh.specs.Change.{chief_slot, diamond_slots, above_slots, pushed, pushed_all, rated, entered, seated, forgotten, begun_at};
 ghost use Rattle.roam_mesh.specs.Keeping.{CanTakeBack};
 
 use crate::entry::Entry;
@@ -52,7 +52,7 @@ impl Parts {
         requires leaf { is_leaf_at self.old.pool.pairs s.0 ≡ true → IsSome (slice_index_or self.old.split s.0 None) }
         requires diamond { is_leaf_at self.old.pool.pairs s.0 ≡ false → IsSome (slice_index_or self.old.merge (chief_slot self.old.pool.pairs s.0) None) }
         ensures whole { IsWhole self.old }
-        ensures told { self.new ≡ told self.old s.0 p }
+        ensures told { self.new ≡ rated self.old s.0 p }
     {
         if !self.entries[s.0 as usize].listed {
             self.asked[self.asked_count as usize] = s;
@@ -121,7 +121,7 @@ impl Parts {
         requires entry { (s : ℕ) → IsSome (slice_index_or self.old.due s None) → is_entry_at self.old.pool.pairs s ≡ true }
         ensures whole { IsWhole self.old }
         ensures none { result ≡ false → NoneIsDue self.old.due odometer × (self.new ≡ self.old) }
-        ensures some { result ≡ true → (s : Slot) × IsDue self.old.due odometer s × (self.new ≡ begun self.old s.0) }
+        ensures some { result ≡ true → (s : Slot) × IsDue self.old.due odometer s × (self.new ≡ begun_at self.old s.0) }
     {
         let Some(s) = self.deadlines.due(odometer) else {
             return false;

@@ -12,7 +12,7 @@ ghost use Rattle.roam_mesh.specs.Parts.{is_leaf_at, seen_parts, IsParts};
 ghost use Rattle.roam_mesh.specs.Keeping.{IsKeptMate};
 ghost use Rattle.roam_mesh.specs.Change.{with_mate, with_chain, left_all, pushed_all};
 ghost use Rattle.roam_mesh.specs.Log.{IsBornOfSplit};
-ghost use Rattle.roam_mesh.specs.Splitting.{IsLeafMate, IsCarriedOut, IsSplitAt, pair_slots, second_slots, born_slots, born_leaves};
+ghost use Rattle.roam_mesh.specs.Splitting.{IsLeafMate, IsChainSplit, IsSplitAt, pair_slots, second_slots, born_slots, born_leaves};
 
 use crate::entry::Entry;
 use crate::parts::Parts;
@@ -87,7 +87,7 @@ impl Parts {
         requires coarse { level_of (address_at self.old.pool.pairs (slice_index (numbers chain.now.slots.items) 0)) < 2 * self.old.pool.n }
         requires room { chain.now.gain ≤ room_of self.old.pool.pairs }
         requires count { self.old.pool.splits + 48 < 2 ^ 62 }
-        ensures pool { IsCarriedOut self.old.pool self.new.pool (numbers chain.now.slots.items) result.items }
+        ensures pool { IsChainSplit self.old.pool self.new.pool (numbers chain.now.slots.items) result.items }
         ensures rest { self.new ≡ record self.old { pool = self.new.pool } }
     {
         let _n = self.pool.n();

@@ -21,7 +21,7 @@ use Rattle.run_words.specs.declared.showing.Showing.{Showing}
 use Rattle.run_words.specs.declared.showing.Showing.TheVariants.{Meshes, Strips, Measures}
 use Rattle.run_words.specs.ShowView.{show_seen}
 use Rattle.run_engine.specs.EngineSeen.{engine_seen, HasFollowed}
-use Rattle.run_engine.specs.EngineFrames.{EngineFollows}
+use Rattle.run_engine.specs.EngineFrames.{EngineHasFollowed}
 
 -- an engine that has followed a walk is the one that an outcome tells of
 pub followed-end : (walk : Walk) (pictures : List Picture) (engine : EngineState) → HasFollowed walk pictures engine → engine_seen engine ≡ engine_end walk pictures
@@ -49,7 +49,7 @@ engine-left (Strips prefix) walk ps = refl
 engine-left Measures walk ps = refl
 
 -- the engine that is left is the one that the outcome tells of
-pub leaves-engine : (showing other : Showing) (engine : EngineState) (end : Outcome) → Leaves (show_seen showing) (EngineFollows other engine) end → Some (engine_seen engine) ≡ end.engine
+pub leaves-engine : (showing other : Showing) (engine : EngineState) (end : Outcome) → Leaves (show_seen showing) (EngineHasFollowed other engine) end → Some (engine_seen engine) ≡ end.engine
 leaves-engine showing other engine end leaves =
     ap Some (followed-end leaves.walk leaves.pictures engine leaves.followed.followed) ∙ (sym (engine-left showing leaves.walk leaves.pictures) ∙ leaves.left)
 

@@ -11,7 +11,7 @@ ghost use Rattle.run_laws.specs.Statement.{KeepsBestMeshes, CertifiesMesh, Tells
 ghost use Rattle.run_laws.specs.Leaving.{Runs};
 ghost use Rattle.run_engine.specs.EngineSeen.{engine_seen};
 ghost use Rattle.run_words.specs.WordView.{show_for, scripted_seen, command_seen, IsFrameCommand};
-ghost use Rattle.run_words.specs.WordView.{IsAccepted as IsAcceptedCommand};
+ghost use Rattle.run_words.specs.WordView.{IsCommandInBounds as IsAcceptedCommand};
 ghost use Rattle.run_words.specs.ShowView.{show_seen, IsShowing};
 
 use frame_loop::Engine;

@@ -13,17 +13,17 @@ use Rattle.roam_script.specs.declared.line.Line.{Line}
 use Rattle.roam_script.specs.declared.line.Line.TheVariants.{Blank, Camera, Set, Frame, Plane, NoPlanes, Budget, Raise}
 use Rattle.roam_script.specs.declared.script_fault.ScriptFault.{ScriptFault}
 use Rattle.roam_script.specs.declared.script_fault.ScriptFault.TheVariants.{LineTooLong, UnknownCommand, WrongFields, BadNumber, OutOfRange, TooManyLines, TooManyFrames, TooManyPlanes}
-use Rattle.roam_script.specs.LineText.{command_of, Range, from_to, around, is_within, number_at, size_at, ranges_of, field_number, fields_fault, line_with, line_of, counted_line, checked_line, is_comment, fields_line, line_in}
-use Rattle.roam_script.specs.Laws.{line_fields, IsShort, SaysNothing, word_of, fields_behind, HasCommand, HasFields, AreWithin, NoneIsLeft, IsAndMore, FailsFirst, IsNoNumber, IsOutside, FailsLater, IsSound, IsCounted, LiesInRange}
+use Rattle.roam_script.specs.LineText.{command_in, Range, from_to, around, is_in_range, number_of_field, size_at, ranges_of, field_number, fields_fault, line_with, line_of, counted_line, checked_line, is_comment, fields_line, line_in}
+use Rattle.roam_script.specs.Laws.{line_fields, IsShort, SaysNothing, word_of, fields_behind, HasCommand, HasFields, AreWithin, NoneIsLeft, IsAndMore, FailsFirst, IsNoNumber, IsOutside, FailsLater, IsSoundLine, IsWithinCounts, LiesInRange}
 
 -- Fields
 
 -- a field that passes, then the faults of the others
-fault-passed : (number : ℕ) (range : Range) (ranges : List Range) (field : List ℕ) (fields : List (List ℕ)) (v : ℤ) → signed_in field ≡ Some v → is_within range v ≡ true
+fault-passed : (number : ℕ) (range : Range) (ranges : List Range) (field : List ℕ) (fields : List (List ℕ)) (v : ℤ) → signed_in field ≡ Some v → is_in_range range v ≡ true
     → fields_fault number (range ∷ ranges) (field ∷ fields) ≡ fields_fault (number + 1) ranges fields
 fault-passed number range ranges field fields v is within =
     ap (λ (r : Result ℤ ScriptFault). elim r as (λ _. Option ScriptFault) [ Err fault ↦ Some fault | Ok w ↦ fields_fault (number + 1) ranges fields ])
-    (ap (field_number range number) is ∙ cond-true (is_within range v) (Ok v) (Err (OutOfRange number)) within)
+    (ap (field_number range number) is ∙ cond-true (is_in_range range v) (Ok v) (Err (OutOfRange number)) within)
 
 -- a field that is no number
 fault-no_number : (number : ℕ) (range : Range) (ranges : List Range) (field : List ℕ) (fields : List (List ℕ)) → signed_in field ≡ None
@@ -33,11 +33,11 @@ fault-no_number number range ranges field fields none =
     (ap (field_number range number) none)
 
 -- a field whose number is out of its range
-fault-outside : (number : ℕ) (range : Range) (ranges : List Range) (field : List ℕ) (fields : List (List ℕ)) (v : ℤ) → signed_in field ≡ Some v → is_within range v ≡ false
+fault-outside : (number : ℕ) (range : Range) (ranges : List Range) (field : List ℕ) (fields : List (List ℕ)) (v : ℤ) → signed_in field ≡ Some v → is_in_range range v ≡ false
     → fields_fault number (range ∷ ranges) (field ∷ fields) ≡ Some (OutOfRange number)
 fault-outside number range ranges field fields v is outside =
     ap (λ (r : Result ℤ ScriptFault). elim r as (λ _. Option ScriptFault) [ Err fault ↦ Some fault | Ok w ↦ fields_fault (number + 1) ranges fields ])
-    (ap (field_number range number) is ∙ cond-false (is_within range v) (Ok v) (Err (OutOfRange number)) outside)
+    (ap (field_number range number) is ∙ cond-false (is_in_range range v) (Ok v) (Err (OutOfRange number)) outside)
 
 -- the first fault of fields is that of the first field that fails
 fault-of_fails : (number : ℕ) (ranges : List Range) (fields : List (List ℕ)) (fault : ScriptFault) → FailsFirst number ranges fields fault → fields_fault number ranges fields ≡ Some fault
@@ -63,7 +63,7 @@ FieldsCome number ranges fields None = AreWithin ranges fields
 FieldsCome number ranges fields (Some fault) = FailsFirst number ranges fields fault
 
 -- for what those behind a field that passes come to
-come-later : (number : ℕ) (range : Range) (ranges : List Range) (field : List ℕ) (fields : List (List ℕ)) (v : ℤ) → signed_in field ≡ Some v → is_within range v ≡ true
+come-later : (number : ℕ) (range : Range) (ranges : List Range) (field : List ℕ) (fields : List (List ℕ)) (v : ℤ) → signed_in field ≡ Some v → is_in_range range v ≡ true
     → (fault : Option ScriptFault) → FieldsCome (number + 1) ranges fields fault → FieldsCome number (range ∷ ranges) (field ∷ fields) fault
 come-later number range ranges field fields v is within None more = IsAndMore range ranges field fields v is within more
 come-later number range ranges field fields v is within (Some fault) later = FailsLater number range ranges field fields fault v is within later
@@ -74,7 +74,7 @@ fields-come_first : (number : ℕ) (range : Range) (ranges : List Range) (field 
     → FieldsCome number (range ∷ ranges) (field ∷ fields) (elim (field_number range number read) as (λ _. Option ScriptFault) [ Err fault ↦ Some fault | Ok w ↦ fields_fault (number + 1) ranges fields ])
 fields-come_first number range ranges field fields None is more = IsNoNumber number range ranges field fields is
 fields-come_first number range ranges field fields (Some v) is more =
-    cond_both (is_within range v) (Ok v) (Err (OutOfRange number)) (λ (r : Result ℤ ScriptFault). FieldsCome number (range ∷ ranges) (field ∷ fields) (elim r as (λ _. Option ScriptFault) [ Err fault ↦ Some fault | Ok w ↦ fields_fault (number + 1) ranges fields ]))
+    cond_both (is_in_range range v) (Ok v) (Err (OutOfRange number)) (λ (r : Result ℤ ScriptFault). FieldsCome number (range ∷ ranges) (field ∷ fields) (elim r as (λ _. Option ScriptFault) [ Err fault ↦ Some fault | Ok w ↦ fields_fault (number + 1) ranges fields ]))
     (λ within. come-later number range ranges field fields v is within (fields_fault (number + 1) ranges fields) more)
     (λ outside. IsOutside number range ranges field fields v is outside)
 
@@ -98,7 +98,7 @@ word-no_comment command.Budget = refl
 word-no_comment command.Raise = refl
 
 -- it is read as the command
-pub command-of_word : (word : Command) → command_of (word_of word) ≡ Some word
+pub command-of_word : (word : Command) → command_in (word_of word) ≡ Some word
 command-of_word command.Frame = refl
 command-of_word command.Camera = refl
 command-of_word command.Set = refl
@@ -111,13 +111,13 @@ command-of_word command.Raise = refl
 bytes-same : (first text : List ℕ) → bytes_eq first text ≡ true → first ≡ text
 bytes-same first text same = (bytes_eq-Decides first text).0 same
 
--- what the answer of `command_of` says of the field
+-- what the answer of `command_in` says of the field
 abbrev pub IsCommand : List ℕ → Option Command → Type 0
 IsCommand first None = ⊤
 IsCommand first (Some word) = first ≡ word_of word
 
 -- only the word of a command is read as it
-pub word-of_command : (first : List ℕ) → IsCommand first (command_of first)
+pub word-of_command : (first : List ℕ) → IsCommand first (command_in first)
 word-of_command first =
     let P = IsCommand first in
     cond_both (bytes_eq first (codes "frame")) _ _ P (λ e. bytes-same first (codes "frame") e)
@@ -143,7 +143,7 @@ ranges-count limits command.Raise fields = refl
 
 -- a line of this word passes all tests
 abbrev pub Accepts : Limits → List ℕ → Line → Type 0
-Accepts limits bytes line = (word : Command) × (fields : List (List ℕ)) × IsSound limits bytes word fields × IsCounted limits word × (line ≡ line_with word fields)
+Accepts limits bytes line = (word : Command) × (fields : List (List ℕ)) × IsSoundLine limits bytes word fields × IsWithinCounts limits word × (line ≡ line_with word fields)
 
 -- the first field that fails has this fault
 abbrev pub Fails : Limits → List ℕ → ScriptFault → Type 0
@@ -160,8 +160,8 @@ Why limits bytes (Err UnknownCommand) =
 Why limits bytes (Err WrongFields) = (word : Command) × (fields : List (List ℕ)) × HasCommand limits bytes word fields × (length fields ≢ fields_behind word)
 Why limits bytes (Err (BadNumber number)) = Fails limits bytes (BadNumber number)
 Why limits bytes (Err (OutOfRange number)) = Fails limits bytes (OutOfRange number)
-Why limits bytes (Err TooManyPlanes) = (fields : List (List ℕ)) × IsSound limits bytes command.Plane fields × (MOST_PLANES ≤ limits.planes)
-Why limits bytes (Err TooManyFrames) = (fields : List (List ℕ)) × IsSound limits bytes command.Frame fields × (MOST_FRAMES ≤ limits.frames)
+Why limits bytes (Err TooManyPlanes) = (fields : List (List ℕ)) × IsSoundLine limits bytes command.Plane fields × (MOST_PLANES ≤ limits.planes)
+Why limits bytes (Err TooManyFrames) = (fields : List (List ℕ)) × IsSoundLine limits bytes command.Frame fields × (MOST_FRAMES ≤ limits.frames)
 
 -- a fault of a field is one of its number
 abbrev pub IsOfNumber : ScriptFault → Type 0
@@ -184,7 +184,7 @@ why-fails limits bytes TooManyLines of_number fails = absurd of_number
 why-fails limits bytes TooManyFrames of_number fails = absurd of_number
 why-fails limits bytes TooManyPlanes of_number fails = absurd of_number
 
-why-sound : (limits : Limits) (bytes : List ℕ) (word : Command) (fields : List (List ℕ)) → IsSound limits bytes word fields → Why limits bytes (counted_line limits (Ok (line_with word fields)))
+why-sound : (limits : Limits) (bytes : List ℕ) (word : Command) (fields : List (List ℕ)) → IsSoundLine limits bytes word fields → Why limits bytes (counted_line limits (Ok (line_with word fields)))
 why-sound limits bytes command.Frame fields sound =
     cond_both (ltb limits.frames MOST_FRAMES) (Ok Frame) (Err TooManyFrames) (Why limits bytes)
     (λ e. (command.Frame, fields, sound, ltb-true limits.frames MOST_FRAMES e, refl)) (λ e. (fields, sound, ltb-false limits.frames MOST_FRAMES e))
@@ -205,9 +205,9 @@ why-faults limits bytes word fields (Some fault) counted fails =
     why-fails limits bytes fault (fails-number 1 (ranges_of limits word fields) fields fault fails) (word, fields, counted, fails)
 
 why-word : (limits : Limits) (bytes first : List ℕ) (fields : List (List ℕ)) (word : Option Command) → IsShort limits bytes → line_fields bytes ≡ first ∷ fields
-    → is_comment first ≡ false → command_of first ≡ word → Why limits bytes (checked_line limits word fields)
+    → is_comment first ≡ false → command_in first ≡ word → Why limits bytes (checked_line limits word fields)
 why-word limits bytes first fields None short cut other is =
-    (first, fields, short, cut, other, (λ word same. let e = command-of_word word in let f = ap command_of same in cc))
+    (first, fields, short, cut, other, (λ word same. let e = command-of_word word in let f = ap command_in same in cc))
 why-word limits bytes first fields (Some word) short cut other is =
     let same : first ≡ word_of word = subst (IsCommand first) is (word-of_command first) in
     let begins : HasCommand limits bytes word fields = record { short = short; cut = cut ∙ ap (λ w. w ∷ fields) same } in
@@ -221,8 +221,8 @@ why-word limits bytes first fields (Some word) short cut other is =
 why-fields : (limits : Limits) (bytes : List ℕ) (fields : List (List ℕ)) → IsShort limits bytes → line_fields bytes ≡ fields → Why limits bytes (fields_line limits fields)
 why-fields limits bytes [] short cut = (short, subst SaysNothing (sym cut) tt)
 why-fields limits bytes (first ∷ fields) short cut =
-    cond_both (is_comment first) (Ok Blank) (checked_line limits (command_of first) fields) (Why limits bytes)
-    (λ e. (short, subst SaysNothing (sym cut) e)) (λ e. why-word limits bytes first fields (command_of first) short cut e refl)
+    cond_both (is_comment first) (Ok Blank) (checked_line limits (command_in first) fields) (Why limits bytes)
+    (λ e. (short, subst SaysNothing (sym cut) e)) (λ e. why-word limits bytes first fields (command_in first) short cut e refl)
 
 -- each answer has its cause
 pub why : (limits : Limits) (bytes : List ℕ) → Why limits bytes (line_in limits bytes)
@@ -260,14 +260,14 @@ in-fields limits bytes word fields counted =
     (eq-eqb (length fields) (length (ranges_of limits word fields)) (counted.count ∙ sym (ranges-count limits word fields)))
 
 -- and where they all pass, the counts of planes and frames
-in-sound : (limits : Limits) (bytes : List ℕ) (word : Command) (fields : List (List ℕ)) → IsSound limits bytes word fields
+in-sound : (limits : Limits) (bytes : List ℕ) (word : Command) (fields : List (List ℕ)) → IsSoundLine limits bytes word fields
     → line_in limits bytes ≡ counted_line limits (Ok (line_with word fields))
 in-sound limits bytes word fields sound =
     in-fields limits bytes word fields sound.counted
     ∙ ap (λ (o : Option ScriptFault). counted_line limits (elim o as (λ _. Result Line ScriptFault) [ Some fault ↦ Err fault | None ↦ Ok (line_with word fields) ]))
     (fault-of_within 1 (ranges_of limits word fields) fields sound.within)
 
-counted-accepts : (limits : Limits) (word : Command) (fields : List (List ℕ)) → IsCounted limits word → counted_line limits (Ok (line_with word fields)) ≡ Ok (line_with word fields)
+counted-accepts : (limits : Limits) (word : Command) (fields : List (List ℕ)) → IsWithinCounts limits word → counted_line limits (Ok (line_with word fields)) ≡ Ok (line_with word fields)
 counted-accepts limits command.Frame fields few = cond-true (ltb limits.frames MOST_FRAMES) _ _ (lt-ltb limits.frames MOST_FRAMES few)
 counted-accepts limits command.Plane fields few = cond-true (ltb limits.planes MOST_PLANES) _ _ (lt-ltb limits.planes MOST_PLANES few)
 counted-accepts limits command.Camera fields few = refl
@@ -292,7 +292,7 @@ in-nothing : (limits : Limits) (fields : List (List ℕ)) → SaysNothing fields
 in-nothing limits [] nothing = refl
 in-nothing limits (first ∷ fields) nothing = cond-true (is_comment first) _ _ nothing
 
-in-unknown : (limits : Limits) (bytes first : List ℕ) (fields : List (List ℕ)) (word : Option Command) → command_of first ≡ word → ((w : Command) → first ≢ word_of w) → command_of first ≡ None
+in-unknown : (limits : Limits) (bytes first : List ℕ) (fields : List (List ℕ)) (word : Option Command) → command_in first ≡ word → ((w : Command) → first ≢ word_of w) → command_in first ≡ None
 in-unknown limits bytes first fields None is differs = is
 in-unknown limits bytes first fields (Some word) is differs = absurd (differs word (subst (IsCommand first) is (word-of_command first)))
 
@@ -312,7 +312,7 @@ because limits bytes (Err LineTooLong) w =
     cond-false (ltb MOST_LINES limits.line) _ _ (le-ltb MOST_LINES limits.line w.0) ∙ cond-true (ltb MOST_LINE_BYTES (length bytes)) _ _ (lt-ltb MOST_LINE_BYTES (length bytes) w.1)
 because limits bytes (Err UnknownCommand) (first, fields, short, cut, not_comment, unknown) =
     in-short limits bytes short ∙ ap (fields_line limits) cut ∙ cond-false (is_comment first) _ _ not_comment
-    ∙ ap (λ w. checked_line limits w fields) (in-unknown limits bytes first fields (command_of first) refl unknown)
+    ∙ ap (λ w. checked_line limits w fields) (in-unknown limits bytes first fields (command_in first) refl unknown)
 because limits bytes (Err WrongFields) (word, fields, begins, differ) =
     in-command limits bytes word fields begins
     ∙ cond-false (eqb (length fields) (length (ranges_of limits word fields))) _ _
@@ -354,59 +354,59 @@ range_at (range ∷ ranges) zero = range
 range_at (range ∷ ranges) (suc k) = range_at ranges k
 
 -- fields that pass have numbers in their ranges
-within-at : (ranges : List Range) (fields : List (List ℕ)) (k : ℕ) → AreWithin ranges fields → k < length ranges → is_within (range_at ranges k) (number_at fields k) ≡ true
+within-at : (ranges : List Range) (fields : List (List ℕ)) (k : ℕ) → AreWithin ranges fields → k < length ranges → is_in_range (range_at ranges k) (number_of_field fields k) ≡ true
 within-at _ _ k NoneIsLeft below = absurd (omega arith)
 within-at _ _ zero (IsAndMore range ranges field fields v is within more) below =
-    ap (λ (o : Option ℤ). is_within range (unwrap_or o (pos 0))) is ∙ within
+    ap (λ (o : Option ℤ). is_in_range range (unwrap_or o (pos 0))) is ∙ within
 within-at _ _ (suc k) (IsAndMore range ranges field fields v is within more) below = within-at ranges fields k more (omega arith)
 
 -- a test of a range tells both ends
-within-ends : (range : Range) (v : ℤ) → is_within range v ≡ true → (range.low ≤ℤ v) × (v ≤ℤ range.high)
+within-ends : (range : Range) (v : ℤ) → is_in_range range v ≡ true → (range.low ≤ℤ v) × (v ≤ℤ range.high)
 within-ends range v within = (grind (arith, ints), grind (arith, ints))
 
 -- a number around 0 is of at most this size
-around-size : (size : ℕ) (v : ℤ) → is_within (around (pos size)) v ≡ true → unsigned_abs v ≤ size
+around-size : (size : ℕ) (v : ℤ) → is_in_range (around (pos size)) v ≡ true → unsigned_abs v ≤ size
 around-size size v within = let ends = within-ends (around (pos size)) v within in omega (arith, ints, ends.0, ends.1)
 
 -- a number between two that are not below 0
-between-sizes : (low high : ℕ) (v : ℤ) → is_within (from_to (pos low) (pos high)) v ≡ true → (low ≤ unsigned_abs v) × (unsigned_abs v ≤ high) × (v ≡ pos (unsigned_abs v))
+between-sizes : (low high : ℕ) (v : ℤ) → is_in_range (from_to (pos low) (pos high)) v ≡ true → (low ≤ unsigned_abs v) × (unsigned_abs v ≤ high) × (v ≡ pos (unsigned_abs v))
 between-sizes low high v within =
     let ends = within-ends (from_to (pos low) (pos high)) v within in
     (omega (arith, ints, ends.0, ends.1), omega (arith, ints, ends.0, ends.1), omega (arith, ints, ends.0, ends.1))
 
 -- a line that passes all tests lies in its ranges
-lies : (limits : Limits) (bytes : List ℕ) (word : Command) (fields : List (List ℕ)) → AreWithin (ranges_of limits word fields) fields → IsCounted limits word
+lies : (limits : Limits) (bytes : List ℕ) (word : Command) (fields : List (List ℕ)) → AreWithin (ranges_of limits word fields) fields → IsWithinCounts limits word
     → LiesInRange limits (line_with word fields)
 lies limits bytes command.Frame fields within few = few
 lies limits bytes command.Camera fields within few = (
-  around-size (2 ^ 30) (number_at fields 0) (within-at _ fields 0 within (lit< tt)),
-  around-size (2 ^ 30) (number_at fields 1) (within-at _ fields 1 within (lit< tt)),
-  around-size (2 ^ 30) (number_at fields 2) (within-at _ fields 2 within (lit< tt)),
+  around-size (2 ^ 30) (number_of_field fields 0) (within-at _ fields 0 within (lit< tt)),
+  around-size (2 ^ 30) (number_of_field fields 1) (within-at _ fields 1 within (lit< tt)),
+  around-size (2 ^ 30) (number_of_field fields 2) (within-at _ fields 2 within (lit< tt)),
 )
 lies limits bytes command.Set fields within few = (
-  (between-sizes 0 (2 ^ limits.n) (number_at fields 0) (within-at _ fields 0 within (lit< tt))).1,
-  (between-sizes 0 (2 ^ limits.n) (number_at fields 1) (within-at _ fields 1 within (lit< tt))).1,
-  (between-sizes 0 limits.maxval (number_at fields 2) (within-at _ fields 2 within (lit< tt))).1,
+  (between-sizes 0 (2 ^ limits.n) (number_of_field fields 0) (within-at _ fields 0 within (lit< tt))).1,
+  (between-sizes 0 (2 ^ limits.n) (number_of_field fields 1) (within-at _ fields 1 within (lit< tt))).1,
+  (between-sizes 0 limits.maxval (number_of_field fields 2) (within-at _ fields 2 within (lit< tt))).1,
 )
 lies limits bytes command.Plane fields within few = (
-  around-size (2 ^ 20) (number_at fields 0) (within-at _ fields 0 within (lit< tt)),
-  around-size (2 ^ 20) (number_at fields 1) (within-at _ fields 1 within (lit< tt)),
-  around-size (2 ^ 20) (number_at fields 2) (within-at _ fields 2 within (lit< tt)),
-  around-size (2 ^ 50) (number_at fields 3) (within-at _ fields 3 within (lit< tt)),
+  around-size (2 ^ 20) (number_of_field fields 0) (within-at _ fields 0 within (lit< tt)),
+  around-size (2 ^ 20) (number_of_field fields 1) (within-at _ fields 1 within (lit< tt)),
+  around-size (2 ^ 20) (number_of_field fields 2) (within-at _ fields 2 within (lit< tt)),
+  around-size (2 ^ 50) (number_of_field fields 3) (within-at _ fields 3 within (lit< tt)),
   few,
 )
 lies limits bytes command.NoPlanes fields within few = tt
 lies limits bytes command.Budget fields within few =
-    let size = between-sizes LEAST_BUDGET limits.budget (number_at fields 0) (within-at _ fields 0 within (lit< tt)) in
+    let size = between-sizes LEAST_BUDGET limits.budget (number_of_field fields 0) (within-at _ fields 0 within (lit< tt)) in
     (size.0, size.1)
 lies limits bytes command.Raise fields within few =
-    let x0 = between-sizes 0 (2 ^ limits.n) (number_at fields 0) (within-at _ fields 0 within (lit< tt)) in
-    let y0 = between-sizes 0 (2 ^ limits.n) (number_at fields 1) (within-at _ fields 1 within (lit< tt)) in
-    let in_x1 = subst (λ (v : ℤ). is_within (from_to v (pos (2 ^ limits.n))) (number_at fields 2) ≡ true) x0.2 (within-at _ fields 2 within (lit< tt)) in
-    let in_y1 = subst (λ (v : ℤ). is_within (from_to v (pos (2 ^ limits.n))) (number_at fields 3) ≡ true) y0.2 (within-at _ fields 3 within (lit< tt)) in
-    let x1 = between-sizes (size_at fields 0) (2 ^ limits.n) (number_at fields 2) in_x1 in
-    let y1 = between-sizes (size_at fields 1) (2 ^ limits.n) (number_at fields 3) in_y1 in
-    (x1.0, x1.1, y1.0, y1.1, around-size 65535 (number_at fields 4) (within-at _ fields 4 within (lit< tt)))
+    let x0 = between-sizes 0 (2 ^ limits.n) (number_of_field fields 0) (within-at _ fields 0 within (lit< tt)) in
+    let y0 = between-sizes 0 (2 ^ limits.n) (number_of_field fields 1) (within-at _ fields 1 within (lit< tt)) in
+    let in_x1 = subst (λ (v : ℤ). is_in_range (from_to v (pos (2 ^ limits.n))) (number_of_field fields 2) ≡ true) x0.2 (within-at _ fields 2 within (lit< tt)) in
+    let in_y1 = subst (λ (v : ℤ). is_in_range (from_to v (pos (2 ^ limits.n))) (number_of_field fields 3) ≡ true) y0.2 (within-at _ fields 3 within (lit< tt)) in
+    let x1 = between-sizes (size_at fields 0) (2 ^ limits.n) (number_of_field fields 2) in_x1 in
+    let y1 = between-sizes (size_at fields 1) (2 ^ limits.n) (number_of_field fields 3) in_y1 in
+    (x1.0, x1.1, y1.0, y1.1, around-size 65535 (number_of_field fields 4) (within-at _ fields 4 within (lit< tt)))
 
 accepts-lies : (limits : Limits) (bytes : List ℕ) (line : Line) → Accepts limits bytes line → LiesInRange limits line
 accepts-lies limits bytes line (word, fields, sound, few, is) = subst (LiesInRange limits) (sym is) (lies limits bytes word fields sound.within few)
@@ -423,5 +423,5 @@ in-range limits bytes (Budget n) w = accepts-lies limits bytes (Budget n) w
 in-range limits bytes (Raise x0 y0 x1 y1 dz) w = accepts-lies limits bytes (Raise x0 y0 x1 y1 dz) w
 
 -- a field is a command exactly where it is its word
-pub command-word : (first : List ℕ) (word : Command) → (command_of first ≡ Some word) ↔ (first ≡ word_of word)
-command-word first word = ((λ e. subst (IsCommand first) e (word-of_command first)), (λ same. ap command_of same ∙ command-of_word word))
+pub command-word : (first : List ℕ) (word : Command) → (command_in first ≡ Some word) ↔ (first ≡ word_of word)
+command-word first word = ((λ e. subst (IsCommand first) e (word-of_command first)), (λ same. ap command_in same ∙ command-of_word word))

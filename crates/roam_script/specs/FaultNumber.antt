@@ -4,12 +4,12 @@ use Rattle.roam_script.specs.declared.script_fault.ScriptFault.{ScriptFault}
 use Rattle.roam_script.specs.declared.script_fault.ScriptFault.TheVariants.{LineTooLong, UnknownCommand, WrongFields, BadNumber, OutOfRange, TooManyLines, TooManyFrames, TooManyPlanes}
 
 -- the number of a kind of refusal
-abbrev pub number_of : ScriptFault → ℕ
-number_of LineTooLong = 1
-number_of UnknownCommand = 2
-number_of WrongFields = 3
-number_of (BadNumber _) = 4
-number_of (OutOfRange _) = 5
-number_of TooManyLines = 6
-number_of TooManyFrames = 7
-number_of TooManyPlanes = 8
+abbrev pub script_fault_number : ScriptFault → ℕ
+script_fault_number LineTooLong = 1
+script_fault_number UnknownCommand = 2
+script_fault_number WrongFields = 3
+script_fault_number (BadNumber _) = 4
+script_fault_number (OutOfRange _) = 5
+script_fault_number TooManyLines = 6
+script_fault_number TooManyFrames = 7
+script_fault_number TooManyPlanes = 8

@@ -1,5 +1,5 @@
 -- What the line of some bytes is, and where each refusal comes, in the words of the format.
--- Words: line_fields, IsShort, SaysNothing, word_of, fields_behind, HasCommand, AreWithin, FailsFirst, IsSound,
+-- Words: line_fields, IsShort, SaysNothing, word_of, fields_behind, HasCommand, AreWithin, FailsFirst, IsSoundLine,
 -- IsOfSize, LiesInRange, and a law a word.
 use Rattle.std.specs.Prelude.{◌≡◌, ◌≢◌, ◌↔◌, ⊤, ℕ, ◌+◌, ◌<◌, ◌≤◌, ◌^◌, true, false, List, [], ◌∷◌, ◌++◌, length, Some, None, Ok, Err, codes, ℤ, unsigned_abs}
 use Rattle.text_laws.specs.Numbers.{signed_in}
@@ -12,7 +12,7 @@ use Rattle.roam_script.specs.declared.line.Line.TheVariants.{Blank, Camera, Set,
 use Rattle.roam_script.specs.declared.script_fault.ScriptFault.{ScriptFault}
 use Rattle.roam_script.specs.declared.script_fault.ScriptFault.TheVariants.{LineTooLong, UnknownCommand, WrongFields, BadNumber, OutOfRange, TooManyLines, TooManyFrames, TooManyPlanes}
 use Rattle.text_laws.specs.Fields.{without_last_cr, fields_of}
-use Rattle.roam_script.specs.LineText.{command_of, Range, is_within, ranges_of, line_with, is_comment, line_in}
+use Rattle.roam_script.specs.LineText.{command_in, Range, is_in_range, ranges_of, line_with, is_comment, line_in}
 
 -- the fields of a line
 abbrev pub line_fields : List ℕ → List (List ℕ)
@@ -61,28 +61,28 @@ pub record HasFields (limits : Limits) (bytes : List ℕ) (word : Command) (fiel
 -- each field is a text of a number in its range
 pub data AreWithin : List Range → List (List ℕ) → Type 0 where
   NoneIsLeft : AreWithin [] []
-  IsAndMore : (range : Range) (ranges : List Range) (field : List ℕ) (fields : List (List ℕ)) (v : ℤ) (is : signed_in field ≡ Some v) (within : is_within range v ≡ true)
+  IsAndMore : (range : Range) (ranges : List Range) (field : List ℕ) (fields : List (List ℕ)) (v : ℤ) (is : signed_in field ≡ Some v) (within : is_in_range range v ≡ true)
       (more : AreWithin ranges fields) → AreWithin (range ∷ ranges) (field ∷ fields)
 
 -- the first field that fails is no number, or one out of its range; the first field of all has this number
 pub data FailsFirst : ℕ → List Range → List (List ℕ) → ScriptFault → Type 0 where
   IsNoNumber : (number : ℕ) (range : Range) (ranges : List Range) (field : List ℕ) (fields : List (List ℕ)) (none : signed_in field ≡ None)
       → FailsFirst number (range ∷ ranges) (field ∷ fields) (BadNumber number)
-  IsOutside : (number : ℕ) (range : Range) (ranges : List Range) (field : List ℕ) (fields : List (List ℕ)) (v : ℤ) (is : signed_in field ≡ Some v) (outside : is_within range v ≡ false)
+  IsOutside : (number : ℕ) (range : Range) (ranges : List Range) (field : List ℕ) (fields : List (List ℕ)) (v : ℤ) (is : signed_in field ≡ Some v) (outside : is_in_range range v ≡ false)
       → FailsFirst number (range ∷ ranges) (field ∷ fields) (OutOfRange number)
   FailsLater : (number : ℕ) (range : Range) (ranges : List Range) (field : List ℕ) (fields : List (List ℕ)) (fault : ScriptFault) (v : ℤ) (is : signed_in field ≡ Some v)
-      (within : is_within range v ≡ true) (later : FailsFirst (number + 1) ranges fields fault) → FailsFirst number (range ∷ ranges) (field ∷ fields) fault
+      (within : is_in_range range v ≡ true) (later : FailsFirst (number + 1) ranges fields fault) → FailsFirst number (range ∷ ranges) (field ∷ fields) fault
 
 -- the line passes all tests of its fields
-pub record IsSound (limits : Limits) (bytes : List ℕ) (word : Command) (fields : List (List ℕ)) : Type 0 where
+pub record IsSoundLine (limits : Limits) (bytes : List ℕ) (word : Command) (fields : List (List ℕ)) : Type 0 where
   pub counted : HasFields limits bytes word fields
   pub within : AreWithin (ranges_of limits word fields) fields
 
 -- no more planes or frames than may be
-abbrev pub IsCounted : Limits → Command → Type 0
-IsCounted limits command.Plane = limits.planes < MOST_PLANES
-IsCounted limits command.Frame = limits.frames < MOST_FRAMES
-IsCounted limits _ = ⊤
+abbrev pub IsWithinCounts : Limits → Command → Type 0
+IsWithinCounts limits command.Plane = limits.planes < MOST_PLANES
+IsWithinCounts limits command.Frame = limits.frames < MOST_FRAMES
+IsWithinCounts limits _ = ⊤
 
 -- line 10,000,001 and each later one, whatever it holds
 abbrev pub LateLinesAreTooMany : Type 0
@@ -124,17 +124,17 @@ OutsideNumbersAreRefused = (limits : Limits) (bytes : List ℕ) (number : ℕ) �
 -- else too many planes exactly for a plane behind six
 abbrev pub SeventhPlanesAreTooMany : Type 0
 SeventhPlanesAreTooMany = (limits : Limits) (bytes : List ℕ) → (line_in limits bytes ≡ Err TooManyPlanes)
-    ↔ ((fields : List (List ℕ)) × IsSound limits bytes command.Plane fields × (MOST_PLANES ≤ limits.planes))
+    ↔ ((fields : List (List ℕ)) × IsSoundLine limits bytes command.Plane fields × (MOST_PLANES ≤ limits.planes))
 
 -- and too many frames exactly for a frame behind 999,999
 abbrev pub LateFramesAreTooMany : Type 0
 LateFramesAreTooMany = (limits : Limits) (bytes : List ℕ) → (line_in limits bytes ≡ Err TooManyFrames)
-    ↔ ((fields : List (List ℕ)) × IsSound limits bytes command.Frame fields × (MOST_FRAMES ≤ limits.frames))
+    ↔ ((fields : List (List ℕ)) × IsSoundLine limits bytes command.Frame fields × (MOST_FRAMES ≤ limits.frames))
 
 -- a line that passes all tests is accepted as what it says, and no other one is
 abbrev pub SoundLinesAreAccepted : Type 0
 SoundLinesAreAccepted = (limits : Limits) (bytes : List ℕ) (line : Line) → line ≢ Blank → (line_in limits bytes ≡ Ok line)
-    ↔ ((word : Command) × (fields : List (List ℕ)) × IsSound limits bytes word fields × IsCounted limits word × (line ≡ line_with word fields))
+    ↔ ((word : Command) × (fields : List (List ℕ)) × IsSoundLine limits bytes word fields × IsWithinCounts limits word × (line ≡ line_with word fields))
 
 -- the number is of at most this size
 abbrev pub IsOfSize : ℕ → ℤ → Type 0
@@ -157,4 +157,4 @@ AcceptedLinesLieInRange = (limits : Limits) (bytes : List ℕ) (line : Line) →
 
 -- a field is a command exactly where it is its word
 abbrev pub CommandsAreWords : Type 0
-CommandsAreWords = (first : List ℕ) (word : Command) → (command_of first ≡ Some word) ↔ (first ≡ word_of word)
+CommandsAreWords = (first : List ℕ) (word : Command) → (command_in first ≡ Some word) ↔ (first ≡ word_of word)

@@ -1,6 +1,6 @@
 -- The line that bytes of a script are, or the first test that refuses them. This project's own format.
 --
--- Words: command_of, Range, from_to, around, number_at, size_at,
+-- Words: command_in, Range, from_to, around, number_of_field, size_at,
 -- ranges_of, field_number, fields_fault, line_with, line_of, counted_line, checked_line, is_comment, fields_line, line_in.
 use Rattle.std.specs.Prelude.{ℕ, zero, suc, ◌+◌, ◌^◌, Bool, false, ◌==◌, ◌&&◌, nat_lt, if◌then◌else◌, List, [], ◌∷◌, length, Option, Some, None, unwrap_or, Result, Ok, Err, codes, bytes_eq, ℤ, pos, neg_ℤ, int_le, unsigned_abs}
 use Rattle.text_laws.specs.Numbers.{signed_in}
@@ -15,8 +15,8 @@ use Rattle.roam_script.specs.declared.script_fault.ScriptFault.{ScriptFault}
 use Rattle.roam_script.specs.declared.script_fault.ScriptFault.TheVariants.{LineTooLong, UnknownCommand, WrongFields, BadNumber, OutOfRange, TooManyLines, TooManyFrames, TooManyPlanes}
 
 -- the command that a field is
-abbrev pub command_of : List ℕ → Option Command
-command_of word =
+abbrev pub command_in : List ℕ → Option Command
+command_in word =
     if bytes_eq word (codes "frame") then Some command.Frame
     else (if bytes_eq word (codes "camera") then Some command.Camera
     else (if bytes_eq word (codes "set") then Some command.Set
@@ -38,14 +38,14 @@ abbrev pub around : ℤ → Range
 around size = from_to (neg_ℤ size) size
 
 -- the number of the field at this place, counted from 0; 0 where it is none
-abbrev pub number_at : List (List ℕ) → ℕ → ℤ
-number_at [] k = pos 0
-number_at (field ∷ fields) zero = unwrap_or (signed_in field) (pos 0)
-number_at (field ∷ fields) (suc k) = number_at fields k
+abbrev pub number_of_field : List (List ℕ) → ℕ → ℤ
+number_of_field [] k = pos 0
+number_of_field (field ∷ fields) zero = unwrap_or (signed_in field) (pos 0)
+number_of_field (field ∷ fields) (suc k) = number_of_field fields k
 
 -- the same where it is at least 0
 abbrev pub size_at : List (List ℕ) → ℕ → ℕ
-size_at fields k = unsigned_abs (number_at fields k)
+size_at fields k = unsigned_abs (number_of_field fields k)
 
 -- The ranges of the fields behind a command. An area ends at the column X0 and the row Y0 where it begins, or
 -- beyond.
@@ -58,16 +58,16 @@ ranges_of limits command.NoPlanes fields = []
 ranges_of limits command.Budget fields = from_to (pos LEAST_BUDGET) (pos limits.budget) ∷ []
 ranges_of limits command.Raise fields =
     from_to (pos 0) (pos (2 ^ limits.n)) ∷ from_to (pos 0) (pos (2 ^ limits.n))
-    ∷ from_to (number_at fields 0) (pos (2 ^ limits.n)) ∷ from_to (number_at fields 1) (pos (2 ^ limits.n)) ∷ around GREATEST_RAISE ∷ []
+    ∷ from_to (number_of_field fields 0) (pos (2 ^ limits.n)) ∷ from_to (number_of_field fields 1) (pos (2 ^ limits.n)) ∷ around GREATEST_RAISE ∷ []
 
 -- the number lies in the range
-abbrev pub is_within : Range → ℤ → Bool
-is_within range v = int_le range.low v && int_le v range.high
+abbrev pub is_in_range : Range → ℤ → Bool
+is_in_range range v = int_le range.low v && int_le v range.high
 
 -- for what the field with this number is a text of: the number, or what is wrong with the field
 abbrev pub field_number : Range → ℕ → Option ℤ → Result ℤ ScriptFault
 field_number range number None = Err (BadNumber number)
-field_number range number (Some v) = if is_within range v then Ok v else Err (OutOfRange number)
+field_number range number (Some v) = if is_in_range range v then Ok v else Err (OutOfRange number)
 
 -- the first fault of as many fields as ranges, the first of which has this number
 abbrev pub fields_fault : ℕ → List Range → List (List ℕ) → Option ScriptFault
@@ -81,12 +81,12 @@ fields_fault number (range ∷ ranges) (field ∷ fields) = elim (field_number r
 -- the line of a command and its fields, which are numbers
 abbrev pub line_with : Command → List (List ℕ) → Line
 line_with command.Frame fields = Frame
-line_with command.Camera fields = Camera (number_at fields 0) (number_at fields 1) (number_at fields 2)
+line_with command.Camera fields = Camera (number_of_field fields 0) (number_of_field fields 1) (number_of_field fields 2)
 line_with command.Set fields = Set (size_at fields 0) (size_at fields 1) (size_at fields 2)
-line_with command.Plane fields = Plane (number_at fields 0) (number_at fields 1) (number_at fields 2) (number_at fields 3)
+line_with command.Plane fields = Plane (number_of_field fields 0) (number_of_field fields 1) (number_of_field fields 2) (number_of_field fields 3)
 line_with command.NoPlanes fields = NoPlanes
 line_with command.Budget fields = Budget (size_at fields 0)
-line_with command.Raise fields = Raise (size_at fields 0) (size_at fields 1) (size_at fields 2) (size_at fields 3) (number_at fields 4)
+line_with command.Raise fields = Raise (size_at fields 0) (size_at fields 1) (size_at fields 2) (size_at fields 3) (number_of_field fields 4)
 
 -- the line of a command and as many fields as it has, or the first fault of a field
 abbrev pub line_of : Limits → Command → List (List ℕ) → Result Line ScriptFault
@@ -115,7 +115,7 @@ is_comment (byte ∷ bytes) = byte == 35
 -- the line of these fields: Blank without one, or where the first begins a comment
 abbrev pub fields_line : Limits → List (List ℕ) → Result Line ScriptFault
 fields_line limits [] = Ok Blank
-fields_line limits (word ∷ fields) = if is_comment word then Ok Blank else checked_line limits (command_of word) fields
+fields_line limits (word ∷ fields) = if is_comment word then Ok Blank else checked_line limits (command_in word) fields
 
 -- The line that these bytes are, or the first test that refuses them.
 unfoldable pub line_in : Limits → List ℕ → Result Line ScriptFault

@@ -3,7 +3,7 @@
 ghost use Rattle.std.specs.Prelude.{◌≡◌, ◌≤◌, ℕ, List, length};
 ghost use Rattle.mesh_defs.specs.declared.level.TheConstants.{GREATEST_LEVEL};
 ghost use Rattle.text_laws.specs.Fields.{fields_of};
-ghost use Rattle.roam_script.specs.LineText.{command_of, ranges_of, line_of};
+ghost use Rattle.roam_script.specs.LineText.{command_in, ranges_of, line_of};
 
 use crate::fields::Fields;
 use crate::limits::{
@@ -34,7 +34,7 @@ pub(crate) enum Command {
 impl Command {
     /// The command that this word is.
     pub(crate) fn named(word: &[u8]) -> Option<Command>
-        ensures { result ≡ command_of word.now }
+        ensures { result ≡ command_in word.now }
     {
         if word == b"frame".as_slice() {
             Some(Command::Frame)

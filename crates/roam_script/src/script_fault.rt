@@ -1,7 +1,7 @@
 //! Why a line of a script is refused.
 
 ghost use Rattle.std.specs.Prelude.{◌≡◌};
-ghost use Rattle.roam_script.specs.FaultNumber.{number_of};
+ghost use Rattle.roam_script.specs.FaultNumber.{script_fault_number};
 
 use thiserror::Error;
 
@@ -43,7 +43,7 @@ pub enum ScriptFault {
 impl ScriptFault {
     /// The number of this kind of refusal, from 1 to 8.
     pub fn number(self) -> u8
-        ensures { result ≡ number_of self }
+        ensures { result ≡ script_fault_number self }
     {
         match self {
             ScriptFault::LineTooLong => 1,

@@ -1,5 +1,5 @@
 -- What a check of a certificate and a mesh comes to, and where it stops.
--- Words: judged_text, judged_status, mesh_opens, judged_outcome, mesh_seen, IsJudged, IsFaultlessFile, MeshHasRead, NoMemoryBehind,
+-- Words: judged_text, judged_status, mesh_opens, judged_outcome, cert_mesh_text, IsJudged, IsFaultlessFile, MeshHasRead, NoMemoryBehind,
 -- FailsBehind, JudgesNoMemory, JudgesFault.
 use Rattle.std.specs.Prelude.{◌≡◌, ℕ, ◌+◌, ◌⊎◌, List, Some, Ok}
 use Rattle.mesh_defs.specs.HeightField.{HeightField}
@@ -45,8 +45,8 @@ abbrev pub judged_outcome : Judgement → Outcome
 judged_outcome judgement = text_outcome (judged_text judgement) (judged_status judgement) (2 + mesh_opens judgement)
 
 -- the text of the mesh of a certificate
-abbrev pub mesh_seen : Checking → HeightField → Certificate → List ℕ
-mesh_seen c grid cert = text_in (checks_at c grid cert.camera) cert.leaves
+abbrev pub cert_mesh_text : Checking → HeightField → Certificate → List ℕ
+cert_mesh_text c grid cert = text_in (checks_at c grid cert.camera) cert.leaves
 
 -- the judgement is right for the files
 abbrev pub IsJudged : Checking → HeightField → List NamedFile → Judgement → Type 0
@@ -68,7 +68,7 @@ NoMemoryBehind c grid cert before now = HasOpened before now 0 ⊎ (HasOpened be
 
 -- behind this certificate, which has no fault, a read of the mesh failed
 abbrev pub FailsBehind : Checking → HeightField → Certificate → Moment → Moment → Type 0
-FailsBehind c grid cert before now = IsFaultless c grid cert × HasFailed before now 1 c.mesh (MeshHasRead (mesh_seen c grid cert))
+FailsBehind c grid cert before now = IsFaultless c grid cert × HasFailed before now 1 c.mesh (MeshHasRead (cert_mesh_text c grid cert))
 
 -- memory ran out once the certificate was opened, or once the mesh was too, behind a certificate without a fault
 abbrev pub JudgesNoMemory : Checking → HeightField → Moment → Moment → Type 0
@@ -82,4 +82,4 @@ JudgesFault c grid before now =
     HasFailed before now 1 c.certificate (CertHasRead grid.n)
     ⊎ ((cert : Certificate)
     × ((files : List NamedFile) → before.shelf.files ≡ Some files → cert_in grid.n (bytes_of files c.certificate) ≡ Ok cert)
-    × IsFaultless c grid cert × HasFailed before now 2 c.mesh (MeshHasRead (mesh_seen c grid cert)))
+    × IsFaultless c grid cert × HasFailed before now 2 c.mesh (MeshHasRead (cert_mesh_text c grid cert)))

@@ -9,7 +9,7 @@ ghost use Rattle.run_laws.specs.Outcome.{IsCheckOutcome};
 ghost use Rattle.run_laws.specs.Promise.{HasEnded};
 ghost use Rattle.run_laws.specs.Leaving.{Runs, HasOpened, HasFailed};
 ghost use Rattle.run_words.specs.CertifyView.{checking_seen, AreInBounds};
-ghost use Rattle.run_check.specs.Judging.{judged_status, mesh_opens, judged_outcome, mesh_seen, IsJudged, JudgesNoMemory, MeshHasRead, JudgesFault, NoMemoryBehind, FailsBehind};
+ghost use Rattle.run_check.specs.Judging.{judged_status, mesh_opens, judged_outcome, cert_mesh_text, IsJudged, JudgesNoMemory, MeshHasRead, JudgesFault, NoMemoryBehind, FailsBehind};
 
 use crate::verdict_report::{Judgement, judgement_report};
 use cert_text::Cert;
@@ -137,12 +137,12 @@ fn difference<O: Outside>(
     requires leaves { All (IsAddress wedges.now.n) cert.now.leaves }
     ensures same { O.is_same outside.old outside.new }
     ensures ok { IfOk result (λ found. (files : List NamedFile) → (O.moment outside.old).shelf.files ≡ Some files →
-        found ≡ first_difference (mesh_seen (checking_seen words.now) wedges.now cert.now)
+        found ≡ first_difference (cert_mesh_text (checking_seen words.now) wedges.now cert.now)
         (bytes_of files words.now.mesh.now)) }
     ensures ended { IfOk result (λ found. found ≡ None → HasEnded (O.moment outside.new).shelf) }
     ensures opened { result ≢ Err CheckStop.Failed → HasOpened (O.moment outside.old) (O.moment outside.new) 1 }
     ensures failed { result ≡ Err CheckStop.Failed → HasFailed (O.moment outside.old) (O.moment outside.new) 1
-        words.now.mesh.now (MeshHasRead (mesh_seen (checking_seen words.now) wedges.now cert.now)) }
+        words.now.mesh.now (MeshHasRead (cert_mesh_text (checking_seen words.now) wedges.now cert.now)) }
 {
     let Ok(()) = outside.open_named(words.mesh) else {
         return Err(CheckStop::Failed);

@@ -13,7 +13,7 @@ use Rattle.run_laws.specs.Act.{Told, Stands, IsCutShort}
 use Rattle.run_laws.specs.Outcome.{picture_acts}
 use Rattle.run_words.specs.declared.showing.Showing.{Showing}
 use Rattle.run_words.specs.declared.showing.Showing.TheVariants.{Meshes, Strips, Measures}
-use Rattle.run_engine.specs.EngineFrames.{EngineFollows, IsEngineReady}
+use Rattle.run_engine.specs.EngineFrames.{EngineHasFollowed, IsEngineReady}
 use Rattle.run_engine.specs.NoteSeen.{picture_seen}
 use Rattle.run_words.specs.ShowView.{show_seen}
 use Rattle.run_engine.specs.ShowView.{is_strip}
@@ -43,8 +43,8 @@ frame-room showing old new room note lines is done strip =
 pub engine-takes : {T E : Type 0} (before now : Told) (showing : Showing) (old new : EngineState) (note : FrameNote) (answer : Result T E) → IsFrameDone old new note
     → OnOk answer (Stands before now (picture_acts (show_seen showing) new.frames (picture_seen new note)))
     → OnErr answer (IsCutShort before now (picture_acts (show_seen showing) new.frames (picture_seen new note)))
-    → (show : Show) (walk : Walk) (pictures : List Picture) → EngineFollows showing old show walk pictures
-    → TakesFrame before now show walk pictures (EngineFollows showing new) answer
+    → (show : Show) (walk : Walk) (pictures : List Picture) → EngineHasFollowed showing old show walk pictures
+    → TakesFrame before now show walk pictures (EngineHasFollowed showing new) answer
 engine-takes before now showing old new note answer done ok err show walk pictures follows =
     let p : Picture = picture_seen new note in
     let number : new.frames ≡ 1 + length walk.frames = (let e = follows.followed.made in let f = done.frames in omega (arith, e, f)) in

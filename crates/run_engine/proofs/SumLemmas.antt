@@ -25,7 +25,7 @@ use Rattle.run_laws.proofs.OutcomeLemmas.{made_lines-count, made_grid-level, mad
 use Rattle.run_laws.proofs.WalkLemmas.{ArePictures-append}
 use Rattle.run_engine.specs.declared.generated.Sums.{Sums}
 use Rattle.run_engine.specs.declared.generated.TheConstants.{LINES}
-use Rattle.run_engine.specs.EngineSeen.{IsUnder, IsCarriedOut, HasFollowed}
+use Rattle.run_engine.specs.EngineSeen.{IsUnderLimits, IsCarriedOut, HasFollowed}
 use Rattle.run_engine.specs.NoteSeen.{picture_seen}
 use Rattle.run_engine.specs.SumView.{made_start, IsSumOf, HasGone, SumsUp}
 use Rattle.run_engine.proofs.EngineLemmas.{followed-line, followed-frame, picture-shown}
@@ -85,7 +85,7 @@ made-range n engine (Raise a b c d e) level heights is = absurd is
 
 -- a generated line lies in its ranges
 pub made-ranges : (n : ℕ) (engine : EngineState) (line other : Line) → engine.state.grid.n ≡ n → engine.state.grid.maxval ≡ 65535 → line ≡ other → IsMadeLine n other
-    → (limits : Limits) × IsUnder engine limits × LiesInRange limits line
+    → (limits : Limits) × IsUnderLimits engine limits × LiesInRange limits line
 made-ranges n engine line other level heights same is =
     let P : Line → Type 0 = λ l. IsMadeLine n l in
     (limits_for engine, record { level = refl; heights = refl; in_force = refl; greatest = refl }, made-range n engine line level heights (subst P (sym same) is))

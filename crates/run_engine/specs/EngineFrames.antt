@@ -1,5 +1,5 @@
 -- An engine whose frames are shown, as one that makes the frames of a script. This project's own.
--- Words: EngineFollows, IsUnderEngine, IsEngineReady.
+-- Words: EngineHasFollowed, IsUnderEngine, IsEngineReady.
 use Rattle.std.specs.Prelude.{◌≡◌, ℕ, ◌*◌, ◌^◌, ◌≤◌, min, true, List, length}
 use Rattle.view_priority.specs.Camera.{IsCamera}
 use Rattle.frame_loop.specs.Engine.{EngineState}
@@ -9,18 +9,18 @@ use Rattle.run_laws.specs.Walk.{Walk}
 use Rattle.word_laws.specs.Words.{Show}
 use Rattle.run_laws.specs.Picture.{Picture}
 use Rattle.run_words.specs.declared.showing.Showing.{Showing}
-use Rattle.run_engine.specs.EngineSeen.{IsUnder, HasFollowed}
+use Rattle.run_engine.specs.EngineSeen.{IsUnderLimits, HasFollowed}
 use Rattle.run_words.specs.ShowView.{show_seen, IsShowing}
 use Rattle.run_engine.specs.ShowView.{is_strip}
 
 -- frames are shown so, and the engine has followed a walk whose frames showed these pictures
-pub record EngineFollows (showing : Showing) (engine : EngineState) (show : Show) (walk : Walk) (pictures : List Picture) : Type 0 where
+pub record EngineHasFollowed (showing : Showing) (engine : EngineState) (show : Show) (walk : Walk) (pictures : List Picture) : Type 0 where
   pub same_show : show_seen showing ≡ show
   pub followed : HasFollowed walk pictures engine
 
 -- the limits are of the engine's grid, planes and greatest budget, and of so many frames as were made
 pub record IsUnderEngine (engine : EngineState) (limits : Limits) : Type 0 where
-  pub under : IsUnder engine limits
+  pub under : IsUnderLimits engine limits
   pub made : limits.frames ≡ engine.frames
 
 -- After so many lines: no more frames than may be; the camera in its bounds, and no farther than lines can bring it; a budget in

@@ -1,6 +1,6 @@
 -- An engine in the words of a run: what is seen of it at the end, what a line does to it, and how it follows a walk.
 -- All of it is this project's own.
--- Words: engine_seen, IsUnder, IsCarriedOut, HasFollowed.
+-- Words: engine_seen, IsUnderLimits, IsCarriedOut, HasFollowed.
 use Rattle.std.specs.Prelude.{◌≡◌, ◌+◌, ◌^◌, ◌≤◌, List, [], length, sum_by}
 use Rattle.view_priority.specs.Camera.{IsCamera}
 use Rattle.roam_mesh.specs.Mesh.{pool_members}
@@ -23,7 +23,7 @@ engine_seen engine = record {
 }
 
 -- the limits are of the engine's grid, of so many planes, and of its greatest budget
-pub record IsUnder (engine : EngineState) (limits : Limits) : Type 0 where
+pub record IsUnderLimits (engine : EngineState) (limits : Limits) : Type 0 where
   pub level : limits.n ≡ engine.state.grid.n
   pub heights : limits.maxval ≡ engine.state.grid.maxval
   pub in_force : limits.planes ≡ length engine.state.view.planes

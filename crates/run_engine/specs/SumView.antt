@@ -1,5 +1,5 @@
 -- The sums of the code in the words of pictures, and how far the engine of a generated run has gone.
--- Words: made_start, IsSumOf, AreFew, HasGone, SumsUp.
+-- Words: made_start, IsSumOf, AreSumsSmall, HasGone, SumsUp.
 use Rattle.std.specs.Prelude.{◌≡◌, ℕ, ◌*◌, ◌^◌, ◌≤◌, List, [], length, drop}
 use Rattle.mesh_defs.specs.State.{start_state}
 use Rattle.view_priority.specs.Camera.{IsCamera}
@@ -26,7 +26,7 @@ pub record IsSumOf (pictures : List Picture) (sums : Sums) : Type 0 where
 
 -- no more frames than lines were carried out, none of more triangles than a number of 32 bits counts; and the camera went at
 -- most 2 ^ 34 with each line
-pub record AreFew (k : ℕ) (engine : EngineState) (sums : Sums) : Type 0 where
+pub record AreSumsSmall (k : ℕ) (engine : EngineState) (sums : Sums) : Type 0 where
   pub frames : sums.frames ≤ k
   pub triangles : sums.triangles ≤ k * 2 ^ 33
   pub blocked : sums.blocked ≤ k
@@ -42,7 +42,7 @@ pub record HasGone (n seed k : ℕ) (engine : EngineState) (sums : Sums) : Type 
   pub leads : walk_along walk (drop k (made_lines n seed)) ≡ made_walk n seed
   pub shown : ArePictures (as_sums n seed) [] walk.frames pictures
   pub summed : IsSumOf pictures sums
-  pub few : AreFew k engine sums
+  pub few : AreSumsSmall k engine sums
   pub level : engine.state.grid.n ≡ n
   pub heights : engine.state.grid.maxval ≡ 65535
   pub camera : IsCamera engine.state.view.camera

@@ -4,7 +4,7 @@ ghost use Rattle.std.specs.Prelude.{◌≢◌, ◌≤◌, ◌^◌};
 ghost use Rattle.view_priority.specs.Camera.{IsCamera};
 ghost use Rattle.roam_script.specs.Laws.{LiesInRange};
 ghost use Rattle.roam_script.specs.declared.limits.Limits.{Limits as LimitsSeen};
-ghost use Rattle.run_engine.specs.EngineSeen.{IsUnder, IsCarriedOut};
+ghost use Rattle.run_engine.specs.EngineSeen.{IsUnderLimits, IsCarriedOut};
 
 use frame_loop::{Camera, Engine, Plane};
 use roam_script::Line;
@@ -14,7 +14,7 @@ use roam_script::Line;
 /// Cost (not proved): that of the engine's call; takes no memory.
 pub(crate) fn carry_out(engine: &mut Engine, line: Line)
     requires other { line ≢ Line.Frame }
-    requires ranges { (limits : LimitsSeen) × IsUnder engine.old limits × LiesInRange limits line }
+    requires ranges { (limits : LimitsSeen) × IsUnderLimits engine.old limits × LiesInRange limits line }
     requires near { IsCamera engine.old.state.view.camera }
     requires far { engine.old.odometer ≤ 2 ^ 61 }
     ensures { IsCarriedOut engine.old engine.new line }

@@ -6,7 +6,7 @@ ghost use Rattle.mesh_defs.specs.declared.level.TheConstants.{GREATEST_LEVEL};
 ghost use Rattle.wedgie_tree.specs.declared.wedges.TheConstants.{GREATEST_SPACING};
 ghost use Rattle.run_laws.specs.Walk.{start_walk};
 ghost use Rattle.word_laws.specs.Words.{least_budget, greatest_budget};
-ghost use Rattle.run_engine.specs.EngineFrames.{IsEngineReady, IsUnderEngine, EngineFollows};
+ghost use Rattle.run_engine.specs.EngineFrames.{IsEngineReady, IsUnderEngine, EngineHasFollowed};
 ghost use Rattle.run_words.specs.ShowView.{show_seen, IsShowing};
 ghost use Rattle.run_engine.specs.ShowView.{is_strip};
 
@@ -46,7 +46,7 @@ impl<'a> EngineFrames<'a> {
         requires budget_high { budget ≤ greatest_budget }
         requires spacing_low { 1 ≤ spacing }
         requires spacing_high { spacing ≤ GREATEST_SPACING }
-        ensures begins { IfOk result (λ f. EngineFollows f.showing f.engine (show_seen showing.entry)
+        ensures begins { IfOk result (λ f. EngineHasFollowed f.showing f.engine (show_seen showing.entry)
             (start_walk budget (start_state grid spacing budget)) []) }
         ensures ready { IfOk result (λ f. IsEngineReady f.showing f.engine f.room.items 0) }
     {
@@ -61,7 +61,7 @@ impl<'a> EngineFrames<'a> {
 }
 
 impl<'a> FrameMaker for EngineFrames<'a> {
-    ghost follows = { λ f. EngineFollows f.showing f.engine };
+    ghost follows = { λ f. EngineHasFollowed f.showing f.engine };
 
     ghost is_ready = { λ f. IsEngineReady f.showing f.engine f.room.items };
 

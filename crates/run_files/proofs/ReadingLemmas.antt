@@ -8,7 +8,7 @@ use Rattle.pgm_grid.specs.declared.fault.PgmFault.TheVariants.{BadMagic, BadHead
 use Rattle.std.proofs.lemmas.Result.{IfOk-at_ok, IfErr-at_err}
 use Rattle.pgm_grid.specs.Laws.{OthersAreAbsent, GridsHaveHeaders}
 use Rattle.pgm_header.specs.Reading.{header_of}
-use Rattle.pgm_grid.specs.Progress.{Progress, grid_of, resume, taken, IsSettled, EndsHeader}
+use Rattle.pgm_grid.specs.Progress.{Progress, grid_of, resume, taken, StaysRefused, EndsHeader}
 use Rattle.run_laws.specs.Promise.{seen, HasEnded, HasReadHeader, IsUndecided}
 use Rattle.run_files.specs.declared.grid_file.GridStop.{GridStop}
 use Rattle.run_files.specs.declared.grid_file.GridStop.TheVariants as stop
@@ -93,8 +93,8 @@ stop_for-memory TooLong is = absurd cc
 
 -- the bytes of a file settle no answer that a reader is out of memory
 pub reading-unsettled : (files : Option (List NamedFile)) (rest : Option (List ℕ)) (name : List ℕ) (reader : Progress)
-    → OthersAreAbsent → IsReading files rest name reader → IsSettled reader NoMemory → ⊥
-unfolding IsSettled
+    → OthersAreAbsent → IsReading files rest name reader → StaysRefused reader NoMemory → ⊥
+unfolding StaysRefused
 reading-unsettled files rest name reader others reading settled =
     let e = sym (reading.means []) ∙ settled [] in
     IfErr-at_err (λ fault. fault ≢ NoMemory) e (others (reading.bytes ++ [])) refl
@@ -127,9 +127,9 @@ reading-header files rest rest' name piece count reader reading takes gives ends
 
 -- a read failed: no refusal of what was read is settled
 pub reading-failed : (files : Option (List NamedFile)) (rest rest' : Option (List ℕ)) (ended' : Bool) (name : List ℕ) (reader : Progress)
-    → IsReading files rest name reader → ((fault : PgmFault) → IsSettled reader fault → ⊥) → rest' ≡ rest → ended' ≡ false
+    → IsReading files rest name reader → ((fault : PgmFault) → StaysRefused reader fault → ⊥) → rest' ≡ rest → ended' ≡ false
     → (all : List NamedFile) → files ≡ Some all → StopsReading IsUndecided (bytes_of all name) rest' ended'
-unfolding IsSettled
+unfolding StaysRefused
 reading-failed files rest rest' ended' name reader reading unsettled kept not_ended =
     stops-behind IsUndecided files rest rest' ended' name reading.bytes reading.in_file kept not_ended
     (λ fault settled. unsettled fault (λ more. reading.means more ∙ settled more))
@@ -186,6 +186,6 @@ module _ (files : Option (List NamedFile)) (rest : Option (List ℕ)) (name : Li
       (read-end rest rest' count none takes nothing))
 
 -- a new reader has settled nothing
-pub start-unsettled : (reader : Progress) → ((more : List ℕ) → resume reader more ≡ grid_of more) → (fault : PgmFault) → IsSettled reader fault → ⊥
-unfolding IsSettled
+pub start-unsettled : (reader : Progress) → ((more : List ℕ) → resume reader more ≡ grid_of more) → (fault : PgmFault) → StaysRefused reader fault → ⊥
+unfolding StaysRefused
 start-unsettled reader means fault settled = nothing-undecided fault (λ more. sym (means more) ∙ settled more)

@@ -1,5 +1,5 @@
 -- How far a certificate was read, and what the calls do that read it.
--- Words: place_seen, IsCounted, refuses, TakesCert, EndsCert.
+-- Words: place_seen, IsStageCounted, refuses, TakesCert, EndsCert.
 use Rattle.std.specs.Prelude.{◌≡◌, ℕ, ◌≤◌, List, length, None, Result}
 use Rattle.roam_script.specs.declared.limits.TheConstants.{MOST_LINE_BYTES}
 use Rattle.cert_text.specs.Certificate.{Certificate}
@@ -16,7 +16,7 @@ abbrev pub place_seen : CertStage → CertPlace
 place_seen stage = record { said = stage.reader.read; lines = stage.lines; begun = stage.part.items }
 
 -- no line was refused, the lines are counted, and neither leaves and reasons are more than may be nor the bytes of a line
-pub record IsCounted (stage : CertStage) : Type 0 where
+pub record IsStageCounted (stage : CertStage) : Type 0 where
   pub goes : stage.reader.refusal ≡ None
   pub counted : stage.lines ≡ line_count stage.reader.read
   pub few_leaves : length stage.reader.read.leaves ≤ MOST_LEAVES

@@ -9,7 +9,7 @@ ghost use Rattle.cert_text.specs.CertReader.{cert_line_in, nothing_read};
 ghost use Rattle.run_laws.specs.CertFile.{HasCertCome, CertHasRead, cert_of, cert_in};
 ghost use Rattle.run_laws.specs.FileStop.{StopsReading};
 ghost use Rattle.run_laws.specs.Moment.{OnlyReads};
-ghost use Rattle.run_files.specs.CertStage.{place_seen, IsCounted, TakesCert, EndsCert};
+ghost use Rattle.run_files.specs.CertStage.{place_seen, IsStageCounted, TakesCert, EndsCert};
 
 use crate::grid_file::PIECE;
 use crate::outside::Outside;
@@ -46,7 +46,7 @@ impl CertStage {
         requires in_grid { (1 ≤ n) × (n ≤ GREATEST_LEVEL) }
         ensures place { place_seen result ≡ record { said = nothing_read; lines = 0; begun = [] } }
         ensures n { result.reader.n ≡ n }
-        ensures counted { IsCounted result }
+        ensures counted { IsStageCounted result }
     {
         CertStage {
             reader: CertReader::new(alloc, n),
@@ -57,13 +57,13 @@ impl CertStage {
 
     /// Takes the line that has begun, which ends here.
     fn take_line(&mut self) -> Result<(), CertStop>
-        requires counted { IsCounted self.old }
+        requires counted { IsStageCounted self.old }
         ensures n { self.new.reader.n ≡ self.old.reader.n }
         ensures ok { OnOk result (cert_line_in self.old.reader.n self.old.reader.read self.old.part.items
             ≡ Some self.new.reader.read) }
         ensures lines { OnOk result (self.new.lines ≡ self.old.lines + 1) }
         ensures part { OnOk result (self.new.part.items ≡ []) }
-        ensures counted { OnOk result (IsCounted self.new) }
+        ensures counted { OnOk result (IsStageCounted self.new) }
         ensures bad_line { (line : ℕ) → result ≡ Err (CertStop.BadLine line) →
             cert_line_in self.old.reader.n self.old.reader.read self.old.part.items ≡ None }
         ensures number { (line : ℕ) → result ≡ Err (CertStop.BadLine line) → line ≡ self.old.lines + 1 }
@@ -83,11 +83,11 @@ impl CertStage {
 
     /// Takes one byte: the line that has begun goes on, or it ends. A line that is too long is refused at once.
     fn take_byte(&mut self, byte: u8) -> Result<(), CertStop>
-        requires counted { IsCounted self.old }
+        requires counted { IsStageCounted self.old }
         ensures n { self.new.reader.n ≡ self.old.reader.n }
         ensures taken { (read : List ℕ) → HasCertCome self.old.reader.n read (place_seen self.old) →
             TakesCert self.old.reader.n (read ++ byte ∷ []) self.new result }
-        ensures counted { OnOk result (IsCounted self.new) }
+        ensures counted { OnOk result (IsStageCounted self.new) }
         ensures longer { OnOk result (201 * self.old.lines + length self.old.part.items + 1
             ≤ 201 * self.new.lines + length self.new.part.items) }
         ensures not_failed { result ≢ Err CertStop.Failed }
@@ -104,11 +104,11 @@ impl CertStage {
 
     /// Takes a piece of the file.
     fn take_piece(&mut self, piece: &[u8]) -> Result<(), CertStop>
-        requires counted { IsCounted self.old }
+        requires counted { IsStageCounted self.old }
         ensures n { self.new.reader.n ≡ self.old.reader.n }
         ensures taken { (read : List ℕ) → HasCertCome self.old.reader.n read (place_seen self.old) →
             TakesCert self.old.reader.n (read ++ piece.now) self.new result }
-        ensures counted { OnOk result (IsCounted self.new) }
+        ensures counted { OnOk result (IsStageCounted self.new) }
         ensures longer { OnOk result (201 * self.old.lines + length self.old.part.items + length piece.now
             ≤ 201 * self.new.lines + length self.new.part.items) }
         ensures not_failed { result ≢ Err CertStop.Failed }
@@ -121,7 +121,7 @@ impl CertStage {
 
     /// Ends the file: bytes after the last LF are a line too, and a file without a line is refused at line 1.
     fn end(mut self) -> Result<Cert, CertStop>
-        requires counted { IsCounted self }
+        requires counted { IsStageCounted self }
         ensures ends { (read : List ℕ) → HasCertCome self.reader.n read (place_seen self) →
             EndsCert self.reader.n read result }
         ensures leaves { IfOk result (λ cert. All (IsAddress self.reader.n) cert.leaves) }

@@ -11,7 +11,7 @@ ghost use Rattle.wedgie_tree.specs.declared.wedges.TheConstants.{GREATEST_SPACIN
 ghost use Rattle.obj_write.specs.MeshView.{view_text, IsView};
 ghost use Rattle.cert_text.specs.CertText.{cert_text};
 ghost use Rattle.fit_cert_text.specs.FitCertText.{fit_cert_text};
-ghost use Rattle.mesh_compare.specs.Differs.{FindsDifference, IsCutShort as IsPartRead};
+ghost use Rattle.mesh_compare.specs.Differs.{FindsDifference, IsReadInPart as IsPartRead};
 ghost use Rattle.mesh_compare.specs.declared.comparing.CompareFault.{CompareFault as CompareFaultSeen};
 ghost use Rattle.run_laws.specs.Act.{WholeMesh, ReportText};
 ghost use Rattle.run_laws.specs.Moment.{Moment, moment, OnlyReads, Does};

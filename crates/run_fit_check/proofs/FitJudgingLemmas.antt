@@ -5,7 +5,7 @@ use Rattle.roam_edge.specs.Shelf.{NamedFile, bytes_of}
 use Rattle.pgm_grid.specs.Progress.{grid_of}
 use Rattle.fit_certificate_laws.specs.declared.reason.Target.{Target as Goal}
 use Rattle.fit_certificate_laws.specs.declared.reason.Verdict.TheVariants as verdict
-use Rattle.fit_certificate_laws.specs.Certificate.{FitCertificate, IsSound}
+use Rattle.fit_certificate_laws.specs.Certificate.{FitCertificate, IsFitSound}
 use Rattle.run_laws.specs.declared.status.Status.{Status}
 use Rattle.run_laws.specs.declared.status.Status.TheVariants.{Done, NoMemory, ReadFault}
 use Rattle.word_laws.specs.Words.{Checking, Check, FitChecking, CheckFit, OnGrid}
@@ -20,18 +20,18 @@ use Rattle.run_laws.proofs.GridLemmas.{file-fault, same-name}
 use Rattle.run_laws.proofs.RunLemmas.{read-failed, memory-spent, opens-then, fails-then, certified-runs, rejected-runs, tells-as}
 use Rattle.run_fit_check.specs.declared.verdict_report.Judgement.{Judgement}
 use Rattle.run_fit_check.specs.declared.verdict_report.Judgement.TheVariants.{Certified, Rejected, BadLine, MeshDiffers}
-use Rattle.run_fit_check.specs.FitJudging.{judged_text, judged_status, mesh_opens, judged_outcome, IsJudged, IsFaultlessFile, MeshHasRead, IsSoundFor, FailsBehind, JudgesNoMemory, JudgesFault}
+use Rattle.run_fit_check.specs.FitJudging.{fit_judged_text, fit_judged_status, mesh_opens, fit_judged_outcome, IsFitJudged, IsFaultlessFitFile, FitMeshHasRead, IsSoundFor, FailsBehind, FitJudgesNoMemory, FitJudgesFault}
 
 -- The triangles are those of a certificate without a fault, of so many that are off by so much.
 module _ (c : FitChecking) (grid : HeightField) (cert : FitCertificate) (count deviation : ℕ) (triangles : List ℕ)
     (sound : IsSoundFor c grid cert count deviation)
-    (made : (target : Goal) (mesh : List ℕ) → IsSound grid.n grid.heights target cert mesh → triangles ≡ mesh) where
+    (made : (target : Goal) (mesh : List ℕ) → IsFitSound grid.n grid.heights target cert mesh → triangles ≡ mesh) where
   mesh-is : triangles ≡ sound.0
   mesh-is = made (goal_of grid.n c.target) sound.0 sound.1
 
   -- the file has their text
   pub same-judged : (bytes : List ℕ) → fit_text c.spacing grid triangles ≡ bytes
-      → IsFitCheckOutcome c grid (Ok cert) bytes (judged_outcome grid.n (Certified count deviation))
+      → IsFitCheckOutcome c grid (Ok cert) bytes (fit_judged_outcome grid.n (Certified count deviation))
   same-judged bytes same = (
     verdict.Certified count deviation,
     sound.0,
@@ -42,7 +42,7 @@ module _ (c : FitChecking) (grid : HeightField) (cert : FitCertificate) (count d
   -- the file differs from it first at this place
   pub differs-judged : (bytes : List ℕ) (place : ℕ) → take place (fit_text c.spacing grid triangles) ≡ take place bytes
       → slice_get (fit_text c.spacing grid triangles) place ≢ slice_get bytes place
-      → IsFitCheckOutcome c grid (Ok cert) bytes (judged_outcome grid.n (MeshDiffers place))
+      → IsFitCheckOutcome c grid (Ok cert) bytes (fit_judged_outcome grid.n (MeshDiffers place))
   differs-judged bytes place same differ = (
     verdict.Certified count deviation,
     sound.0,
@@ -58,12 +58,12 @@ module _ (c : FitChecking) (grid : HeightField) (cert : FitCertificate) (count d
   )
 
   -- a read of the file failed
-  pub fails-behind : (before now : Moment) → HasFailed before now 1 c.mesh (MeshHasRead (fit_text c.spacing grid triangles))
+  pub fails-behind : (before now : Moment) → HasFailed before now 1 c.mesh (FitMeshHasRead (fit_text c.spacing grid triangles))
       → FailsBehind c grid cert before now
   fails-behind before now failed = (
     sound.0,
     sound.1,
-    subst (λ (l : List ℕ). HasFailed before now 1 c.mesh (MeshHasRead (fit_text c.spacing grid l))) mesh-is failed,
+    subst (λ (l : List ℕ). HasFailed before now 1 c.mesh (FitMeshHasRead (fit_text c.spacing grid l))) mesh-is failed,
   )
 
 -- commands that check are the same
@@ -86,7 +86,7 @@ same-found name other c check grid files e found =
 behind-memory : (before : Told) (old new : Seen) (name : List ℕ) (c : FitChecking) (grid : HeightField) (count : ℕ)
     → new.opens ≡ old.opens + count → 2 ≤ count → count ≤ 3
     → ((files : List NamedFile) → old.files ≡ Some files → grid_of (bytes_of files name) ≡ Ok grid)
-    → (3 ≤ count → (files : List NamedFile) → old.files ≡ Some files → IsFaultlessFile c grid files)
+    → (3 ≤ count → (files : List NamedFile) → old.files ≡ Some files → IsFaultlessFitFile c grid files)
     → CommandNoMemory before before old new (OnGrid name (CheckFit c))
 behind-memory before old new name c grid count opens low high found faultless = record {
   opened = count;
@@ -99,7 +99,7 @@ behind-memory before old new name c grid count opens low high found faultless = 
   fit_in_order = λ other check files e told two. (
     grid,
     same-found name other c check grid files e (found files told),
-    λ three. (let P : FitChecking → Type 0 = λ d. IsFaultlessFile d grid files in
+    λ three. (let P : FitChecking → Type 0 = λ d. IsFaultlessFitFile d grid files in
         subst P (same-check name other c check e) (faultless three files told)),
   );
 }
@@ -107,7 +107,7 @@ behind-memory before old new name c grid count opens low high found faultless = 
 module _ (before middle now : Moment) (name : List ℕ) (c : FitChecking) (grid : HeightField) (idle : before.under_way ≡ false)
     (read : ReadsGrid before middle name grid) where
   -- memory ran out behind the grid
-  pub check-memory : JudgesNoMemory c grid middle now → Runs before now (Some (OnGrid name (CheckFit c))) NoMemory None
+  pub check-memory : FitJudgesNoMemory c grid middle now → Runs before now (Some (OnGrid name (CheckFit c))) NoMemory None
   check-memory (inl one) =
       let opened = opens-then before middle now 1 1 read.opened one in
       memory-spent before now name (CheckFit c) 2 idle opened
@@ -119,7 +119,7 @@ module _ (before middle now : Moment) (name : List ℕ) (c : FitChecking) (grid 
       (λ three files told. faultless files (read.opened.only.files ∙ told)))
 
   -- a read failed behind the grid
-  pub check-fault : JudgesFault c grid middle now → Runs before now (Some (OnGrid name (CheckFit c))) ReadFault None
+  pub check-fault : FitJudgesFault c grid middle now → Runs before now (Some (OnGrid name (CheckFit c))) ReadFault None
   check-fault (inl one) =
       let failed = fails-then before middle now 1 1 c.certificate _ read.opened one in
       read-failed before now name (CheckFit c) 2 c.certificate _ idle failed (omega arith) (omega arith)
@@ -150,9 +150,9 @@ module _ (before middle last now : Moment) (name : List ℕ) (c : FitChecking) (
     (idle : before.under_way ≡ false) (read : ReadsGrid before middle name grid) where
   -- the line of a judgement ends a check
   pub check-runs : (judgement : Judgement) → HasOpened middle last (1 + mesh_opens judgement)
-      → (judged_status judgement ≡ Done → HasEnded last.shelf)
-      → ((files : List NamedFile) → middle.shelf.files ≡ Some files → IsJudged c grid files judgement)
-      → text ≡ judged_text grid.n judgement → meant ≡ judged_status judgement → TellsLast last now text meant status
+      → (fit_judged_status judgement ≡ Done → HasEnded last.shelf)
+      → ((files : List NamedFile) → middle.shelf.files ≡ Some files → IsFitJudged c grid files judgement)
+      → text ≡ fit_judged_text grid.n judgement → meant ≡ fit_judged_status judgement → TellsLast last now text meant status
       → Runs before now (Some (OnGrid name (CheckFit c))) status None
   check-runs (Certified triangles deviation) opened ended judged is_text is_end tells =
       certified-runs before middle last now name (CheckFit c) grid 2 _ status idle read opened refl refl (ended refl) refl judged

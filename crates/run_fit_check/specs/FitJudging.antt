@@ -1,6 +1,6 @@
 -- What a check of a fitted mesh by a certificate comes to, and where it stops.
--- Words: judged_text, judged_status, mesh_opens, judged_outcome, IsJudged, IsFaultlessFile, IsSoundFor, MeshHasRead, NoMemoryBehind,
--- FailsBehind, JudgesNoMemory, JudgesFault.
+-- Words: fit_judged_text, fit_judged_status, mesh_opens, fit_judged_outcome, IsFitJudged, IsFaultlessFitFile, IsSoundFor, FitMeshHasRead, NoMemoryBehind,
+-- FailsBehind, FitJudgesNoMemory, FitJudgesFault.
 use Rattle.std.specs.Prelude.{◌≡◌, ℕ, ◌+◌, ◌⊎◌, List, length, Some, Ok}
 use Rattle.mesh_defs.specs.HeightField.{HeightField}
 use Rattle.roam_edge.specs.Shelf.{NamedFile, bytes_of}
@@ -22,18 +22,18 @@ use Rattle.run_fit_check.specs.declared.verdict_report.Judgement.{Judgement}
 use Rattle.run_fit_check.specs.declared.verdict_report.Judgement.TheVariants.{Certified, Rejected, BadLine, MeshDiffers}
 
 -- the line of a judgement, over the grid with this n
-abbrev pub judged_text : ℕ → Judgement → List ℕ
-judged_text n (Certified triangles deviation) = certified_fit_line n triangles deviation
-judged_text n (Rejected why) = fit_rejection why
-judged_text n (BadLine line) = rejection (view.BadLine line)
-judged_text n (MeshDiffers place) = rejection (view.MeshDiffers place)
+abbrev pub fit_judged_text : ℕ → Judgement → List ℕ
+fit_judged_text n (Certified triangles deviation) = certified_fit_line n triangles deviation
+fit_judged_text n (Rejected why) = fit_rejection why
+fit_judged_text n (BadLine line) = rejection (view.BadLine line)
+fit_judged_text n (MeshDiffers place) = rejection (view.MeshDiffers place)
 
 -- how a run ends that tells it
-abbrev pub judged_status : Judgement → Status
-judged_status (Certified triangles deviation) = ends.Done
-judged_status (Rejected why) = ends.Rejected
-judged_status (BadLine line) = ends.Rejected
-judged_status (MeshDiffers place) = ends.Rejected
+abbrev pub fit_judged_status : Judgement → Status
+fit_judged_status (Certified triangles deviation) = ends.Done
+fit_judged_status (Rejected why) = ends.Rejected
+fit_judged_status (BadLine line) = ends.Rejected
+fit_judged_status (MeshDiffers place) = ends.Rejected
 
 -- how often the mesh was opened for it: only behind a certificate without a fault
 abbrev pub mesh_opens : Judgement → ℕ
@@ -43,17 +43,17 @@ mesh_opens (BadLine line) = 0
 mesh_opens (MeshDiffers place) = 1
 
 -- the outcome of a run that tells it: the grid and the certificate were opened for it, and the mesh or not
-abbrev pub judged_outcome : ℕ → Judgement → Outcome
-judged_outcome n judgement = text_outcome (judged_text n judgement) (judged_status judgement) (2 + mesh_opens judgement)
+abbrev pub fit_judged_outcome : ℕ → Judgement → Outcome
+fit_judged_outcome n judgement = text_outcome (fit_judged_text n judgement) (fit_judged_status judgement) (2 + mesh_opens judgement)
 
 -- the judgement is right for the files
-abbrev pub IsJudged : FitChecking → HeightField → List NamedFile → Judgement → Type 0
-IsJudged c grid files judgement =
-    IsFitCheckOutcome c grid (fit_cert_in grid.n (bytes_of files c.certificate)) (bytes_of files c.mesh) (judged_outcome grid.n judgement)
+abbrev pub IsFitJudged : FitChecking → HeightField → List NamedFile → Judgement → Type 0
+IsFitJudged c grid files judgement =
+    IsFitCheckOutcome c grid (fit_cert_in grid.n (bytes_of files c.certificate)) (bytes_of files c.mesh) (fit_judged_outcome grid.n judgement)
 
 -- the file is that of a certificate without a fault
-abbrev pub IsFaultlessFile : FitChecking → HeightField → List NamedFile → Type 0
-IsFaultlessFile c grid files =
+abbrev pub IsFaultlessFitFile : FitChecking → HeightField → List NamedFile → Type 0
+IsFaultlessFitFile c grid files =
     (cert : FitCertificate) × (triangles : List ℕ) × (fit_cert_in grid.n (bytes_of files c.certificate) ≡ Ok cert)
     × IsFitFaultless c grid cert triangles
 
@@ -64,8 +64,8 @@ IsSoundFor c grid cert count deviation =
     × (deviation ≡ deviation_of grid.n grid.heights triangles)
 
 -- so much of a mesh was read: a prefix of this text
-abbrev pub MeshHasRead : List ℕ → List ℕ → Type 0
-MeshHasRead text read = IsPrefix read text
+abbrev pub FitMeshHasRead : List ℕ → List ℕ → Type 0
+FitMeshHasRead text read = IsPrefix read text
 
 -- behind this certificate memory ran out: at once, or, if it has no fault, when the mesh was opened
 abbrev pub NoMemoryBehind : FitChecking → HeightField → FitCertificate → Moment → Moment → Type 0
@@ -76,18 +76,18 @@ NoMemoryBehind c grid cert before now =
 abbrev pub FailsBehind : FitChecking → HeightField → FitCertificate → Moment → Moment → Type 0
 FailsBehind c grid cert before now =
     (triangles : List ℕ) × IsFitFaultless c grid cert triangles
-    × HasFailed before now 1 c.mesh (MeshHasRead (fit_text c.spacing grid triangles))
+    × HasFailed before now 1 c.mesh (FitMeshHasRead (fit_text c.spacing grid triangles))
 
 -- memory ran out once the certificate was opened, or once the mesh was too, behind a certificate without a fault
-abbrev pub JudgesNoMemory : FitChecking → HeightField → Moment → Moment → Type 0
-JudgesNoMemory c grid before now =
+abbrev pub FitJudgesNoMemory : FitChecking → HeightField → Moment → Moment → Type 0
+FitJudgesNoMemory c grid before now =
     HasOpened before now 1
-    ⊎ (HasOpened before now 2 × ((files : List NamedFile) → before.shelf.files ≡ Some files → IsFaultlessFile c grid files))
+    ⊎ (HasOpened before now 2 × ((files : List NamedFile) → before.shelf.files ≡ Some files → IsFaultlessFitFile c grid files))
 
 -- a read failed, at the certificate or, behind one without a fault, at the mesh
-abbrev pub JudgesFault : FitChecking → HeightField → Moment → Moment → Type 0
-JudgesFault c grid before now =
+abbrev pub FitJudgesFault : FitChecking → HeightField → Moment → Moment → Type 0
+FitJudgesFault c grid before now =
     HasFailed before now 1 c.certificate (FitCertHasRead grid.n)
     ⊎ ((cert : FitCertificate) × (triangles : List ℕ)
     × ((files : List NamedFile) → before.shelf.files ≡ Some files → fit_cert_in grid.n (bytes_of files c.certificate) ≡ Ok cert)
-    × IsFitFaultless c grid cert triangles × HasFailed before now 2 c.mesh (MeshHasRead (fit_text c.spacing grid triangles)))
+    × IsFitFaultless c grid cert triangles × HasFailed before now 2 c.mesh (FitMeshHasRead (fit_text c.spacing grid triangles)))

@@ -10,7 +10,7 @@ ghost use Rattle.run_laws.specs.Outcome.{IsFitCheckOutcome};
 ghost use Rattle.run_laws.specs.Promise.{HasEnded};
 ghost use Rattle.run_laws.specs.Leaving.{Runs, HasOpened, HasFailed};
 ghost use Rattle.run_words.specs.FitView.{fit_checking_seen, AreFitBounds};
-ghost use Rattle.run_fit_check.specs.FitJudging.{judged_status, mesh_opens, judged_outcome, IsJudged, JudgesNoMemory, MeshHasRead, JudgesFault, IsSoundFor, NoMemoryBehind, FailsBehind};
+ghost use Rattle.run_fit_check.specs.FitJudging.{fit_judged_status, mesh_opens, fit_judged_outcome, IsFitJudged, FitJudgesNoMemory, FitMeshHasRead, FitJudgesFault, IsSoundFor, NoMemoryBehind, FailsBehind};
 
 use crate::fit_cert_file::read_fit_cert;
 use crate::goal::goal_in;
@@ -78,13 +78,13 @@ fn judge<O: Outside>(
     requires bounds { AreFitBounds words.now.target words.now.spacing }
     ensures same { O.is_same outside.old outside.new }
     ensures ok { IfOk result (λ judgement. (files : List NamedFile) → (O.moment outside.old).shelf.files ≡ Some files →
-        IsJudged (fit_checking_seen words.now) wedges.now files judgement) }
+        IsFitJudged (fit_checking_seen words.now) wedges.now files judgement) }
     ensures opened { IfOk result (λ judgement. HasOpened (O.moment outside.old) (O.moment outside.new) (1 + mesh_opens judgement)) }
-    ensures ended { IfOk result (λ judgement. judged_status judgement ≡ Status.Done → HasEnded (O.moment outside.new).shelf) }
+    ensures ended { IfOk result (λ judgement. fit_judged_status judgement ≡ Status.Done → HasEnded (O.moment outside.new).shelf) }
     ensures no_memory { result ≡ Err CheckStop.NoMemory →
-        JudgesNoMemory (fit_checking_seen words.now) wedges.now (O.moment outside.old) (O.moment outside.new) }
+        FitJudgesNoMemory (fit_checking_seen words.now) wedges.now (O.moment outside.old) (O.moment outside.new) }
     ensures failed { result ≡ Err CheckStop.Failed →
-        JudgesFault (fit_checking_seen words.now) wedges.now (O.moment outside.old) (O.moment outside.new) }
+        FitJudgesFault (fit_checking_seen words.now) wedges.now (O.moment outside.old) (O.moment outside.new) }
 {
     match read_fit_cert(alloc, wedges.grid().n(), words.certificate, outside) {
         Ok(cert) => judge_cert(alloc, wedges, &cert, words, outside),
@@ -107,9 +107,9 @@ fn judge_cert<O: Outside>(
     ensures same { O.is_same outside.old outside.new }
     ensures ok { IfOk result (λ judgement. (files : List NamedFile) → (O.moment outside.old).shelf.files ≡ Some files →
         IsFitCheckOutcome (fit_checking_seen words.now) wedges.now (Ok cert.now) (bytes_of files words.now.mesh.now)
-        (judged_outcome wedges.now.n judgement)) }
+        (fit_judged_outcome wedges.now.n judgement)) }
     ensures opened { IfOk result (λ judgement. HasOpened (O.moment outside.old) (O.moment outside.new) (mesh_opens judgement)) }
-    ensures ended { IfOk result (λ judgement. judged_status judgement ≡ Status.Done → HasEnded (O.moment outside.new).shelf) }
+    ensures ended { IfOk result (λ judgement. fit_judged_status judgement ≡ Status.Done → HasEnded (O.moment outside.new).shelf) }
     ensures no_memory { result ≡ Err CheckStop.NoMemory →
         NoMemoryBehind (fit_checking_seen words.now) wedges.now cert.now (O.moment outside.old) (O.moment outside.new) }
     ensures failed { result ≡ Err CheckStop.Failed →
@@ -143,9 +143,9 @@ fn judge_mesh<O: Outside>(
     ensures same { O.is_same outside.old outside.new }
     ensures ok { IfOk result (λ judgement. (files : List NamedFile) → (O.moment outside.old).shelf.files ≡ Some files →
         IsFitCheckOutcome (fit_checking_seen words.now) wedges.now (Ok cert.now) (bytes_of files words.now.mesh.now)
-        (judged_outcome wedges.now.n judgement)) }
+        (fit_judged_outcome wedges.now.n judgement)) }
     ensures opened { IfOk result (λ judgement. HasOpened (O.moment outside.old) (O.moment outside.new) (mesh_opens judgement)) }
-    ensures ended { IfOk result (λ judgement. judged_status judgement ≡ Status.Done → HasEnded (O.moment outside.new).shelf) }
+    ensures ended { IfOk result (λ judgement. fit_judged_status judgement ≡ Status.Done → HasEnded (O.moment outside.new).shelf) }
     ensures no_memory { result ≡ Err CheckStop.NoMemory →
         NoMemoryBehind (fit_checking_seen words.now) wedges.now cert.now (O.moment outside.old) (O.moment outside.new) }
     ensures failed { result ≡ Err CheckStop.Failed →
@@ -184,7 +184,7 @@ fn difference<O: Outside>(
     ensures ended { IfOk result (λ found. found ≡ None → HasEnded (O.moment outside.new).shelf) }
     ensures opened { result ≢ Err CheckStop.Failed → HasOpened (O.moment outside.old) (O.moment outside.new) 1 }
     ensures failed { result ≡ Err CheckStop.Failed → HasFailed (O.moment outside.old) (O.moment outside.new) 1
-        words.now.mesh.now (MeshHasRead (fit_text words.now.spacing wedges.now mesh.now)) }
+        words.now.mesh.now (FitMeshHasRead (fit_text words.now.spacing wedges.now mesh.now)) }
 {
     let Ok(()) = outside.open_named(words.mesh) else {
         return Err(CheckStop::Failed);

@@ -4,12 +4,12 @@ ghost use Rattle.std.specs.Prelude.{◌≡◌, ◌≢◌, ◌+◌, ◌-◌, ◌*
 ghost use Rattle.mesh_defs.specs.declared.level.TheConstants.{GREATEST_LEVEL};
 ghost use Rattle.roam_edge.specs.Fault.{Rose, next_count, IsInTime};
 ghost use Rattle.roam_edge.specs.Shelf.{NamedFile, bytes_of};
-ghost use Rattle.fit_cert_text.specs.FitCertReader.{fit_line_in, nothing_read};
+ghost use Rattle.fit_cert_text.specs.FitCertReader.{fit_line_in, nothing_fit_read};
 ghost use Rattle.run_laws.specs.CertFile.{HasFitCertCome, FitCertHasRead, fit_cert_of, fit_cert_in};
-ghost use Rattle.fit_cert_text.specs.Laws.{line_count};
+ghost use Rattle.fit_cert_text.specs.Laws.{fit_line_count};
 ghost use Rattle.run_laws.specs.FileStop.{StopsReading};
 ghost use Rattle.run_laws.specs.Moment.{OnlyReads};
-ghost use Rattle.run_fit_check.specs.FitCertStage.{place_seen, IsCounted, TakesFitCert, EndsFitCert};
+ghost use Rattle.run_fit_check.specs.FitCertStage.{fit_place_seen, IsFitStageCounted, TakesFitCert, EndsFitCert};
 
 use arrayvec::ArrayVec;
 use fit_cert_text::{CertFault, FitCert, FitCertReader, fit_text_laws};
@@ -32,9 +32,9 @@ impl FitCertStage {
     /// Before the first line of a certificate of the grid of side 2^n.
     fn new(alloc: Global, n: u32) -> FitCertStage
         requires in_grid { (1 ≤ n) × (n ≤ GREATEST_LEVEL) }
-        ensures place { place_seen result ≡ record { said = nothing_read; lines = 0; begun = [] } }
+        ensures place { fit_place_seen result ≡ record { said = nothing_fit_read; lines = 0; begun = [] } }
         ensures n { result.reader.n ≡ n }
-        ensures counted { IsCounted result }
+        ensures counted { IsFitStageCounted result }
     {
         FitCertStage {
             reader: FitCertReader::new(alloc, n),
@@ -45,13 +45,13 @@ impl FitCertStage {
 
     /// Takes the line that has begun, which ends here.
     fn take_line(&mut self) -> Result<(), CertStop>
-        requires counted { IsCounted self.old }
+        requires counted { IsFitStageCounted self.old }
         ensures n { self.new.reader.n ≡ self.old.reader.n }
         ensures ok { OnOk result (fit_line_in self.old.reader.n self.old.reader.read self.old.part.items
             ≡ Some self.new.reader.read) }
         ensures lines { OnOk result (self.new.lines ≡ self.old.lines + 1) }
         ensures part { OnOk result (self.new.part.items ≡ []) }
-        ensures counted { OnOk result (IsCounted self.new) }
+        ensures counted { OnOk result (IsFitStageCounted self.new) }
         ensures bad_line { (line : ℕ) → result ≡ Err (CertStop.BadLine line) →
             fit_line_in self.old.reader.n self.old.reader.read self.old.part.items ≡ None }
         ensures number { (line : ℕ) → result ≡ Err (CertStop.BadLine line) → line ≡ self.old.lines + 1 }
@@ -71,11 +71,11 @@ impl FitCertStage {
 
     /// Takes one byte: the line that has begun goes on, or it ends. A line that is too long is refused at once.
     fn take_byte(&mut self, byte: u8) -> Result<(), CertStop>
-        requires counted { IsCounted self.old }
+        requires counted { IsFitStageCounted self.old }
         ensures n { self.new.reader.n ≡ self.old.reader.n }
-        ensures taken { (read : List ℕ) → HasFitCertCome self.old.reader.n read (place_seen self.old) →
+        ensures taken { (read : List ℕ) → HasFitCertCome self.old.reader.n read (fit_place_seen self.old) →
             TakesFitCert self.old.reader.n (read ++ byte ∷ []) self.new result }
-        ensures counted { OnOk result (IsCounted self.new) }
+        ensures counted { OnOk result (IsFitStageCounted self.new) }
         ensures longer { OnOk result (201 * self.old.lines + length self.old.part.items + 1
             ≤ 201 * self.new.lines + length self.new.part.items) }
         ensures not_failed { result ≢ Err CertStop.Failed }
@@ -92,11 +92,11 @@ impl FitCertStage {
 
     /// Takes a piece of the file.
     fn take_piece(&mut self, piece: &[u8]) -> Result<(), CertStop>
-        requires counted { IsCounted self.old }
+        requires counted { IsFitStageCounted self.old }
         ensures n { self.new.reader.n ≡ self.old.reader.n }
-        ensures taken { (read : List ℕ) → HasFitCertCome self.old.reader.n read (place_seen self.old) →
+        ensures taken { (read : List ℕ) → HasFitCertCome self.old.reader.n read (fit_place_seen self.old) →
             TakesFitCert self.old.reader.n (read ++ piece.now) self.new result }
-        ensures counted { OnOk result (IsCounted self.new) }
+        ensures counted { OnOk result (IsFitStageCounted self.new) }
         ensures longer { OnOk result (201 * self.old.lines + length self.old.part.items + length piece.now
             ≤ 201 * self.new.lines + length self.new.part.items) }
         ensures not_failed { result ≢ Err CertStop.Failed }
@@ -109,8 +109,8 @@ impl FitCertStage {
 
     /// Ends the file: bytes after the last LF are a line too, and a file without the line of the mesh is refused behind its last line.
     fn end(mut self) -> Result<FitCert, CertStop>
-        requires counted { IsCounted self }
-        ensures ends { (read : List ℕ) → HasFitCertCome self.reader.n read (place_seen self) →
+        requires counted { IsFitStageCounted self }
+        ensures ends { (read : List ℕ) → HasFitCertCome self.reader.n read (fit_place_seen self) →
             EndsFitCert self.reader.n read result }
         ensures not_failed { result ≢ Err CertStop.Failed }
     {
@@ -125,7 +125,7 @@ impl FitCertStage {
 /// What the whole lines of a file come to, which are so many.
 fn finished(reader: FitCertReader, lines: u32) -> Result<FitCert, CertStop>
     requires goes { reader.refusal ≡ None }
-    requires counted { lines ≡ line_count reader.read }
+    requires counted { lines ≡ fit_line_count reader.read }
     requires few { lines < 2 ^ 32 - 1 }
     ensures ok { IfOk result (λ cert. fit_cert_of reader.read ≡ Ok cert) }
     ensures bad_line { (line : ℕ) → result ≡ Err (CertStop.BadLine line) → fit_cert_of reader.read ≡ Err line }

@@ -6,7 +6,7 @@ ghost use Rattle.mesh_defs.specs.declared.level.TheConstants.{GREATEST_LEVEL};
 ghost use Rattle.run_files.specs.declared.text.TheConstants.{TEXT_ROOM};
 ghost use Rattle.run_laws.specs.ReportText.{certified_fit_line, fit_reject_text, fit_rejection, rejection};
 ghost use Rattle.certificate_laws.specs.declared.reason.Reject.TheVariants as view;
-ghost use Rattle.run_fit_check.specs.FitJudging.{judged_text, judged_status};
+ghost use Rattle.run_fit_check.specs.FitJudging.{fit_judged_text, fit_judged_status};
 
 use arrayvec::ArrayVec;
 use fit_certificate_laws::Reject;
@@ -35,7 +35,7 @@ pub(crate) enum Judgement {
 impl Judgement {
     /// How a run ends that tells it.
     pub(crate) fn status(&self) -> Status
-        ensures { result ≡ judged_status self.now }
+        ensures { result ≡ fit_judged_status self.now }
     {
         match self {
             Judgement::Certified { .. } => Status::Done,
@@ -47,7 +47,7 @@ impl Judgement {
 /// The line of a judgement over the grid of side 2^n.
 pub(crate) fn judgement_report(n: u32, judgement: &Judgement) -> Text
     requires in_grid { n ≤ GREATEST_LEVEL }
-    ensures { result.items ≡ judged_text n judgement.now }
+    ensures { result.items ≡ fit_judged_text n judgement.now }
 {
     match judgement {
         Judgement::Certified {

@@ -1,6 +1,6 @@
 -- Acts that stand, one after another, and acts that were cut short.
 use Rattle.std.proofs.Common.{◌≡◌, ℕ, true, List, [], ◌∷◌, ◌++◌, Option, Some, Result, Ok, Err, OnOk, OnErr, refl, sym, ◌∙◌, ap, subst, append_assoc, append-nil}
-use Rattle.roam_edge.specs.MeshSink.{Mesh}
+use Rattle.roam_edge.specs.MeshSink.{WrittenMesh}
 use Rattle.roam_edge.specs.Told.{IsPrefix}
 use Rattle.roam_edge.specs.Fault.{Rose}
 use Rattle.obj_write.specs.Written.{mesh_with, Grows, IsPartOfMesh}
@@ -109,9 +109,9 @@ cut-longer before now acts more cut = record {
 }
 
 -- a mesh was cut short, and nothing else was done
-pub cut-mesh : {k k' i : ℕ} (meshes meshes' : Option (List Mesh)) (report : Option (List ℕ)) (prefix : List ℕ) (number : ℕ)
+pub cut-mesh : {k k' i : ℕ} (meshes meshes' : Option (List WrittenMesh)) (report : Option (List ℕ)) (prefix : List ℕ) (number : ℕ)
     (bytes : List ℕ) (owed : List Act)
-    → ((all : List Mesh) → meshes ≡ Some all → (part : List Mesh) × IsPartOfMesh prefix number bytes part × (meshes' ≡ Some (all ++ part)))
+    → ((all : List WrittenMesh) → meshes ≡ Some all → (part : List WrittenMesh) × IsPartOfMesh prefix number bytes part × (meshes' ≡ Some (all ++ part)))
     → Rose k k' → IsCutShort (told meshes report k i) (told meshes' report k' i) (WholeMesh prefix number bytes ∷ owed)
 cut-mesh meshes meshes' report prefix number bytes owed part rose = record {
   done = [];
@@ -122,7 +122,7 @@ cut-mesh meshes meshes' report prefix number bytes owed part rose = record {
 }
 
 -- a mesh was written whole, and then a line was cut short
-pub cut-line : {k k' i i' : ℕ} (meshes meshes' : Option (List Mesh)) (report report' : Option (List ℕ)) (prefix : List ℕ)
+pub cut-line : {k k' i i' : ℕ} (meshes meshes' : Option (List WrittenMesh)) (report report' : Option (List ℕ)) (prefix : List ℕ)
     (number : ℕ) (bytes line : List ℕ)
     → Grows meshes meshes' (mesh_with prefix number bytes true ∷ []) → k' ≡ k
     → ((all : List ℕ) → report ≡ Some all → (front : List ℕ) × IsPrefix front line × (report' ≡ Some (all ++ front)))
@@ -136,7 +136,7 @@ cut-line meshes meshes' report report' prefix number bytes line whole same part 
 }
 
 -- a line was cut short, and nothing else was done
-pub cut-only-line : {k i i' : ℕ} (meshes : Option (List Mesh)) (report report' : Option (List ℕ)) (line : List ℕ) (owed : List Act)
+pub cut-only-line : {k i i' : ℕ} (meshes : Option (List WrittenMesh)) (report report' : Option (List ℕ)) (line : List ℕ) (owed : List Act)
     → ((all : List ℕ) → report ≡ Some all → (front : List ℕ) × IsPrefix front line × (report' ≡ Some (all ++ front)))
     → Rose i i' → IsCutShort (told meshes report k i) (told meshes report' k i') (ReportText line ∷ owed)
 cut-only-line meshes report report' line owed part rose = record {
@@ -148,7 +148,7 @@ cut-only-line meshes report report' line owed part rose = record {
 }
 
 -- a text was written
-pub stands-text : {k i i' : ℕ} (meshes : Option (List Mesh)) (report report' : Option (List ℕ)) (text : List ℕ)
+pub stands-text : {k i i' : ℕ} (meshes : Option (List WrittenMesh)) (report report' : Option (List ℕ)) (text : List ℕ)
     → ((all : List ℕ) → report ≡ Some all → report' ≡ Some (all ++ text))
     → i' ≡ i → Stands (told meshes report k i) (told meshes report' k i') (ReportText text ∷ [])
 stands-text meshes report report' text came same = record {

@@ -3,7 +3,7 @@ use Rattle.std.proofs.Common.{◌≡◌, ◌≢◌, ℕ, zero, suc, ◌≤◌, I
 use Rattle.std.proofs.lemmas.Option.{same_Some, none-some}
 use Rattle.mesh_defs.specs.HeightField.{HeightField}
 use Rattle.mesh_defs.specs.State.{State, start_state}
-use Rattle.roam_edge.specs.MeshSink.{Mesh}
+use Rattle.roam_edge.specs.MeshSink.{WrittenMesh}
 use Rattle.roam_edge.specs.Shelf.{NamedFile, bytes_of}
 use Rattle.mesh_defs.specs.Priority.{priority_of}
 use Rattle.mesh_defs.specs.View.{View}
@@ -37,7 +37,7 @@ same-grid : (answer : Result HeightField PgmFault) (g h : HeightField) → answe
 same-grid answer g h one two = cc
 
 module _ (best : FramesAreBest) (two : BudgetsAreTwo) (read_texts : TextsAreRead) (words : List (List ℕ)) (files : List NamedFile) (s : Scripted) (grid : HeightField)
-    (run : IsRunOf words files (Frames s) grid) (shown : IsSome (prefix_of s.show)) (before now : Told) (old new : Seen) (all : List Mesh)
+    (run : IsRunOf words files (Frames s) grid) (shown : IsSome (prefix_of s.show)) (before now : Told) (old new : Seen) (all : List WrittenMesh)
     (told : old.files ≡ Some files) (there : before.meshes ≡ Some all) where
   abbrev script : List ℕ
   script = bytes_of files s.script

@@ -4,13 +4,13 @@ use Rattle.std.proofs.lemmas.Bool.{lt-ltb}
 use Rattle.std.proofs.lemmas.List.Elements.{All-from_recursion}
 use Rattle.roam_script.specs.declared.limits.TheConstants.{MOST_LINE_BYTES}
 use Rattle.text_laws.specs.Fields.{fields_of, without_last_cr}
-use Rattle.cert_text.specs.CertLine.{fields_line, line_in}
-use Rattle.cert_text.specs.CertReader.{ReadSoFar, nothing_read, taken, cert_line_in}
+use Rattle.cert_text.specs.CertLine.{cert_fields_line, read_cert_line}
+use Rattle.cert_text.specs.CertReader.{ReadSoFar, nothing_read, line_taken, cert_line_in}
 use Rattle.fit_cert_text.specs.FitLine as fit_line
 use Rattle.fit_cert_text.specs.FitCertReader.{fit_line_in}
 use Rattle.fit_cert_text.specs.FitCertReader as fit
 use Rattle.run_laws.specs.Walk.{lines_of, AreWhole}
-use Rattle.run_laws.specs.CertFile.{lines_behind, lines_in, file_in, Place, HaveCome, cert_of, cert_in, fit_cert_of, fit_cert_in}
+use Rattle.run_laws.specs.CertFile.{lines_behind, lines_in, file_in, FilePlace, HaveCome, cert_of, cert_in, fit_cert_of, fit_cert_in}
 use Rattle.run_laws.proofs.LineLemmas.{NoEnd, no_end, no_end-append, lines_of-ends, lines_of-last, lines_of-begins, BeginsWith}
 use Rattle.run_laws.proofs.WalkLemmas.{lines_of-ended}
 
@@ -63,9 +63,9 @@ file-said step start finish file format bytes answer is = format.whole bytes ∙
 -- a certificate of a mesh is one
 
 cert-long : (n : ℕ) (said : ReadSoFar) (bytes : List ℕ) → MOST_LINE_BYTES < length bytes → cert_line_in n said bytes ≡ None
-unfolding line_in
+unfolding read_cert_line
 cert-long n said bytes long =
-    ap (λ (b : Bool). elim (if b then None else fields_line n (fields_of (without_last_cr bytes))) as (λ _. Option ReadSoFar) [ None ↦ None | Some line ↦ taken said line ])
+    ap (λ (b : Bool). elim (if b then None else cert_fields_line n (fields_of (without_last_cr bytes))) as (λ _. Option ReadSoFar) [ None ↦ None | Some line ↦ line_taken said line ])
     (lt-ltb MOST_LINE_BYTES (length bytes) long)
 
 cert-whole : (n : ℕ) (bytes : List ℕ) → cert_in n bytes ≡ file_in (cert_line_in n) nothing_read cert_of bytes
@@ -77,23 +77,23 @@ cert-format n = record { long = cert-long n; whole = cert-whole n }
 
 -- so is one of a fitted mesh
 
-fit-long : (n : ℕ) (said : fit.ReadSoFar) (bytes : List ℕ) → MOST_LINE_BYTES < length bytes → fit_line_in n said bytes ≡ None
-unfolding fit_line.line_in
+fit-long : (n : ℕ) (said : fit.FitReadSoFar) (bytes : List ℕ) → MOST_LINE_BYTES < length bytes → fit_line_in n said bytes ≡ None
+unfolding fit_line.read_fit_line
 fit-long n said bytes long =
-    ap (λ (b : Bool). elim (if b then None else fit_line.fields_line n (fields_of (without_last_cr bytes))) as (λ _. Option fit.ReadSoFar)
-    [ None ↦ None | Some line ↦ fit.taken said line ])
+    ap (λ (b : Bool). elim (if b then None else fit_line.fit_fields_line n (fields_of (without_last_cr bytes))) as (λ _. Option fit.FitReadSoFar)
+    [ None ↦ None | Some line ↦ fit.fit_line_taken said line ])
     (lt-ltb MOST_LINE_BYTES (length bytes) long)
 
-fit-whole : (n : ℕ) (bytes : List ℕ) → fit_cert_in n bytes ≡ file_in (fit_line_in n) fit.nothing_read fit_cert_of bytes
+fit-whole : (n : ℕ) (bytes : List ℕ) → fit_cert_in n bytes ≡ file_in (fit_line_in n) fit.nothing_fit_read fit_cert_of bytes
 unfolding fit_cert_in
 fit-whole n bytes = refl
 
-pub fit-format : (n : ℕ) → IsFormat (fit_line_in n) fit.nothing_read fit_cert_of (fit_cert_in n)
+pub fit-format : (n : ℕ) → IsFormat (fit_line_in n) fit.nothing_fit_read fit_cert_of (fit_cert_in n)
 fit-format n = record { long = fit-long n; whole = fit-whole n }
 
 -- the place that was reached
 
-abbrev pub place : {S : Type 0} → S → ℕ → List ℕ → Place S
+abbrev pub place : {S : Type 0} → S → ℕ → List ℕ → FilePlace S
 place all count part = record { said = all; lines = count; begun = part }
 
 -- nothing was read
@@ -109,7 +109,7 @@ come-begin step start = record {
 }
 
 module _ {S C : Type 0} (step : S → List ℕ → Option S) (start : S) (finish : S → Result C ℕ) (file : List ℕ → Result C ℕ)
-    (format : IsFormat step start finish file) (read : List ℕ) (here : Place S) (come : HaveCome step start read here) where
+    (format : IsFormat step start finish file) (read : List ℕ) (here : FilePlace S) (come : HaveCome step start read here) where
   begun-ends : NoEnd here.begun
   begun-ends = no_end here.begun come.one_line
 

@@ -4,7 +4,7 @@ use Rattle.std.specs.Prelude.{◌≢◌, Result}
 use Rattle.std.proofs.lemmas.Option.{none-some}
 use Rattle.mesh_defs.specs.HeightField.{HeightField}
 use Rattle.mesh_defs.specs.State.{text_in}
-use Rattle.roam_edge.specs.MeshSink.{Mesh}
+use Rattle.roam_edge.specs.MeshSink.{WrittenMesh}
 use Rattle.roam_edge.specs.Fault.{Rose}
 use Rattle.obj_write.specs.Written.{mesh_with, IsPartOfMesh}
 use Rattle.roam_edge.specs.Shelf.{bytes_of}
@@ -111,7 +111,7 @@ cut_at show k (p ∷ ps) behind done next owed same =
 some-one : {A : Type 0} (a b : A) → Some a ≡ Some b → a ≡ b
 some-one a b same = cc
 
-mesh_cases : (before now : Told) (acts : List Act) (prefix : List ℕ) (number : ℕ) (bytes : List ℕ) (meshes : Option (List Mesh)) → before.meshes ≡ meshes
+mesh_cases : (before now : Told) (acts : List Act) (prefix : List ℕ) (number : ℕ) (bytes : List ℕ) (meshes : Option (List WrittenMesh)) → before.meshes ≡ meshes
     → StandsInPart before now acts (WholeMesh prefix number bytes) → StandsUnbegun before now acts
     ⊎ StandsInMesh before now acts prefix number bytes
 mesh_cases before now acts prefix number bytes None is part = inl (record {
@@ -124,9 +124,9 @@ mesh_cases before now acts prefix number bytes (Some known) is part =
     let stood = part.0 known is in
     mesh_cases_of before now acts prefix number bytes known is part.1 part.2 part.3 stood.0 stood.1 stood.2
   where
-    mesh_cases_of : (before now : Told) (acts : List Act) (prefix : List ℕ) (number : ℕ) (bytes : List ℕ) (known : List Mesh) → before.meshes ≡ Some known
+    mesh_cases_of : (before now : Told) (acts : List Act) (prefix : List ℕ) (number : ℕ) (bytes : List ℕ) (known : List WrittenMesh) → before.meshes ≡ Some known
         → ((all : List ℕ) → before.report ≡ Some all → now.report ≡ Some (all ++ report_of acts))
-        → Rose before.mesh_faults now.mesh_faults → now.report_faults ≡ before.report_faults → (piece : List Mesh)
+        → Rose before.mesh_faults now.mesh_faults → now.report_faults ≡ before.report_faults → (piece : List WrittenMesh)
         → IsPartOfMesh prefix number bytes piece
         → now.meshes ≡ Some (known ++ (meshes_of acts ++ piece)) → StandsUnbegun before now acts
         ⊎ StandsInMesh before now acts prefix number bytes

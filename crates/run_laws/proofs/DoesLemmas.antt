@@ -1,7 +1,7 @@
 -- What calls do to the outside of a run, and one call after another.
 use Rattle.std.proofs.Common.{◌≡◌, ℕ, Bool, true, false, ◌||◌, nat_lt, IsTrue, List, [], ◌∷◌, ◌++◌, Option, Some, Result, Ok, Err, OnOk, OnErr, refl, sym, ◌∙◌, ap, subst, inl, inr, arith}
 use Rattle.roam_edge.specs.Fault.{HasCause, Rose, IsInTime, late_after}
-use Rattle.roam_edge.specs.MeshSink.{Mesh}
+use Rattle.roam_edge.specs.MeshSink.{WrittenMesh}
 use Rattle.roam_edge.specs.Sink.{Appends}
 use Rattle.obj_write.specs.Written.{mesh_with, Grows, IsPartOfMesh}
 use Rattle.run_laws.specs.declared.status.Status.{Status}
@@ -77,8 +77,8 @@ pub does-mesh : {T E : Type 0} (before now : Moment) (prefix : List ℕ) (number
     → now.sinks.report ≡ before.sinks.report → now.sinks.report_faults ≡ before.sinks.report_faults → now.report_late ≡ before.report_late
     → OnOk answer (Grows before.sinks.meshes now.sinks.meshes (mesh_with prefix number bytes true ∷ []))
     → OnOk answer (now.under_way ≡ false)
-    → OnErr answer ((all : List Mesh) → before.sinks.meshes ≡ Some all
-    → (part : List Mesh) × IsPartOfMesh prefix number bytes part × (now.sinks.meshes ≡ Some (all ++ part)))
+    → OnErr answer ((all : List WrittenMesh) → before.sinks.meshes ≡ Some all
+    → (part : List WrittenMesh) × IsPartOfMesh prefix number bytes part × (now.sinks.meshes ≡ Some (all ++ part)))
     → HasCause before.sinks.mesh_faults now.sinks.mesh_faults answer
     → IsInTime before.mesh_late before.sinks.mesh_faults now.mesh_late
     → Does before now (WholeMesh prefix number bytes ∷ []) answer

@@ -10,7 +10,7 @@ use Rattle.certificate_laws.specs.declared.reason.Reject.TheVariants.{BadLine, M
 use Rattle.fit_certificate_laws.specs.declared.reason.Target.{Target as Goal}
 use Rattle.fit_certificate_laws.specs.declared.reason.Verdict.{Verdict}
 use Rattle.fit_certificate_laws.specs.declared.reason.Verdict.TheVariants as verdict
-use Rattle.fit_certificate_laws.specs.Certificate.{FitCertificate, IsVerdictOf, IsSound}
+use Rattle.fit_certificate_laws.specs.Certificate.{FitCertificate, IsVerdictOf, IsFitSound}
 use Rattle.fit_certificate_laws.specs.Making.{IsPossible}
 use Rattle.fit_certificate_laws.proofs.SoundLemmas.{sound-error, sound-budget}
 use Rattle.fit_certificate_laws.proofs.DecisionLemmas.{verdict_found, verdict-is, verdict_one, mesh_one}
@@ -123,7 +123,7 @@ module _ (c : FitChecking) (grid : HeightField) (cert : FitCertificate) (triangl
 
 -- a sound certificate is of the mesh of its target
 sound-fits : (target : Target) (grid : HeightField) (cert : FitCertificate) (triangles : List ℕ)
-    → IsSound grid.n grid.heights (goal_of grid.n target) cert triangles → IsFitFor target grid triangles
+    → IsFitSound grid.n grid.heights (goal_of grid.n target) cert triangles → IsFitFor target grid triangles
 sound-fits (AtError thousandths) grid cert triangles sound = sound-error grid.n grid.heights _ cert triangles sound
 sound-fits (InBudget budget) grid cert triangles sound = sound-budget grid.n grid.heights budget cert triangles sound
 

@@ -3,7 +3,7 @@ use Rattle.std.proofs.lemmas.List.Elements.{All-nil, All-cons}
 use Rattle.std.proofs.Common.{◌≡◌, ◌≢◌, ℕ, ◌≤◌, true, false, IsTrue, List, [], ◌∷◌, ◌++◌, length, Option, Some, Result, inl, inr, refl, sym, ◌∙◌, ap, subst, append-nil, arith}
 use Rattle.std.specs.List.{All}
 use Rattle.mesh_defs.specs.HeightField.{HeightField}
-use Rattle.roam_edge.specs.MeshSink.{Mesh}
+use Rattle.roam_edge.specs.MeshSink.{WrittenMesh}
 use Rattle.roam_edge.specs.Shelf.{NamedFile, bytes_of}
 use Rattle.pgm_grid.specs.declared.fault.PgmFault.{PgmFault}
 use Rattle.pgm_grid.specs.Laws.{TextsAreRead}
@@ -27,15 +27,15 @@ no-script : (name : List ℕ) (f : Fitting) → IsTrue (has_script (OnGrid name 
 no-script name f is = cc
 
 module _ (read_texts : TextsAreRead) (words : List (List ℕ)) (files : List NamedFile) (f : Fitting) (grid : HeightField) (run : IsRunOf words files (Fit f) grid)
-    (before now : Told) (old new : Seen) (all : List Mesh) (there : before.meshes ≡ Some all) where
+    (before now : Told) (old new : Seen) (all : List WrittenMesh) (there : before.meshes ≡ Some all) where
   abbrev Keeps : Status → Type 0
   Keeps status = KeepsFitMesh f grid before now all status
 
   -- a mesh that is right if it is finished
-  abbrev Fits : Mesh → Type 0
+  abbrev Fits : WrittenMesh → Type 0
   Fits mesh = mesh.finished ≡ true → IsFitMeshOf f grid mesh
 
-  one-fits : (mesh : Mesh) → Fits mesh → All Fits (mesh ∷ [])
+  one-fits : (mesh : WrittenMesh) → Fits mesh → All Fits (mesh ∷ [])
   one-fits mesh fits = All-cons Fits mesh [] fits (All-nil Fits)
 
   -- the outcome of the words is that of the fit

@@ -21,13 +21,13 @@ use Rattle.run_laws.specs.Picture.{Picture, ArePictures, IsCertified}
 use Rattle.run_laws.specs.ReportText.{all_triangles, worst_in, count_blocked, sums_line, try_line}
 use Rattle.run_laws.specs.Outcome.{Outcome, shown_acts, stop_acts, stop_status, engine_end, made_budget, made_spacing, made_walk, IsFramesOutcome, IsWordsOutcome, IsOutcome}
 use Rattle.run_laws.specs.Laws.{PicturesAreCertified}
-use Rattle.run_laws.specs.GeneratedLaws.{HasRoom, unblocked_end, LowLevelsAreUnblocked}
+use Rattle.run_laws.specs.GeneratedLaws.{HasRoomForAll, unblocked_end, LowLevelsAreUnblocked}
 use Rattle.run_laws.proofs.OutcomeLemmas.{made_grid-level}
 use Rattle.run_laws.proofs.WalkLemmas.{along-stop}
 
 -- The generated lines set no budget.
 
-room-append : (xs ys : List State) → AllByRecursion HasRoom xs → AllByRecursion HasRoom ys → AllByRecursion HasRoom (xs ++ ys)
+room-append : (xs ys : List State) → AllByRecursion HasRoomForAll xs → AllByRecursion HasRoomForAll ys → AllByRecursion HasRoomForAll (xs ++ ys)
 room-append [] ys f g = g
 room-append (x ∷ xs) ys f g = (f.0, room-append xs ys f.1 g)
 
@@ -36,8 +36,8 @@ SetsNoBudget line = (most : ℕ) → line ≡ Budget most → ⊥
 
 -- the state of a walk and those of its frames have room
 record KeepsRoom (walk : Walk) : Type 0 where
-  pub here : HasRoom walk.state
-  pub frames : AllByRecursion HasRoom walk.frames
+  pub here : HasRoomForAll walk.state
+  pub frames : AllByRecursion HasRoomForAll walk.frames
 
 line-room : (walk : Walk) (line : Line) → SetsNoBudget line → KeepsRoom walk → KeepsRoom (after_line line walk)
 line-room walk Blank none keeps = record { here = keeps.here; frames = room-append walk.frames [] keeps.frames tt }
@@ -68,7 +68,7 @@ none-frames n seed [] = tt
 none-frames n seed (f ∷ fs) =
     none-append (frame_lines n seed f) (flat_map (frame_lines n seed) fs) (none-frame n seed f (f % 10 == 0)) (none-frames n seed fs)
 
-made-room : (n seed : ℕ) → 2 * 4 ^ n ≤ made_budget → AllByRecursion HasRoom (made_walk n seed).frames
+made-room : (n seed : ℕ) → 2 * 4 ^ n ≤ made_budget → AllByRecursion HasRoomForAll (made_walk n seed).frames
 unfolding made_lines
 made-room n seed fits =
     let P : ℕ → Type 0 = λ k. 2 * 4 ^ k ≤ made_budget in
@@ -90,7 +90,7 @@ frame-unblocked n budget priority has worst (Some b) fits f =
 abbrev IsUnblocked : Picture → Type 0
 IsUnblocked picture = picture.blocked ≡ None
 
-pictures-unblocked : (n seed : ℕ) (before : List ℕ) (states : List State) (ps : List Picture) → AllByRecursion HasRoom states
+pictures-unblocked : (n seed : ℕ) (before : List ℕ) (states : List State) (ps : List Picture) → AllByRecursion HasRoomForAll states
     → ArePictures (as_sums n seed) before states ps → AllByRecursion IsUnblocked ps
 pictures-unblocked n seed before [] [] room are = tt
 pictures-unblocked n seed before [] (p ∷ ps) room are = absurd are

@@ -4,7 +4,7 @@ use Rattle.std.proofs.Math.Nat.{min-eq_left}
 use Rattle.mesh_defs.specs.HeightField.{HeightField}
 use Rattle.mesh_defs.specs.State.{start_state}
 use Rattle.roam_edge.specs.Fault.{next_count, Rose}
-use Rattle.roam_edge.specs.MeshSink.{Mesh}
+use Rattle.roam_edge.specs.MeshSink.{WrittenMesh}
 use Rattle.roam_edge.specs.Shelf.{NamedFile, bytes_of}
 use Rattle.roam_edge.specs.Told.{IsPrefix}
 use Rattle.pgm_grid.specs.declared.fault.PgmFault.{PgmFault}
@@ -39,7 +39,7 @@ next_count-two before middle now low is more =
     omega (arith, one, two)
 
 -- the last text of a run was cut short
-pub text-cut : {k i i' : ℕ} (meshes : Option (List Mesh)) (report report' : Option (List ℕ)) (text : List ℕ) (status : Status) (files : ℕ)
+pub text-cut : {k i i' : ℕ} (meshes : Option (List WrittenMesh)) (report report' : Option (List ℕ)) (text : List ℕ) (status : Status) (files : ℕ)
     → ((all : List ℕ) → report ≡ Some all → (front : List ℕ) × IsPrefix front text × (report' ≡ Some (all ++ front)))
     → Rose i i' → DoesAs (told meshes report k i) (told meshes report' k i') (text_outcome text status files) ends.WriteFault
 text-cut meshes report report' text status files part rose =

@@ -10,7 +10,7 @@ use Rattle.strip_laws.proofs.OrderLemmas.{AreLeaves-strip_of, once-strip_of}
 use Rattle.strip_laws.proofs.StripLemmas.{IsRing-strip_of}
 use Rattle.least_laws.specs.Least.{IsLeastMesh}
 use Rattle.bintree_addr.specs.declared.blocked.Blocked.{Blocked}
-use Rattle.roam_edge.specs.MeshSink.{Mesh}
+use Rattle.roam_edge.specs.MeshSink.{WrittenMesh}
 use Rattle.obj_write.specs.Written.{mesh_with, IsPartOfMesh}
 use Rattle.run_laws.specs.declared.status.Status.{Status}
 use Rattle.run_laws.specs.Walk.{Refusal}
@@ -126,7 +126,7 @@ count-meshes show k before (s ∷ states) (p ∷ ps) some f =
     one-count show k p (shown_acts show (k + 1) ps) some ∙ ap suc (count-meshes show (k + 1) p.members states ps some f.1)
 
 -- all are finished
-finished-meshes : (acts : List Act) → AllByRecursion (λ (mesh : Mesh). mesh.finished ≡ true) (meshes_of acts)
+finished-meshes : (acts : List Act) → AllByRecursion (λ (mesh : WrittenMesh). mesh.finished ≡ true) (meshes_of acts)
 finished-meshes [] = tt
 finished-meshes (WholeMesh prefix number bytes ∷ acts) = (refl, finished-meshes acts)
 finished-meshes (ReportText bytes ∷ acts) = finished-meshes acts
@@ -149,37 +149,37 @@ outcome-meshes : (show : Show) (ps : List Picture) (stop : Option Refusal)
     → meshes_of (shown_acts show 1 ps ++ (sum_acts show ps ++ stop_acts stop)) ≡ meshes_of (shown_acts show 1 ps)
 outcome-meshes show ps stop =
     meshes_of-append (shown_acts show 1 ps) (sum_acts show ps ++ stop_acts stop)
-    ∙ (ap (λ (l : List Mesh). meshes_of (shown_acts show 1 ps) ++ l) (no-mesh-sum show ps stop) ∙ append-nil (meshes_of (shown_acts show 1 ps)))
+    ∙ (ap (λ (l : List WrittenMesh). meshes_of (shown_acts show 1 ps) ++ l) (no-mesh-sum show ps stop) ∙ append-nil (meshes_of (shown_acts show 1 ps)))
 
 -- the first of good frames
-frames-first : (show : Show) (k : ℕ) (states : List State) (xs ys : List Mesh) → AreGoodFrames show k states (xs ++ ys) → AreGoodFrames show k states xs
+frames-first : (show : Show) (k : ℕ) (states : List State) (xs ys : List WrittenMesh) → AreGoodFrames show k states (xs ++ ys) → AreGoodFrames show k states xs
 frames-first show k states [] ys frames = tt
 frames-first show k [] (mesh ∷ xs) ys frames = absurd frames
 frames-first show k (s ∷ states) (mesh ∷ xs) ys frames = (frames.0, frames-first show (k + 1) states xs ys frames.1)
 
 -- good frames of the first of some states
-frames-more : (show : Show) (k : ℕ) (ss ts : List State) (xs : List Mesh) → AreGoodFrames show k ss xs → AreGoodFrames show k (ss ++ ts) xs
+frames-more : (show : Show) (k : ℕ) (ss ts : List State) (xs : List WrittenMesh) → AreGoodFrames show k ss xs → AreGoodFrames show k (ss ++ ts) xs
 frames-more show k ss ts [] frames = tt
 frames-more show k [] ts (mesh ∷ xs) frames = absurd frames
 frames-more show k (s ∷ ss) ts (mesh ∷ xs) frames = (frames.0, frames-more show (k + 1) ss ts xs frames.1)
 
 -- a mesh of good frames in part
-frames-part : (show : Show) (k : ℕ) (states : List State) (xs part more : List Mesh) (prefix : List ℕ) (count : ℕ) (bytes : List ℕ)
+frames-part : (show : Show) (k : ℕ) (states : List State) (xs part more : List WrittenMesh) (prefix : List ℕ) (count : ℕ) (bytes : List ℕ)
     → AreGoodFrames show k states (xs ++ (mesh_with prefix count bytes true ∷ more)) → IsPartOfMesh prefix count bytes part
     → AreGoodFrames show k states (xs ++ part)
 frames-part show k [] [] part more prefix count bytes frames is = absurd frames
 frames-part show k (s ∷ states) [] part more prefix count bytes frames (inl none) =
-    let P : List Mesh → Type 0 = λ m. AreGoodFrames show k (s ∷ states) m in
+    let P : List WrittenMesh → Type 0 = λ m. AreGoodFrames show k (s ∷ states) m in
     subst P (sym none) tt
 frames-part show k (s ∷ states) [] part more prefix count bytes frames (inr some) =
-    let P : List Mesh → Type 0 = λ m. AreGoodFrames show k (s ∷ states) m in
+    let P : List WrittenMesh → Type 0 = λ m. AreGoodFrames show k (s ∷ states) m in
     subst P (sym some.2) ((λ e. cc), tt)
 frames-part show k [] (mesh ∷ xs) part more prefix count bytes frames is = absurd frames
 frames-part show k (s ∷ states) (mesh ∷ xs) part more prefix count bytes frames is =
     (frames.0, frames-part show (k + 1) states xs part more prefix count bytes frames.1 is)
 
 module _ (best : FramesAreBest) (two : BudgetsAreTwo) (s : Scripted) (grid : HeightField) (script : List ℕ) (some : IsSome (prefix_of s.show)) (low : 2 ≤ s.budget)
-    (before now : Told) (all : List Mesh) (there : before.meshes ≡ Some all) (status : Status) where
+    (before now : Told) (all : List WrittenMesh) (there : before.meshes ≡ Some all) (status : Status) where
   -- the headline of a run that did all of its outcome
   pub complete-keeps : (end : Outcome) → IsFramesOutcome s.show 2 (script_walk s grid script) end → Stands before now end.acts → KeepsGoodMeshes s grid script all now.meshes status
   complete-keeps end is stands =
@@ -188,10 +188,10 @@ module _ (best : FramesAreBest) (two : BudgetsAreTwo) (s : Scripted) (grid : Hei
       ap (λ (o : Outcome). meshes_of o.acts) is.2 ∙ outcome-meshes s.show ps (script_walk s grid script).stop in
       record {
         added = meshes_of (shown_acts s.show 1 ps);
-        behind = stands.meshes_grow all there ∙ ap (λ (l : List Mesh). Some (all ++ l)) same;
+        behind = stands.meshes_grow all there ∙ ap (λ (l : List WrittenMesh). Some (all ++ l)) same;
         frames = good-meshes best s.show 1 grid.n [] (script_walk s grid script).frames ps some (script-states two s grid script low) is.1;
         all_frames = λ ends. count-meshes s.show 1 [] (script_walk s grid script).frames ps some is.1;
-        all_finished = λ ends. All-from_recursion (λ (mesh : Mesh). mesh.finished ≡ true) (meshes_of (shown_acts s.show 1 ps)) (finished-meshes (shown_acts s.show 1 ps));
+        all_finished = λ ends. All-from_recursion (λ (mesh : WrittenMesh). mesh.finished ≡ true) (meshes_of (shown_acts s.show 1 ps)) (finished-meshes (shown_acts s.show 1 ps));
       }
 
   module _ (unfinished : IsTrue (ends_script status) → ⊥) where
@@ -235,7 +235,7 @@ module _ (best : FramesAreBest) (two : BudgetsAreTwo) (s : Scripted) (grid : Hei
         let same : meshes_of (shown_acts s.show 1 ps) ≡ meshes_of cut.done ++ meshes_of (cut.next ∷ cut.owed) =
         sym (ap (λ (o : Outcome). meshes_of o.acts) is.2 ∙ outcome-meshes s.show ps (script_walk s grid script).stop)
         ∙ (ap meshes_of cut.in_order ∙ meshes_of-append cut.done (cut.next ∷ cut.owed)) in
-        let P : List Mesh → Type 0 = λ m. AreGoodFrames s.show 1 (script_walk s grid script).frames m in
+        let P : List WrittenMesh → Type 0 = λ m. AreGoodFrames s.show 1 (script_walk s grid script).frames m in
         part-keeps cut.done cut.next cut.owed (subst P same good) cut.standing
 
     -- the headline of a run that added no mesh

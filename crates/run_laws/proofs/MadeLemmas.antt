@@ -72,16 +72,16 @@ reasons-may n worst priority before [] are = tt
 reasons-may n worst priority before (r ∷ reasons) are = (are.0.splittable, reasons-may n worst priority (before ++ r ∷ []) reasons are.1)
 
 -- a certificate of a fitted mesh is read back from its text
-pub fit-back : fit_text.WrittenLinesAreRead → fit_text.WrittenLinesAreEnded → fit_text.WrittenLinesAreLines
-    → (n : ℕ) (cert : FitCertificate) → fit_text.IsCertificateOf n cert → fit_cert_in n (fit_cert_text cert) ≡ Ok cert
+pub fit-back : fit_text.WrittenFitLinesAreRead → fit_text.WrittenFitLinesAreEnded → fit_text.WrittenFitLinesAreLines
+    → (n : ℕ) (cert : FitCertificate) → fit_text.IsFitCertificateOf n cert → fit_cert_in n (fit_cert_text cert) ≡ Ok cert
 fit-back read ended whole n cert is =
-    let all : fit.ReadSoFar = fit.read_so_far (Some cert.tolerance) true cert.needed cert.beyond in
-    let step : fit.ReadSoFar → List ℕ → Option fit.ReadSoFar = fit_line_in n in
-    file-said step fit.nothing_read fit_cert_of (fit_cert_in n) (fit-format n) (fit_cert_text cert) (Ok all)
-    (ap (λ (l : List ℕ). lines_behind step 1 fit.nothing_read (lines_of l)) (ended cert)
-    ∙ (ap (λ (l : List (List ℕ)). lines_behind step 1 fit.nothing_read l)
+    let all : fit.FitReadSoFar = fit.fit_read_so_far (Some cert.tolerance) true cert.needed cert.beyond in
+    let step : fit.FitReadSoFar → List ℕ → Option fit.FitReadSoFar = fit_line_in n in
+    file-said step fit.nothing_fit_read fit_cert_of (fit_cert_in n) (fit-format n) (fit_cert_text cert) (Ok all)
+    (ap (λ (l : List ℕ). lines_behind step 1 fit.nothing_fit_read (lines_of l)) (ended cert)
+    ∙ (ap (λ (l : List (List ℕ)). lines_behind step 1 fit.nothing_fit_read l)
     (lines_of-lines (fit_cert_lines cert) (recursion_from_All IsOneLine (fit_cert_lines cert) (whole n cert is)))
-    ∙ read-said step 1 fit.nothing_read all (fit_cert_lines cert) (read n cert is)))
+    ∙ read-said step 1 fit.nothing_fit_read all (fit_cert_lines cert) (read n cert is)))
 
 module _ (read : WrittenLinesAreRead) (ended : WrittenLinesAreEnded) (whole : WrittenLinesAreLines) where
   -- a certificate of the grid is read back from its text

@@ -1,7 +1,7 @@
 -- What a frame shows: its mesh and its line, written or cut short; and a line that makes no frame shows nothing.
 use Rattle.std.proofs.Common.{◌≡◌, ◌≢◌, ℕ, true, List, [], ◌∷◌, ◌++◌, Option, Some, refl, subst}
 use Rattle.mesh_defs.specs.State.{State}
-use Rattle.roam_edge.specs.MeshSink.{Mesh}
+use Rattle.roam_edge.specs.MeshSink.{WrittenMesh}
 use Rattle.roam_edge.specs.Told.{IsPrefix}
 use Rattle.roam_edge.specs.Fault.{Rose}
 use Rattle.obj_write.specs.Written.{mesh_with, Grows, IsPartOfMesh}
@@ -22,18 +22,18 @@ shown_by-none NoPlanes state other = refl
 shown_by-none (Budget n) state other = refl
 shown_by-none (Raise a b c d e) state other = refl
 
-module _ (meshes meshes' : Option (List Mesh)) (report report' : Option (List ℕ)) (prefix : List ℕ) (number count : ℕ) (bytes line text words : List ℕ)
+module _ (meshes meshes' : Option (List WrittenMesh)) (report report' : Option (List ℕ)) (prefix : List ℕ) (number count : ℕ) (bytes line text words : List ℕ)
     (same : count ≡ number) (is : text ≡ bytes) (says : words ≡ line) where
   abbrev acts : List Act
   acts = WholeMesh prefix number bytes ∷ (ReportText line ∷ [])
 
   -- the mesh was cut short
-  pub cut-acts-mesh : {k k' i : ℕ} → ((all : List Mesh) → meshes ≡ Some all → (part : List Mesh)
+  pub cut-acts-mesh : {k k' i : ℕ} → ((all : List WrittenMesh) → meshes ≡ Some all → (part : List WrittenMesh)
       × IsPartOfMesh prefix count text part × (meshes' ≡ Some (all ++ part)))
       → Rose k k' → IsCutShort (told meshes report k i) (told meshes' report k' i) acts
   cut-acts-mesh part rose =
-      let P : List ℕ → Type 0 = λ t. (all : List Mesh) → meshes ≡ Some all → (cut : List Mesh) × IsPartOfMesh prefix number t cut × (meshes' ≡ Some (all ++ cut)) in
-      let Q : ℕ → Type 0 = λ k. (all : List Mesh) → meshes ≡ Some all → (cut : List Mesh) × IsPartOfMesh prefix k text cut × (meshes' ≡ Some (all ++ cut)) in
+      let P : List ℕ → Type 0 = λ t. (all : List WrittenMesh) → meshes ≡ Some all → (cut : List WrittenMesh) × IsPartOfMesh prefix number t cut × (meshes' ≡ Some (all ++ cut)) in
+      let Q : ℕ → Type 0 = λ k. (all : List WrittenMesh) → meshes ≡ Some all → (cut : List WrittenMesh) × IsPartOfMesh prefix k text cut × (meshes' ≡ Some (all ++ cut)) in
       cut-mesh meshes meshes' report prefix number bytes (ReportText line ∷ []) (subst P is (subst Q same part)) rose
 
   module _ {k k' : ℕ} (whole : Grows meshes meshes' (mesh_with prefix count text true ∷ [])) (unmoved : k' ≡ k) where
@@ -60,7 +60,7 @@ module _ (meshes meshes' : Option (List Mesh)) (report report' : Option (List �
         record { meshes_grow = grown; report_grows = text_came.report_grows; mesh_same = unmoved; report_same = same_report }
 
 -- one line
-module _ (meshes : Option (List Mesh)) (report report' : Option (List ℕ)) (line words : List ℕ) (says : words ≡ line) where
+module _ (meshes : Option (List WrittenMesh)) (report report' : Option (List ℕ)) (line words : List ℕ) (says : words ≡ line) where
   -- one line, cut short
   pub cut-words : {k i i' : ℕ} → ((all : List ℕ) → report ≡ Some all → (front : List ℕ) × IsPrefix front words × (report' ≡ Some
       (all ++ front)))

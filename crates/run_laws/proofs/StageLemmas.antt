@@ -2,7 +2,7 @@
 use Rattle.std.proofs.Common.{◌≡◌, ◌≢◌, ℕ, ◌+◌, ◌≤◌, List, [], ◌∷◌, ◌++◌, take, drop, length, Option, Some, None, Result, Ok, Err, IfOk, OnOk, sym, ◌∙◌, ap, subst, append_assoc}
 use Rattle.roam_edge.specs.Shelf.{NamedFile, bytes_of}
 use Rattle.roam_script.specs.declared.limits.TheConstants.{MOST_LINE_BYTES}
-use Rattle.run_laws.specs.CertFile.{Place, HaveCome, TakesLines, EndsLines}
+use Rattle.run_laws.specs.CertFile.{FilePlace, HaveCome, TakesLines, EndsLines}
 use Rattle.run_laws.proofs.CertFileLemmas.{IsFormat, place, come-line, refused-line, refused-byte, file-end, file-last, refused-last}
 use Rattle.run_laws.proofs.FileLemmas.{IsOfFile, file-cut, read-more, read-all}
 
@@ -18,9 +18,9 @@ same-stop one other e = cc
 
 module _ {S C E : Type 0} (step : S → List ℕ → Option S) (start : S) (finish : S → Result C ℕ) (file : List ℕ → Result C ℕ)
     (format : IsFormat step start finish file) (bad : ℕ → E) (one_line : (i j : ℕ) → bad i ≡ bad j → i ≡ j) where
-  module _ (read : List ℕ) (old : Place S) (come : HaveCome step start read old) where
+  module _ (read : List ℕ) (old : FilePlace S) (come : HaveCome step start read old) where
     -- the line that has begun ended
-    pub takes-line : (new : Place S) (answer : Result (Unit {0}) E)
+    pub takes-line : (new : FilePlace S) (answer : Result (Unit {0}) E)
         → OnOk answer (step old.said old.begun ≡ Some new.said) → OnOk answer (new.lines ≡ old.lines + 1) → OnOk answer (new.begun ≡ [])
         → ((line : ℕ) → answer ≡ Err (bad line) → step old.said old.begun ≡ None)
         → ((line : ℕ) → answer ≡ Err (bad line) → line ≡ old.lines + 1) → TakesLines step start file bad (read ++ 10 ∷ []) new answer
@@ -37,7 +37,7 @@ module _ {S C E : Type 0} (step : S → List ℕ → Option S) (start : S) (fini
     }
 
     -- a byte is one too many
-    pub takes-long : (byte : ℕ) (new : Place S) → byte ≢ 10 → MOST_LINE_BYTES ≤ length old.begun
+    pub takes-long : (byte : ℕ) (new : FilePlace S) → byte ≢ 10 → MOST_LINE_BYTES ≤ length old.begun
         → TakesLines {T = Unit {0}} step start file bad (read ++ byte ∷ []) new (Err (bad (old.lines + 1)))
     takes-long byte new other long = record {
       ok = tt;
@@ -74,7 +74,7 @@ module _ {S C E : Type 0} (step : S → List ℕ → Option S) (start : S) (fini
             same f = cc
 
   -- what is refused with some bytes is refused with more
-  pub takes-longer : (bytes tail whole : List ℕ) (old new : Place S) (stop : E) → whole ≡ bytes ++ tail
+  pub takes-longer : (bytes tail whole : List ℕ) (old new : FilePlace S) (stop : E) → whole ≡ bytes ++ tail
       → TakesLines {T = Unit {0}} step start file bad bytes old (Err stop) → TakesLines {T = Unit {0}} step start file bad whole new (Err stop)
   takes-longer bytes tail whole old new stop is takes = record {
     ok = tt;
@@ -83,15 +83,15 @@ module _ {S C E : Type 0} (step : S → List ℕ → Option S) (start : S) (fini
 
 -- Some bytes of such a file were read of the named file.
 pub record IsReading {S : Type 0} (step : S → List ℕ → Option S) (start : S) (files : Option (List NamedFile)) (rest : Option (List ℕ)) (name : List ℕ)
-    (here : Place S) : Type 0 where
+    (here : FilePlace S) : Type 0 where
   pub bytes : List ℕ
   pub come : HaveCome step start bytes here
   pub in_file : IsOfFile files rest name bytes
 
 module _ {S C E : Type 0} (step : S → List ℕ → Option S) (start : S) (file : List ℕ → Result C ℕ) (bad : ℕ → E)
-    (files : Option (List NamedFile)) (rest : Option (List ℕ)) (name : List ℕ) (here : Place S) (reading : IsReading step start files rest name here) where
+    (files : Option (List NamedFile)) (rest : Option (List ℕ)) (name : List ℕ) (here : FilePlace S) (reading : IsReading step start files rest name here) where
   -- a piece was read and taken
-  pub lines-more : (rest' : Option (List ℕ)) (piece : List ℕ) (count : ℕ) (next : Place S) → HaveCome step start (reading.bytes ++ piece) next
+  pub lines-more : (rest' : Option (List ℕ)) (piece : List ℕ) (count : ℕ) (next : FilePlace S) → HaveCome step start (reading.bytes ++ piece) next
       → ((unread : List ℕ) → rest ≡ Some unread → rest' ≡ Some (drop count unread)) → ((unread : List ℕ) → rest ≡ Some unread → piece ≡ take count unread)
       → IsReading step start files rest' name next
   lines-more rest' piece count next come takes gives = record {
@@ -101,7 +101,7 @@ module _ {S C E : Type 0} (step : S → List ℕ → Option S) (start : S) (file
   }
 
   -- a piece was read that has a line that is refused
-  pub lines-refused : (piece : List ℕ) (count : ℕ) (new : Place S) (stop : E) (line : ℕ)
+  pub lines-refused : (piece : List ℕ) (count : ℕ) (new : FilePlace S) (stop : E) (line : ℕ)
       → TakesLines {T = Unit {0}} step start file bad (reading.bytes ++ piece) new (Err stop) → stop ≡ bad line
       → ((unread : List ℕ) → rest ≡ Some unread → piece ≡ take count unread) → (all : List NamedFile) → files ≡ Some all → file (bytes_of all name) ≡ Err line
   lines-refused piece count new stop line takes is gives all told =

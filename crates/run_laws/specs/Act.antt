@@ -2,7 +2,7 @@
 -- This project's own words.
 -- Words: Act, meshes_of, report_of, Told, told, sinks_tell, report_tells, Stands, StandsInPart, IsCutShort.
 use Rattle.std.specs.Prelude.{◌≡◌, ℕ, true, List, [], ◌∷◌, ◌++◌, Option, Some}
-use Rattle.roam_edge.specs.MeshSink.{Mesh}
+use Rattle.roam_edge.specs.MeshSink.{WrittenMesh}
 use Rattle.roam_edge.specs.Told.{IsPrefix}
 use Rattle.roam_edge.specs.Fault.{Rose}
 use Rattle.roam_edge.specs.declared.mesh_sink.MeshSink as showing
@@ -15,7 +15,7 @@ pub data Act : Type 0 where
   ReportText : (bytes : List ℕ) → Act
 
 -- the meshes that the acts add
-abbrev pub meshes_of : List Act → List Mesh
+abbrev pub meshes_of : List Act → List WrittenMesh
 meshes_of [] = []
 meshes_of (WholeMesh prefix number bytes ∷ acts) = mesh_with prefix number bytes true ∷ meshes_of acts
 meshes_of (ReportText bytes ∷ acts) = meshes_of acts
@@ -28,12 +28,12 @@ report_of (ReportText bytes ∷ acts) = bytes ++ report_of acts
 
 -- what a sink of meshes and a report tell at one moment, and how often each has failed
 pub record Told : Type 0 where
-  pub meshes : Option (List Mesh)
+  pub meshes : Option (List WrittenMesh)
   pub report : Option (List ℕ)
   pub mesh_faults : ℕ
   pub report_faults : ℕ
 
-abbrev pub told : Option (List Mesh) → Option (List ℕ) → ℕ → ℕ → Told
+abbrev pub told : Option (List WrittenMesh) → Option (List ℕ) → ℕ → ℕ → Told
 told all_meshes all_bytes meshes_failed report_failed =
     record { meshes = all_meshes; report = all_bytes; mesh_faults = meshes_failed; report_faults = report_failed }
 
@@ -47,7 +47,7 @@ sinks_tell m r shown written = record {
 }
 
 -- what a report tells, beside any meshes that have failed so often
-abbrev pub report_tells : {R : Type 0} → reporting.Ghosts R → Option (List Mesh) → ℕ → R → Told
+abbrev pub report_tells : {R : Type 0} → reporting.Ghosts R → Option (List WrittenMesh) → ℕ → R → Told
 report_tells r meshes count report = told meshes (r.contents report) count (r.faults report)
 
 -- These acts were added to meshes and report, in order in each of the two, and nothing else; and neither has failed.
@@ -61,7 +61,7 @@ pub record Stands (before now : Told) (acts : List Act) : Type 0 where
 -- and then the report failed and the meshes did not.
 abbrev pub StandsInPart : Told → Told → List Act → Act → Type 0
 StandsInPart before now done (WholeMesh prefix number bytes) =
-    ((all : List Mesh) → before.meshes ≡ Some all → (part : List Mesh) × IsPartOfMesh prefix number bytes part
+    ((all : List WrittenMesh) → before.meshes ≡ Some all → (part : List WrittenMesh) × IsPartOfMesh prefix number bytes part
     × (now.meshes ≡ Some (all ++ (meshes_of done ++ part))))
     × Grows before.report now.report (report_of done)
     × Rose before.mesh_faults now.mesh_faults × (now.report_faults ≡ before.report_faults)

@@ -35,11 +35,11 @@ IsFaultless c grid cert = IsSound grid.n c.budget (priority_in (checks_at c grid
 
 -- A certificate of a fitted mesh that may be made: a sound one for what the words say.
 abbrev pub IsFitMade : FitMaking → HeightField → FitCertificate → Type 0
-IsFitMade m grid cert = (triangles : List ℕ) × fits.IsSound grid.n grid.heights (goal_of grid.n m.target) cert triangles
+IsFitMade m grid cert = (triangles : List ℕ) × fits.IsFitSound grid.n grid.heights (goal_of grid.n m.target) cert triangles
 
 -- no part of it fails: it is a sound one of these triangles
 abbrev pub IsFitFaultless : FitChecking → HeightField → FitCertificate → List ℕ → Type 0
-IsFitFaultless c grid cert triangles = fits.IsSound grid.n grid.heights (goal_of grid.n c.target) cert triangles
+IsFitFaultless c grid cert triangles = fits.IsFitSound grid.n grid.heights (goal_of grid.n c.target) cert triangles
 
 -- Two texts are the same up to this place, counted from 0, and there they differ, or only one goes on.
 pub record IsFirstDifference (these those : List ℕ) (at : ℕ) : Type 0 where

@@ -3,7 +3,7 @@
 -- IsCutInLine, MeshIsCut, LineIsCut, StandsInRun, LeavesAtWriteFault, CutRunsStand, CutTextsStand, WriteFaultsStand, SinksDecide.
 use Rattle.std.specs.Prelude.{◌≡◌, ◌⊎◌, ℕ, ◌+◌, ◌-◌, ◌^◌, ◌<◌, Bool, true, false, IsTrue, List, [], ◌∷◌, ◌++◌, take, Option, None, Some, slice_get}
 use Rattle.mesh_defs.specs.State.{text_in}
-use Rattle.roam_edge.specs.MeshSink.{Mesh}
+use Rattle.roam_edge.specs.MeshSink.{WrittenMesh}
 use Rattle.mesh_defs.specs.HeightField.{HeightField}
 use Rattle.roam_edge.specs.Shelf.{NamedFile, bytes_of}
 use Rattle.roam_edge.specs.Told.{IsPrefix}
@@ -50,7 +50,7 @@ pub record StandsUnbegun (before now : Told) (acts : List Act) : Type 0 where
 
 -- these acts, and an unfinished mesh with a prefix of the bytes that were owed: the meshes failed, and the report did not
 pub record StandsInMesh (before now : Told) (acts : List Act) (prefix : List ℕ) (number : ℕ) (bytes : List ℕ) : Type 0 where
-  pub mesh : (all : List Mesh) → before.meshes ≡ Some all → (front : List ℕ) × IsPrefix front bytes
+  pub mesh : (all : List WrittenMesh) → before.meshes ≡ Some all → (front : List ℕ) × IsPrefix front bytes
       × (now.meshes ≡ Some (all ++ (meshes_of acts ++ mesh_with prefix number front false ∷ [])))
   pub report : Grows before.report now.report (report_of acts)
   pub failed : Rose before.mesh_faults now.mesh_faults

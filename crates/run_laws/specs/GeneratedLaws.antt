@@ -1,5 +1,5 @@
 -- The law of generated runs over the lower levels. This project's own words.
--- Words: HasRoom, unblocked_end, LowLevelsAreUnblocked.
+-- Words: HasRoomForAll, unblocked_end, LowLevelsAreUnblocked.
 use Rattle.std.specs.Prelude.{◌≡◌, ℕ, ◌*◌, ◌^◌, ◌≤◌, List, [], ◌∷◌, ◌++◌, Some, codes}
 use Rattle.mesh_defs.specs.State.{State}
 use Rattle.roam_edge.specs.Shelf.{NamedFile}
@@ -9,8 +9,8 @@ use Rattle.run_laws.specs.Act.{ReportText}
 use Rattle.run_laws.specs.Outcome.{Outcome, IsOutcome}
 
 -- the budget in force has room for all finest triangles of the grid
-abbrev pub HasRoom : State → Type 0
-HasRoom state = 2 * 4 ^ state.grid.n ≤ state.budget
+abbrev pub HasRoomForAll : State → Type 0
+HasRoomForAll state = 2 * 4 ^ state.grid.n ≤ state.budget
 
 -- what a line of sums ends with where no priority is left above 0, and nothing blocks
 abbrev pub unblocked_end : List ℕ

@@ -10,7 +10,7 @@ use Rattle.mesh_defs.specs.ClosedSet.{leaves_of}
 use Rattle.mesh_defs.specs.Priority.{worst_of}
 use Rattle.mesh_defs.specs.State.{State, priority_in, text_in}
 use Rattle.mesh_defs.specs.Tiling.{IsConforming}
-use Rattle.roam_edge.specs.MeshSink.{Mesh}
+use Rattle.roam_edge.specs.MeshSink.{WrittenMesh}
 use Rattle.roam_edge.specs.Shelf.{NamedFile, bytes_of}
 use Rattle.pgm_grid.specs.PgmText.{IsFileText}
 use Rattle.run_laws.specs.declared.status.Status.{Status}
@@ -54,14 +54,14 @@ abbrev pub IsGoodText : Show → State → List ℕ → Type 0
 IsGoodText show state bytes = (order : List ℕ) × IsGoodOrder show.order show.criterion state order × (bytes ≡ text_in state order)
 
 -- The mesh has this number and the prefix of the words, and its bytes are right for this state.
-pub record IsGoodFrame (show : Show) (number : ℕ) (state : State) (mesh : Mesh) : Type 0 where
+pub record IsGoodFrame (show : Show) (number : ℕ) (state : State) (mesh : WrittenMesh) : Type 0 where
   pub named : prefix_of show ≡ Some mesh.prefix
   pub numbered : mesh.number ≡ number
   pub text : IsGoodText show state mesh.bytes
 
 -- The meshes are those of the first of the states, in order, numbered from this number on, and each that is
 -- finished is good. There is no mesh without a state.
-abbrev pub AreGoodFrames : Show → ℕ → List State → List Mesh → Type 0
+abbrev pub AreGoodFrames : Show → ℕ → List State → List WrittenMesh → Type 0
 AreGoodFrames show number states [] = ⊤
 AreGoodFrames show number [] (mesh ∷ meshes) = ⊥
 AreGoodFrames show number (state ∷ states) (mesh ∷ meshes) =
@@ -76,12 +76,12 @@ pub record IsRunOf (words : List (List ℕ)) (files : List NamedFile) (job : Job
 
 -- The meshes that were there stay, and behind them came those of the first frame lines, in order. Each that is finished is right for
 -- the state at its line. Where the script was carried out to its end or its refusal there is one for each frame line, all finished.
-pub record KeepsGoodMeshes (s : Scripted) (grid : HeightField) (script : List ℕ) (before : List Mesh) (now : Option (List Mesh)) (status : Status) : Type 0 where
-  pub added : List Mesh
+pub record KeepsGoodMeshes (s : Scripted) (grid : HeightField) (script : List ℕ) (before : List WrittenMesh) (now : Option (List WrittenMesh)) (status : Status) : Type 0 where
+  pub added : List WrittenMesh
   pub behind : now ≡ Some (before ++ added)
   pub frames : AreGoodFrames s.show 1 (script_walk s grid script).frames added
   pub all_frames : IsTrue (ends_script status) → length added ≡ length (script_walk s grid script).frames
-  pub all_finished : IsTrue (ends_script status) → All (λ (mesh : Mesh). mesh.finished ≡ true) added
+  pub all_finished : IsTrue (ends_script status) → All (λ (mesh : WrittenMesh). mesh.finished ≡ true) added
 
 -- A mesh was certified by this line of the report, whoever made it: its bytes are the text of a conforming list of at most as many triangles as the
 -- budget, at the camera that the line names no such list has a lower worst, and the line tells the number of triangles and their worst.
@@ -106,7 +106,7 @@ pub record IsCertifiedFit (c : FitChecking) (grid : HeightField) (mesh line : Li
 
 -- The mesh has the number 1 and the prefix of the words, and its bytes are the text of a list that is a best one for their error or
 -- their budget.
-pub record IsFitMeshOf (f : Fitting) (grid : HeightField) (mesh : Mesh) : Type 0 where
+pub record IsFitMeshOf (f : Fitting) (grid : HeightField) (mesh : WrittenMesh) : Type 0 where
   pub triangles : List ℕ
   pub best : IsBestFit f.target grid triangles
   pub fit : IsFitFor f.target grid triangles
@@ -115,11 +115,11 @@ pub record IsFitMeshOf (f : Fitting) (grid : HeightField) (mesh : Mesh) : Type 0
 -- The meshes that were there stay, and behind them came one at most, which is a best mesh for the error or the budget if it is
 -- finished. Where the run is done it came, and the report got its line: how many triangles and vertices it has, and how far the
 -- surface is from it.
-pub record KeepsFitMesh (f : Fitting) (grid : HeightField) (before now : Told) (all : List Mesh) (status : Status) : Type 0 where
-  pub added : List Mesh
+pub record KeepsFitMesh (f : Fitting) (grid : HeightField) (before now : Told) (all : List WrittenMesh) (status : Status) : Type 0 where
+  pub added : List WrittenMesh
   pub behind : now.meshes ≡ Some (all ++ added)
   pub one : length added ≤ 1
-  pub fits : All (λ (mesh : Mesh). mesh.finished ≡ true → IsFitMeshOf f grid mesh) added
+  pub fits : All (λ (mesh : WrittenMesh). mesh.finished ≡ true → IsFitMeshOf f grid mesh) added
   pub done : status ≡ Done → (triangles : List ℕ) × IsBestFit f.target grid triangles
       × (added ≡ mesh_with f.prefix 1 (fit_text f.spacing grid triangles) true ∷ [])
       × Grows before.report now.report (fit_line grid triangles)

@@ -14,7 +14,7 @@ use Rattle.strip_laws.specs.Strip.{strip_of}
 use Rattle.strip_laws.specs.Turn.{HasTurns}
 use Rattle.pgm_grid.specs.Progress.{grid_of}
 use Rattle.bintree_addr.specs.declared.blocked.Blocked.{Blocked}
-use Rattle.roam_edge.specs.MeshSink.{Mesh}
+use Rattle.roam_edge.specs.MeshSink.{WrittenMesh}
 use Rattle.roam_edge.specs.Shelf.{NamedFile, bytes_of}
 use Rattle.roam_script.specs.declared.limits.Limits.{Limits}
 use Rattle.roam_script.specs.declared.line.Line.TheVariants.{Budget}
@@ -27,7 +27,7 @@ use Rattle.cert_text.specs.Certificate.{Certificate}
 use Rattle.cert_text.specs.CertText.{cert_text}
 use Rattle.fit_certificate_laws.specs.Certificate.{FitCertificate}
 use Rattle.fit_cert_text.specs.FitCertText.{fit_cert_text}
-use Rattle.fit_cert_text.specs.Laws.{IsCertificateOf}
+use Rattle.fit_cert_text.specs.Laws.{IsFitCertificateOf}
 use Rattle.run_laws.specs.CertFile.{fit_cert_in}
 use Rattle.word_laws.specs.Words.{Show, Scripted, Making, Checking, Target, Fitting, FitChecking, Frames, Make, Check, Fit, CheckFit, OnGrid, prefix_of, command_of}
 use Rattle.run_laws.specs.Certify.{makes_at, IsMade}
@@ -120,7 +120,7 @@ TurnsAreCounted = (n lefts rights : ℕ) (has : ℕ → Bool) → IsClosed n has
 -- the headline: whatever the status, from what stands after each, each finished mesh is a best mesh of the state
 -- at its frame line
 abbrev pub HeadlineFollows : Type 0
-HeadlineFollows = (words : List (List ℕ)) (files : List NamedFile) (s : Scripted) (grid : HeightField) (before now : Told) (old new : Seen) (all : List Mesh) (status : Status)
+HeadlineFollows = (words : List (List ℕ)) (files : List NamedFile) (s : Scripted) (grid : HeightField) (before now : Told) (old new : Seen) (all : List WrittenMesh) (status : Status)
     → IsRunOf words files (Frames s) grid → IsSome (prefix_of s.show) → old.files ≡ Some files → before.meshes ≡ Some all → EndsRight before now old new words files status
     → (status ≡ ReadFault → LeavesAtReadFault before now old new words) → (status ≡ NoMemory → LeavesAtNoMemory before now old new words)
     → KeepsGoodMeshes s grid (bytes_of files s.script) all now.meshes status
@@ -139,7 +139,7 @@ FitCertifiedFollows = (words : List (List ℕ)) (files : List NamedFile) (c : Fi
 
 -- the text of a certificate of a fitted mesh, of no more than a reader takes, is read back as it
 abbrev pub FitIsReadBack : Type 0
-FitIsReadBack = (n : ℕ) (cert : FitCertificate) → IsCertificateOf n cert → fit_cert_in n (fit_cert_text cert) ≡ Ok cert
+FitIsReadBack = (n : ℕ) (cert : FitCertificate) → IsFitCertificateOf n cert → fit_cert_in n (fit_cert_text cert) ≡ Ok cert
 
 -- an error is within the tolerance exactly where it is at most so many thousandths
 abbrev pub TolerancesAreExact : Type 0
@@ -151,7 +151,7 @@ FitsAreBest = (target : Target) (grid : HeightField) (triangles : List ℕ) → 
 
 -- the headline of a fit: whatever the status, from what stands after each, the mesh is a best one if it is finished
 abbrev pub FittedFollows : Type 0
-FittedFollows = (words : List (List ℕ)) (files : List NamedFile) (f : Fitting) (grid : HeightField) (before now : Told) (old new : Seen) (all : List Mesh) (status : Status)
+FittedFollows = (words : List (List ℕ)) (files : List NamedFile) (f : Fitting) (grid : HeightField) (before now : Told) (old new : Seen) (all : List WrittenMesh) (status : Status)
     → IsRunOf words files (Fit f) grid → before.meshes ≡ Some all → EndsRight before now old new words files status
     → (status ≡ ReadFault → LeavesAtReadFault before now old new words) → (status ≡ NoMemory → LeavesAtNoMemory before now old new words)
     → KeepsFitMesh f grid before now all status

@@ -6,7 +6,7 @@
 -- Words: KeepsBestMeshes, CertifiesMesh, TellsCertificates, DoesAll, IsCutOff, EndsByStatus, LeavesOutside, IsCaused.
 use Rattle.std.specs.Prelude.{◌≡◌, ◌≢◌, ◌⊎◌, ◌↔◌, ℕ, ◌+◌, ◌<◌, ◌≤◌, false, IsTrue, IsSome, is_some, List, All, Option, Some, None}
 use Rattle.mesh_defs.specs.HeightField.{HeightField}
-use Rattle.roam_edge.specs.MeshSink.{Mesh}
+use Rattle.roam_edge.specs.MeshSink.{WrittenMesh}
 use Rattle.roam_edge.specs.Shelf.{NamedFile, bytes_of}
 use Rattle.roam_edge.specs.Fault.{IsInTime}
 use Rattle.obj_write.specs.Written.{Grows}
@@ -25,10 +25,10 @@ use Rattle.run_laws.specs.Moment.{Moment}
 -- Each mesh that is finished is the right one, whatever the status: of a script the best of the budget, or the least of the tolerance,
 -- at its frame line; of a fit that of its error or its budget. (Where the shelf tells its files, and the sink its meshes.)
 pub record KeepsBestMeshes (before now : Moment) (words : List (List ℕ)) (status : Status) : Type 0 where
-  pub of_script : (files : List NamedFile) (all : List Mesh) (s : Scripted) (grid : HeightField)
+  pub of_script : (files : List NamedFile) (all : List WrittenMesh) (s : Scripted) (grid : HeightField)
       → before.shelf.files ≡ Some files → before.sinks.meshes ≡ Some all → IsRunOf words files (Frames s) grid
       → IsSome (prefix_of s.show) → KeepsGoodMeshes s grid (bytes_of files s.script) all now.sinks.meshes status
-  pub of_fit : (files : List NamedFile) (all : List Mesh) (f : Fitting) (grid : HeightField)
+  pub of_fit : (files : List NamedFile) (all : List WrittenMesh) (f : Fitting) (grid : HeightField)
       → before.shelf.files ≡ Some files → before.sinks.meshes ≡ Some all → IsRunOf words files (Fit f) grid
       → KeepsFitMesh f grid before.sinks now.sinks all status
 

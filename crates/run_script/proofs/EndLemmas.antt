@@ -14,7 +14,7 @@ use Rattle.run_script.specs.declared.stage.Stage.{Stage}
 use Rattle.run_script.specs.declared.script.Stop.{Stop}
 use Rattle.run_script.specs.declared.script.Stop.TheVariants.{Refused, Failed}
 use Rattle.run_laws.specs.Maker.{TellsFrames, Begins, DoesAs, Leaves, EndsScript}
-use Rattle.run_script.specs.StageView.{IsAt}
+use Rattle.run_script.specs.StageView.{IsScriptAt}
 use Rattle.run_laws.proofs.FileLemmas.{IsOfFile, file-cut, read-all}
 use Rattle.run_script.specs.Taking.{status_for, TakesBytes}
 
@@ -64,7 +64,7 @@ module _ (before now : Told) (show : Show) (follows : Show → Walk → List Pic
   does-cut walk end is cut = (end, is, record { complete = λ e. cc; cut_short = λ e. cut }, λ e. cc)
 
   -- at the end of a script no line has begun
-  pub ends-empty : (read : List ℕ) (stage : Stage) → IsAt before now show follows start read stage → stage.part.items ≡ []
+  pub ends-empty : (read : List ℕ) (stage : Stage) → IsScriptAt before now show follows start read stage → stage.part.items ≡ []
       → EndsScript before now show follows start read ends.Done
   ends-empty read stage at none =
       let P : Walk → Type 0 = λ w. Does ends.Done w in
@@ -91,19 +91,19 @@ module _ (before now : Told) (show : Show) (follows : Show → Walk → List Pic
       subst P (sym same) is
 
 -- the last line ends with the script as with an LF
-pub last-line : (before now : Told) (show : Show) (follows : Show → Walk → List Picture → Type 0) (start : Walk) (read : List ℕ) (stage : Stage) (at : IsAt before now show follows start read stage)
+pub last-line : (before now : Told) (show : Show) (follows : Show → Walk → List Picture → Type 0) (start : Walk) (read : List ℕ) (stage : Stage) (at : IsScriptAt before now show follows start read stage)
     → stage.part.items ≢ [] → walk_of start read ≡ walk_of start (read ++ 10 ∷ [])
 last-line before now show follows start read stage at some =
     walk_of-end before now show start read at.here at.come (λ e. some (at.shows.begun ∙ e))
 
 -- Some bytes of the script were read of the named file, and carried out.
 pub record IsCarried (before now : Told) (show : Show) (follows : Show → Walk → List Picture → Type 0) (start : Walk) (stage : Stage) (files : Option (List NamedFile)) (rest : Option (List ℕ)) (name bytes : List ℕ) : Type 0 where
-  pub place : IsAt before now show follows start bytes stage
+  pub place : IsScriptAt before now show follows start bytes stage
   pub in_file : IsOfFile files rest name bytes
 
 -- a walk that begins is at its first place
 pub begins-at : (before : Told) (show : Show) (follows : Show → Walk → List Picture → Type 0) (start : Walk) (stage : Stage) → Begins show follows start → stage.lines ≡ 0 → stage.part.items ≡ []
-    → IsAt before before show follows start [] stage
+    → IsScriptAt before before show follows start [] stage
 begins-at before show follows start stage begins lines part = record {
   here = place start [] [];
   come = come-begin before show start begins.goes begins.none;

@@ -21,7 +21,7 @@ use Rattle.run_script.specs.declared.stage.Stage.{Stage}
 use Rattle.run_script.specs.declared.script.Stop.{Stop}
 use Rattle.run_script.specs.declared.script.Stop.TheVariants.{Refused, Failed}
 use Rattle.run_laws.specs.Maker.{refusal, Starts}
-use Rattle.run_script.specs.StageView.{IsAt}
+use Rattle.run_script.specs.StageView.{IsScriptAt}
 use Rattle.run_script.specs.Taking.{TakesBytes}
 use Rattle.run_laws.proofs.ShownLemmas.{shown_by-none}
 
@@ -29,7 +29,7 @@ use Rattle.run_laws.proofs.ShownLemmas.{shown_by-none}
 same-left : (show : Show) (why : ScriptFault) (walk : Walk) (pictures : List Picture) → engine_for show (refused_walk why walk) pictures ≡ engine_for show walk pictures
 same-left show why walk pictures = refl
 
-module _ (before middle : Told) (show : Show) (follows : Show → Walk → List Picture → Type 0) (start : Walk) (read : List ℕ) (old : Stage) (at : IsAt before middle show follows start read old) where
+module _ (before middle : Told) (show : Show) (follows : Show → Walk → List Picture → Type 0) (start : Walk) (read : List ℕ) (old : Stage) (at : IsScriptAt before middle show follows start read old) where
   abbrev here : Place
   here = at.here
 
@@ -42,7 +42,7 @@ module _ (before middle : Told) (show : Show) (follows : Show → Walk → List 
   module _ (follows' : Show → Walk → List Picture → Type 0) (new : Stage) (lines : new.lines ≡ old.lines + 1) (part : new.part.items ≡ []) where
     -- a line was carried out that makes no frame
     pub takes-change : (line : Line) → line_in (limits_of here.walk) here.begun ≡ Ok line → line ≢ Frame → follows' show (after_line line here.walk) here.pictures
-        → IsAt before middle show follows' start (read ++ 10 ∷ []) new
+        → IsScriptAt before middle show follows' start (read ++ 10 ∷ []) new
     takes-change line is other followed =
         let none : shown_by line here.walk.state ≡ [] = shown_by-none line here.walk.state other in
         let P : List State → Type 0 = λ l. ArePictures show (last_members [] here.pictures) l [] in
@@ -61,7 +61,7 @@ module _ (before middle : Told) (show : Show) (follows : Show → Walk → List 
     -- a frame was made and shown
     pub takes-shown : line_in (limits_of here.walk) here.begun ≡ Ok Frame → (p : Picture) → IsPicture show (last_members [] here.pictures) here.walk.state p
         → follows' show (after_line Frame here.walk) (here.pictures ++ p ∷ []) → (now : Told) → Stands middle now (picture_acts show (1 + length here.walk.frames) p)
-        → IsAt before now show follows' start (read ++ 10 ∷ []) new
+        → IsScriptAt before now show follows' start (read ++ 10 ∷ []) new
     takes-shown is p is_picture followed now stands =
         let Q : List Act → Type 0 = λ l. Stands middle now l in
         let is_shown : Stands middle now (shown_acts show (1 + length here.walk.frames) (p ∷ [])) =
@@ -139,7 +139,7 @@ module _ (before middle : Told) (show : Show) (follows : Show → Walk → List 
 
   -- the line goes on by a byte
   pub takes-byte : (new : Stage) (byte : ℕ) → byte ≢ 10 → length old.part.items < MOST_LINE_BYTES → old.lines < MOST_LINES
-      → new.lines ≡ old.lines → new.part.items ≡ old.part.items ++ byte ∷ [] → IsAt before middle show follows start (read ++ byte ∷ []) new
+      → new.lines ≡ old.lines → new.part.items ≡ old.part.items ++ byte ∷ [] → IsScriptAt before middle show follows start (read ++ byte ∷ []) new
   takes-byte new byte other short few lines part =
       let begun = ap (λ (l : List ℕ). length l) at.shows.begun in
       let count = at.shows.lines in

@@ -15,7 +15,7 @@ use Rattle.run_laws.specs.Step.{Refuses, Cuts}
 use Rattle.run_script.specs.declared.script.Stop.{Stop}
 use Rattle.run_script.specs.declared.script.Stop.TheVariants.{Refused, Failed}
 use Rattle.run_script.specs.declared.stage.Stage.{Stage}
-use Rattle.run_script.specs.StageView.{IsAt}
+use Rattle.run_script.specs.StageView.{IsScriptAt}
 
 -- the status of a run that goes no further
 abbrev pub status_for : Stop → Status
@@ -74,6 +74,6 @@ pub record IsRefused (before now : Told) (show : Show) (follows : Show → Walk 
 
 -- what taking bytes does, by its answer
 pub record TakesBytes {T : Type 0} (before now : Told) (show : Show) (follows : Show → Walk → List Picture → Type 0) (start : Walk) (read : List ℕ) (stage : Stage) (answer : Result T Stop) : Type 0 where
-  pub ok : OnOk answer (IsAt before now show follows start read stage)
+  pub ok : OnOk answer (IsScriptAt before now show follows start read stage)
   pub refused : answer ≡ Err Refused → IsRefused before now show follows start read
   pub failed : answer ≡ Err Failed → Cuts before now show 2 start read

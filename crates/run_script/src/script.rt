@@ -8,7 +8,7 @@ ghost use Rattle.run_laws.specs.Act.{ReportText, Told};
 ghost use Rattle.run_laws.specs.Moment.{Does};
 ghost use Rattle.run_laws.specs.Leaving.{LeavesByScript};
 ghost use Rattle.run_laws.specs.ReportText.{line_refusal};
-ghost use Rattle.run_script.specs.StageView.{IsStage, IsAt};
+ghost use Rattle.run_script.specs.StageView.{IsScriptStage, IsScriptAt};
 ghost use Rattle.run_laws.specs.Maker.{Starts, Begins, refusal, IsScriptEnd, EndsScript, ScriptHasCome};
 ghost use Rattle.run_laws.specs.FileStop.{StopsReading};
 ghost use Rattle.run_script.specs.Taking.{OnlyTakes, OnlyEnds, TakesBytes, status_for};
@@ -45,15 +45,15 @@ fn take_line<K: FrameMaker, O: Outside>(
 ) -> Result<(), Stop>
     requires idle { (O.moment outside.old).under_way ≡ false }
     requires ready { K.is_ready frames.old stage.old.lines }
-    requires stage { IsStage stage.old }
+    requires stage { IsScriptStage stage.old }
     ensures outcome { (before : Told) (show : Show) (start : Walk) (read : List ℕ) → Starts start →
-        IsAt before (O.moment outside.old).sinks
+        IsScriptAt before (O.moment outside.old).sinks
         show (K.follows frames.old) start read stage.old →
         TakesBytes before (O.moment outside.new).sinks
         show (K.follows frames.new) start
         (read ++ 10 ∷ []) stage.new result }
     ensures ready { OnOk result (K.is_ready frames.new stage.new.lines) }
-    ensures stage { OnOk result (IsStage stage.new) }
+    ensures stage { OnOk result (IsScriptStage stage.new) }
     ensures lines { OnOk result (stage.new.lines ≡ stage.old.lines + 1) }
     ensures part { OnOk result (stage.new.part.items ≡ []) }
     ensures same { O.is_same outside.old outside.new }
@@ -91,15 +91,15 @@ fn take_byte<K: FrameMaker, O: Outside>(
 ) -> Result<(), Stop>
     requires idle { (O.moment outside.old).under_way ≡ false }
     requires ready { K.is_ready frames.old stage.old.lines }
-    requires stage { IsStage stage.old }
+    requires stage { IsScriptStage stage.old }
     ensures outcome { (before : Told) (show : Show) (start : Walk) (read : List ℕ) → Starts start →
-        IsAt before (O.moment outside.old).sinks
+        IsScriptAt before (O.moment outside.old).sinks
         show (K.follows frames.old) start read stage.old →
         TakesBytes before (O.moment outside.new).sinks
         show (K.follows frames.new) start
         (read ++ byte ∷ []) stage.new result }
     ensures ready { OnOk result (K.is_ready frames.new stage.new.lines) }
-    ensures stage { OnOk result (IsStage stage.new) }
+    ensures stage { OnOk result (IsScriptStage stage.new) }
     ensures longer { OnOk result (201 * stage.old.lines + length stage.old.part.items + 1
         ≤ 201 * stage.new.lines + length stage.new.part.items) }
     ensures same { O.is_same outside.old outside.new }
@@ -129,15 +129,15 @@ fn take_piece<K: FrameMaker, O: Outside>(
 ) -> Result<(), Stop>
     requires idle { (O.moment outside.old).under_way ≡ false }
     requires ready { K.is_ready frames.old stage.old.lines }
-    requires stage { IsStage stage.old }
+    requires stage { IsScriptStage stage.old }
     ensures outcome { (before : Told) (show : Show) (start : Walk) (read : List ℕ) → Starts start →
-        IsAt before (O.moment outside.old).sinks
+        IsScriptAt before (O.moment outside.old).sinks
         show (K.follows frames.old) start read stage.old →
         TakesBytes before (O.moment outside.new).sinks
         show (K.follows frames.new) start
         (read ++ piece.now) stage.new result }
     ensures ready { OnOk result (K.is_ready frames.new stage.new.lines) }
-    ensures stage { OnOk result (IsStage stage.new) }
+    ensures stage { OnOk result (IsScriptStage stage.new) }
     ensures longer { OnOk result (201 * stage.old.lines + length stage.old.part.items + length piece.now
         ≤ 201 * stage.new.lines + length stage.new.part.items) }
     ensures same { O.is_same outside.old outside.new }
@@ -167,9 +167,9 @@ fn end_script<K: FrameMaker, O: Outside>(
 ) -> Status
     requires idle { (O.moment outside.old).under_way ≡ false }
     requires ready { K.is_ready frames.old stage.old.lines }
-    requires stage { IsStage stage.old }
+    requires stage { IsScriptStage stage.old }
     ensures ends { (before : Told) (show : Show) (start : Walk) (read : List ℕ) → Starts start →
-        IsAt before (O.moment outside.old).sinks
+        IsScriptAt before (O.moment outside.old).sinks
         show (K.follows frames.old) start read stage.old →
         EndsScript before (O.moment outside.new).sinks
         show (K.follows frames.new) start read result }
@@ -187,11 +187,7 @@ fn end_script<K: FrameMaker, O: Outside>(
 }
 
 /// Reads the script of this name and carries out its lines, each whole line before the next read.
-pub fn run_script<K: FrameMaker, O: Outside>(
-    frames: &mut K,
-    name: &str,
-    outside: &mut O,
-) -> Status
+pub fn run_script<K: FrameMaker, O: Outside>(frames: &mut K, name: &str, outside: &mut O) -> Status
     requires idle { (O.moment outside.old).under_way ≡ false }
     requires ready { K.is_ready frames.old 0 }
     ensures ends { (show : Show) (start : Walk) → Begins show (K.follows frames.old) start →

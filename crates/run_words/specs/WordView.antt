@@ -1,5 +1,5 @@
 -- The commands of the code in the words of a run, and what the code knows of them.
--- Words: show_for, IsMeshing, scripted_seen, command_seen, IsFrameCommand, IsAccepted.
+-- Words: show_for, IsMeshing, scripted_seen, command_seen, IsFrameCommand, IsCommandInBounds.
 use Rattle.std.specs.Prelude.{◌≤◌}
 use Rattle.mesh_defs.specs.declared.level.TheConstants.{GREATEST_LEVEL}
 use Rattle.wedgie_tree.specs.declared.wedges.TheConstants.{GREATEST_SPACING}
@@ -51,12 +51,12 @@ pub record IsFrameCommand (command : FrameWords) : Type 0 where
   pub spacing_high : command.spacing ≤ GREATEST_SPACING
 
 -- a command lies within its bounds: of frames its words, of `try` its level, of `certify` its numbers, of `fit` its words
-abbrev pub IsAccepted : Command → Type 0
-IsAccepted (Frames command) = IsFrameCommand command
-IsAccepted (Info grid) = Unit {0}
-IsAccepted (Try n seed) = (1 ≤ n) × (n ≤ GREATEST_LEVEL)
-IsAccepted (Make w) = AreInBounds w.budget w.spacing
-IsAccepted (Check w) = AreInBounds w.budget w.spacing
-IsAccepted (Fit w) = IsFitting w
-IsAccepted (MakeFit w) = AreFitBounds w.target w.spacing
-IsAccepted (CheckFit w) = AreFitBounds w.target w.spacing
+abbrev pub IsCommandInBounds : Command → Type 0
+IsCommandInBounds (Frames command) = IsFrameCommand command
+IsCommandInBounds (Info grid) = Unit {0}
+IsCommandInBounds (Try n seed) = (1 ≤ n) × (n ≤ GREATEST_LEVEL)
+IsCommandInBounds (Make w) = AreInBounds w.budget w.spacing
+IsCommandInBounds (Check w) = AreInBounds w.budget w.spacing
+IsCommandInBounds (Fit w) = IsFitting w
+IsCommandInBounds (MakeFit w) = AreFitBounds w.target w.spacing
+IsCommandInBounds (CheckFit w) = AreFitBounds w.target w.spacing

@@ -3,7 +3,7 @@
 ghost use Rattle.std.specs.Prelude.{◌≡◌, ◌≤◌, ◌^◌, ◌&&◌, IfSome, length, map, string_bytes, codes, bytes_eq, unsigned_abs};
 ghost use Rattle.std.specs.Option.{option_map};
 ghost use Rattle.word_laws.specs.Words.{budget_word, spacing_word, coordinate_word, camera_word, make_command, check_command, target_word, fit_make_command, fit_check_command, eight_command, command_of};
-ghost use Rattle.run_words.specs.WordView.{command_seen, IsAccepted};
+ghost use Rattle.run_words.specs.WordView.{command_seen, IsCommandInBounds};
 
 use crate::fit_words::{Target, target_in};
 use crate::words::{Command, GREATEST_BUDGET, LEAST_BUDGET, small_number};
@@ -72,7 +72,7 @@ const REACH: u64 = 1 << 30;
 pub(crate) fn certify_in(words: &[String]) -> Option<Command<'_>>
     requires many { 7 ≤ length words.now }
     ensures value { option_map command_seen result ≡ command_of (map string_bytes words.now) }
-    ensures accepted { IfSome result IsAccepted }
+    ensures accepted { IfSome result IsCommandInBounds }
 {
     if words.len() == 7 {
         check_words(words)
@@ -85,7 +85,7 @@ pub(crate) fn certify_in(words: &[String]) -> Option<Command<'_>>
 fn check_words(words: &[String]) -> Option<Command<'_>>
     requires seven { length words.now ≡ 7 }
     ensures value { option_map command_seen result ≡ command_of (map string_bytes words.now) }
-    ensures accepted { IfSome result IsAccepted }
+    ensures accepted { IfSome result IsCommandInBounds }
 {
     match words {
         [first, task, grid, mesh, certificate, budget, spacing] => {
@@ -108,7 +108,7 @@ fn check_words(words: &[String]) -> Option<Command<'_>>
 fn long_words(words: &[String]) -> Option<Command<'_>>
     requires many { 8 ≤ length words.now }
     ensures value { option_map command_seen result ≡ command_of (map string_bytes words.now) }
-    ensures accepted { IfSome result IsAccepted }
+    ensures accepted { IfSome result IsCommandInBounds }
 {
     match words {
         [first, task, grid, i, j, k, number, spacing] => eight_words(
@@ -138,7 +138,7 @@ fn eight_words<'a>(
 ) -> Option<Command<'a>>
     ensures value { option_map command_seen result ≡
         eight_command first.now task.now grid.now i.now j.now k.now number.now spacing.now }
-    ensures accepted { IfSome result IsAccepted }
+    ensures accepted { IfSome result IsCommandInBounds }
 {
     if is_task(first, task, "make") {
         make_in(grid, i, j, k, number, spacing)
@@ -168,7 +168,7 @@ fn make_in<'a>(
     ensures value { option_map command_seen result ≡ make_command grid.now
         (camera_word (coordinate_word x.now) (coordinate_word y.now) (coordinate_word z.now))
         (budget_word budget.now) (spacing_word spacing.now) }
-    ensures accepted { IfSome result IsAccepted }
+    ensures accepted { IfSome result IsCommandInBounds }
 {
     Some(Command::Make(MakeWords {
         grid,
@@ -188,7 +188,7 @@ fn check_in<'a>(
 ) -> Option<Command<'a>>
     ensures value { option_map command_seen result ≡
         check_command grid.now mesh.now certificate.now (budget_word budget.now) (spacing_word spacing.now) }
-    ensures accepted { IfSome result IsAccepted }
+    ensures accepted { IfSome result IsCommandInBounds }
 {
     Some(Command::Check(CheckWords {
         grid,
@@ -208,7 +208,7 @@ pub(crate) fn make_fit_in<'a>(
 ) -> Option<Command<'a>>
     ensures value { option_map command_seen result ≡
         fit_make_command grid.now (target_word word.now number.now) (spacing_word spacing.now) }
-    ensures accepted { IfSome result IsAccepted }
+    ensures accepted { IfSome result IsCommandInBounds }
 {
     Some(Command::MakeFit(FitMakeWords {
         grid,
@@ -228,7 +228,7 @@ fn check_fit_in<'a>(
 ) -> Option<Command<'a>>
     ensures value { option_map command_seen result ≡ fit_check_command
         grid.now mesh.now certificate.now (target_word word.now number.now) (spacing_word spacing.now) }
-    ensures accepted { IfSome result IsAccepted }
+    ensures accepted { IfSome result IsCommandInBounds }
 {
     Some(Command::CheckFit(FitCheckWords {
         grid,

@@ -4,7 +4,7 @@ ghost use Rattle.std.specs.Prelude.{◌≡◌, ◌≤◌, if◌then◌else◌, I
 ghost use Rattle.std.specs.Option.{option_map};
 ghost use Rattle.word_laws.specs.Words.{error_word, greatest_error, target_word, fit_words};
 ghost use Rattle.run_words.specs.FitView.{target_seen, IsTarget};
-ghost use Rattle.run_words.specs.WordView.{command_seen, IsAccepted};
+ghost use Rattle.run_words.specs.WordView.{command_seen, IsCommandInBounds};
 
 use crate::words::{Command, GREATEST_BUDGET, LEAST_BUDGET, is_prefix, small_number};
 use roam_num::read_thousandths;
@@ -45,7 +45,7 @@ pub(crate) fn fit_in<'a>(
 ) -> Option<Command<'a>>
     ensures value { option_map command_seen result ≡
         fit_words grid.now prefix.now word.now number.now spacing.now }
-    ensures accepted { IfSome result IsAccepted }
+    ensures accepted { IfSome result IsCommandInBounds }
 {
     if !is_prefix(prefix) {
         return None;

@@ -5,7 +5,7 @@ ghost use Rattle.std.specs.Option.{option_map};
 ghost use Rattle.word_laws.specs.Words.{as_measures, Facts, OnGrid, budget_word, command_of, frames_command, greatest_level, greatest_seed, least_budget, greatest_budget, least_command, meshes_command, six_command, number_word, spacing_word, tolerance_word, try_command};
 ghost use Rattle.word_laws.specs.Words.{is_prefix as is_prefix_seen};
 ghost use Rattle.run_words.specs.ShowView.{IsPrefixLength};
-ghost use Rattle.run_words.specs.WordView.{command_seen, show_for, IsMeshing, IsAccepted};
+ghost use Rattle.run_words.specs.WordView.{command_seen, show_for, IsMeshing, IsCommandInBounds};
 
 use crate::certify_words::{
     CheckWords, FitCheckWords, FitMakeWords, MakeWords, certify_in, is_task, make_fit_in,
@@ -70,7 +70,7 @@ const GREATEST_SEED: u32 = u32::MAX;
 /// The command that the words are, or None of other words.
 pub fn command_in(words: &[String]) -> Option<Command<'_>>
     ensures value { option_map command_seen result ≡ command_of (map string_bytes words.now) }
-    ensures accepted { IfSome result IsAccepted }
+    ensures accepted { IfSome result IsCommandInBounds }
 {
     if words.len() < 7 {
         short_command_in(words)
@@ -83,7 +83,7 @@ pub fn command_in(words: &[String]) -> Option<Command<'_>>
 fn short_command_in(words: &[String]) -> Option<Command<'_>>
     requires few { length words.now < 7 }
     ensures value { option_map command_seen result ≡ command_of (map string_bytes words.now) }
-    ensures accepted { IfSome result IsAccepted }
+    ensures accepted { IfSome result IsCommandInBounds }
 {
     match words {
         [word, grid] => info_in(word.as_str(), grid.as_str()),
@@ -111,7 +111,7 @@ fn short_command_in(words: &[String]) -> Option<Command<'_>>
 fn info_in<'a>(word: &str, grid: &'a str) -> Option<Command<'a>>
     ensures value { option_map command_seen result ≡
         (if bytes_eq word.now (codes "info") then Some (OnGrid grid.now Facts) else None) }
-    ensures accepted { IfSome result IsAccepted }
+    ensures accepted { IfSome result IsCommandInBounds }
 {
     if word == "info" {
         Some(Command::Info(grid))
@@ -124,7 +124,7 @@ fn info_in<'a>(word: &str, grid: &'a str) -> Option<Command<'a>>
 fn try_in<'a>(word: &str, n: &str, seed: &str) -> Option<Command<'a>>
     ensures value { option_map command_seen result ≡ (if bytes_eq word.now (codes "try")
         then try_command (number_word 1 greatest_level n.now) (number_word 0 greatest_seed seed.now) else None) }
-    ensures accepted { IfSome result IsAccepted }
+    ensures accepted { IfSome result IsCommandInBounds }
 {
     if word == "try" {
         Some(Command::Try {
@@ -146,7 +146,7 @@ fn measure_in<'a>(
 ) -> Option<Command<'a>>
     ensures value { option_map command_seen result ≡ (if bytes_eq word.now (codes "measure")
         then frames_command grid.now script.now as_measures (budget_word budget.now) (spacing_word spacing.now) else None) }
-    ensures accepted { IfSome result IsAccepted }
+    ensures accepted { IfSome result IsCommandInBounds }
 {
     if word == "measure" {
         let meshing = Meshing::ByEngine(Showing::Measures);
@@ -168,7 +168,7 @@ fn mesh_in<'a>(
 ) -> Option<Command<'a>>
     ensures value { option_map command_seen result ≡
         six_command word.now grid.now name.now third.now number.now spacing.now }
-    ensures accepted { IfSome result IsAccepted }
+    ensures accepted { IfSome result IsCommandInBounds }
 {
     if word == "fit" {
         fit_in(grid, name, third, number, spacing)
@@ -199,7 +199,7 @@ fn meshes_in<'a>(
 ) -> Option<Command<'a>>
     ensures value { option_map command_seen result ≡ (if is_prefix_seen prefix.now
         then meshes_command word.now grid.now script.now prefix.now number.now spacing.now else None) }
-    ensures accepted { IfSome result IsAccepted }
+    ensures accepted { IfSome result IsCommandInBounds }
 {
     if !is_prefix(prefix) {
         return None;
@@ -229,7 +229,7 @@ fn least_in<'a>(
     requires { IsPrefixLength prefix.now }
     ensures value { option_map command_seen result ≡
         least_command grid.now script.now prefix.now (tolerance_word tolerance.now) (spacing_word spacing.now) }
-    ensures accepted { IfSome result IsAccepted }
+    ensures accepted { IfSome result IsCommandInBounds }
 {
     let tolerance = number_in_word(tolerance, 0, GREATEST_TOLERANCE)?;
     let meshing = Meshing::ByTolerance { prefix, tolerance };
@@ -248,7 +248,7 @@ fn frames_in<'a>(
     requires budget { IfSome budget (λ number. (least_budget ≤ number) × (number ≤ greatest_budget)) }
     ensures value { option_map command_seen result ≡
         frames_command grid.now script.now (show_for meshing.entry) budget (spacing_word spacing.now) }
-    ensures accepted { IfSome result IsAccepted }
+    ensures accepted { IfSome result IsCommandInBounds }
 {
     Some(Command::Frames(FrameWords {
         grid,

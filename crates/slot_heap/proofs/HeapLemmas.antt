@@ -13,7 +13,7 @@ use Rattle.slot_heap.specs.declared.entry.Entry.{Entry}
 use Rattle.slot_heap.specs.Keys.{key_of, IsLeastKey}
 use Rattle.slot_heap.specs.Entries.{IsLinked, HasKeysOf, key_in, keys_of}
 use Rattle.slot_heap.specs.Order.{parent, key_at, IsHeap, IsHeapButAt}
-use Rattle.slot_heap.specs.Sound.{IsSound}
+use Rattle.slot_heap.specs.Sound.{IsSoundHeap}
 use Rattle.slot_heap.proofs.OrderLemmas.{not_less_back, IsUpTo-along, IsUpTo-trans, IsUpTo-first}
 use Rattle.slot_heap.proofs.LinkLemmas.{slot_at, slot_at-distinct, IsLinked-push, IsLinked-set, IsLinked-take}
 use Rattle.slot_heap.proofs.KeyLemmas.{length-keys_of, get_or-keys_of, keys_of-present, keys_of-absent, keys_of-unique, keys_of-push, keys_of-set, keys_of-pop, keys_of-remove, IsLinked-remove, slot_at-vacant, IsFound, IsFound-from_key, count_more, count_same, count_less, count_room}
@@ -50,7 +50,7 @@ module _ {K : Type 0} {cmp : K → K → Ordering} (o : IsTotalOrder cmp) where
       let none : length xs ≡ 0 = ap length e in
       keys_of-unique xs ps (replicate n None) (λ i d h. absurd (omega arith)) (length-replicate n None ∙ sym f) (λ i d h. absurd (omega arith)) (λ k h u. get_or-replicate n k None None (omega arith))
 
-  pub IsSound-new : (xs : List (Entry K)) (ps : List ℕ) (n capacity : ℕ) → xs ≡ [] → length ps ≡ n → n ≤ capacity → n < 2 ^ 32 → IsSound cmp xs ps capacity
+  pub IsSound-new : (xs : List (Entry K)) (ps : List ℕ) (n capacity : ℕ) → xs ≡ [] → length ps ≡ n → n ≤ capacity → n < 2 ^ 32 → IsSoundHeap cmp xs ps capacity
   IsSound-new xs ps n capacity e f room few =
       let none : length xs ≡ 0 = ap length e in
       let one : Option K → ℕ = λ k. cond (is_some k) 1 0 in
@@ -63,7 +63,7 @@ module _ {K : Type 0} {cmp : K → K → Ordering} (o : IsTotalOrder cmp) where
       }
 
   -- a heap whose keys are the list t
-  module _ {xs : List (Entry K)} {ps : List ℕ} {capacity : ℕ} {t : List (Option K)} (sound : IsSound cmp xs ps capacity) (view : keys_of xs ps ≡ t) where
+  module _ {xs : List (Entry K)} {ps : List ℕ} {capacity : ℕ} {t : List (Option K)} (sound : IsSoundHeap cmp xs ps capacity) (view : keys_of xs ps ≡ t) where
     -- each slot has a place
     pub slots : length t ≡ length ps
     slots = ap length (sym view) ∙ length-keys_of xs ps
@@ -114,7 +114,7 @@ module _ {K : Type 0} {cmp : K → K → Ordering} (o : IsTotalOrder cmp) where
     pub keys : keys_of (set es at x) (set ps x.slot.0 at) ≡ u
     pub count : count_by is_some u ≡ length es
 
-  module _ {xs : List (Entry K)} {ps : List ℕ} {capacity : ℕ} (sound : IsSound cmp xs ps capacity) where
+  module _ {xs : List (Entry K)} {ps : List ℕ} {capacity : ℕ} (sound : IsSoundHeap cmp xs ps capacity) where
     slots_long : length (keys_of xs ps) ≡ length ps
     slots_long = length-keys_of xs ps
 
@@ -129,7 +129,7 @@ module _ {K : Type 0} {cmp : K → K → Ordering} (o : IsTotalOrder cmp) where
           (keys_of-present xs ps sound.linked)
           (λ k h u. keys_of-absent xs ps k (omega (arith, length-set ps s v)) u)
 
-      pub IsSound-unnoted : IsSound cmp xs (set ps s v) capacity
+      pub IsSound-unnoted : IsSoundHeap cmp xs (set ps s v) capacity
       IsSound-unnoted = record {
         linked = linked_still;
         order = sound.order;
@@ -192,7 +192,7 @@ module _ {K : Type 0} {cmp : K → K → Ordering} (o : IsTotalOrder cmp) where
           let at_m : m ≡ at = omega (arith, found.inside) in
           ap (λ zs. keys_of zs ps) rest ∙ keys_of-pop xs ps sound.linked m s long (λ d. ap (λ j. slot_at xs j d) at_m ∙ own_slot d)
 
-      pub IsSound-last : (c : ℕ) → capacity ≤ c → m ≤ at → IsSound cmp es ps c
+      pub IsSound-last : (c : ℕ) → capacity ≤ c → m ≤ at → IsSoundHeap cmp es ps c
       IsSound-last c more h = record {
         linked = rw rest (IsLinked-take xs ps sound.linked m (omega arith));
         order = rw rest (IsHeap-take xs m (omega arith) sound.order);
@@ -216,7 +216,7 @@ module _ {K : Type 0} {cmp : K → K → Ordering} (o : IsTotalOrder cmp) where
       pub keys_of-placed : keys_of (with_items v ys).items (with_items w qs).items ≡ u
       keys_of-placed = rw (with_items_is v ys long, with_items_is w qs same) (placed ∙ held.keys)
 
-      pub IsSound-placed : (c : ℕ) → IsLinked ys qs → IsHeap cmp ys → length ys ≡ length es → length qs ≤ c → length qs < 2 ^ 32 → IsSound cmp (with_items v ys).items (with_items w qs).items c
+      pub IsSound-placed : (c : ℕ) → IsLinked ys qs → IsHeap cmp ys → length ys ≡ length es → length qs ≤ c → length qs < 2 ^ 32 → IsSoundHeap cmp (with_items v ys).items (with_items w qs).items c
       IsSound-placed c linked order n room few = rw (with_items_is v ys long, with_items_is w qs same) (record {
         linked = linked;
         order = order;

@@ -3,7 +3,7 @@
 ghost use Rattle.std.specs.Prelude.{◌≡◌, ◌<◌, Some, None, IsSome, length, slice_set, vec_capacity};
 ghost use Rattle.slot_heap.specs.Keys.{key_of};
 ghost use Rattle.slot_heap.specs.Entries.{keys_of};
-ghost use Rattle.slot_heap.specs.Sound.{IsSound};
+ghost use Rattle.slot_heap.specs.Sound.{IsSoundHeap};
 
 use crate::entry::Entry;
 use crate::sift::place;
@@ -16,10 +16,10 @@ pub const NOWHERE: u32 = u32::MAX;
 /// Adds the entry of a slot that has none.
 #[inline]
 pub fn add<K: Copy + Ord>(entries: &mut Vec<Entry<K>>, places: &mut Vec<u32>, entry: Entry<K>)
-    requires sound { IsSound K.cmp entries.old.items places.old.items (vec_capacity entries.old) }
+    requires sound { IsSoundHeap K.cmp entries.old.items places.old.items (vec_capacity entries.old) }
     requires in_range { entry.slot.0 < length (keys_of entries.old.items places.old.items) }
     requires vacant { key_of (keys_of entries.old.items places.old.items) entry.slot ≡ None }
-    ensures sound { IsSound K.cmp entries.new.items places.new.items (vec_capacity entries.new) }
+    ensures sound { IsSoundHeap K.cmp entries.new.items places.new.items (vec_capacity entries.new) }
     ensures keys { keys_of entries.new.items places.new.items ≡
         slice_set (keys_of entries.old.items places.old.items) entry.slot.0 (Some entry.key) }
 {
@@ -33,9 +33,9 @@ pub fn add<K: Copy + Ord>(entries: &mut Vec<Entry<K>>, places: &mut Vec<u32>, en
 /// Removes the entry of a slot, and answers its key.
 #[inline]
 pub fn remove<K: Copy + Ord>(entries: &mut Vec<Entry<K>>, places: &mut Vec<u32>, slot: Slot) -> K
-    requires sound { IsSound K.cmp entries.old.items places.old.items (vec_capacity entries.old) }
+    requires sound { IsSoundHeap K.cmp entries.old.items places.old.items (vec_capacity entries.old) }
     requires present { IsSome (key_of (keys_of entries.old.items places.old.items) slot) }
-    ensures sound { IsSound K.cmp entries.new.items places.new.items (vec_capacity entries.new) }
+    ensures sound { IsSoundHeap K.cmp entries.new.items places.new.items (vec_capacity entries.new) }
     ensures key { key_of (keys_of entries.old.items places.old.items) slot ≡ Some result }
     ensures keys { keys_of entries.new.items places.new.items ≡
         slice_set (keys_of entries.old.items places.old.items) slot.0 None }
@@ -47,9 +47,9 @@ pub fn remove<K: Copy + Ord>(entries: &mut Vec<Entry<K>>, places: &mut Vec<u32>,
 
 /// Removes the entry of a slot, and answers its key. What `places` says of the slot stays as it was.
 fn take_out<K: Copy + Ord>(entries: &mut Vec<Entry<K>>, places: &mut Vec<u32>, slot: Slot) -> K
-    requires sound { IsSound K.cmp entries.old.items places.old.items (vec_capacity entries.old) }
+    requires sound { IsSoundHeap K.cmp entries.old.items places.old.items (vec_capacity entries.old) }
     requires present { IsSome (key_of (keys_of entries.old.items places.old.items) slot) }
-    ensures sound { IsSound K.cmp entries.new.items places.new.items (vec_capacity entries.new) }
+    ensures sound { IsSoundHeap K.cmp entries.new.items places.new.items (vec_capacity entries.new) }
     ensures key { key_of (keys_of entries.old.items places.old.items) slot ≡ Some result }
     ensures keys { keys_of entries.new.items places.new.items ≡
         slice_set (keys_of entries.old.items places.old.items) slot.0 None }
@@ -68,9 +68,9 @@ fn take_out<K: Copy + Ord>(entries: &mut Vec<Entry<K>>, places: &mut Vec<u32>, s
 /// Puts an entry in the place of the one that its slot has.
 #[inline]
 pub fn replace<K: Copy + Ord>(entries: &mut Vec<Entry<K>>, places: &mut Vec<u32>, entry: Entry<K>)
-    requires sound { IsSound K.cmp entries.old.items places.old.items (vec_capacity entries.old) }
+    requires sound { IsSoundHeap K.cmp entries.old.items places.old.items (vec_capacity entries.old) }
     requires present { IsSome (key_of (keys_of entries.old.items places.old.items) entry.slot) }
-    ensures sound { IsSound K.cmp entries.new.items places.new.items (vec_capacity entries.new) }
+    ensures sound { IsSoundHeap K.cmp entries.new.items places.new.items (vec_capacity entries.new) }
     ensures keys { keys_of entries.new.items places.new.items ≡
         slice_set (keys_of entries.old.items places.old.items) entry.slot.0 (Some entry.key) }
 {

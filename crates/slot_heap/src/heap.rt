@@ -21,13 +21,13 @@ pub struct SlotHeap<K: Copy + Ord> {
 impl<K: Copy + Ord> Model for SlotHeap<K> {
     ghost use Rattle.std.specs.Prelude.{List, Option, vec_capacity};
     ghost use Rattle.slot_heap.specs.Entries.{keys_of};
-    ghost use Rattle.slot_heap.specs.Sound.{IsSound};
+    ghost use Rattle.slot_heap.specs.Sound.{IsSoundHeap};
 
     ghost Value = { List (Option K) };
 
     ghost view = { λ h. keys_of h.entries.items h.places.items };
 
-    ghost invariant = { λ h. IsSound K.cmp h.entries.items h.places.items (vec_capacity h.entries) };
+    ghost invariant = { λ h. IsSoundHeap K.cmp h.entries.items h.places.items (vec_capacity h.entries) };
 }
 
 impl<K: Copy + Ord> SlotHeap<K> {

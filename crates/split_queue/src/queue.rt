@@ -2,7 +2,7 @@
 
 ghost use Rattle.std.specs.Prelude.{◌≡◌, ◌<◌, ◌↔◌, Some, None, IfOk, IfSome, IsSome, IsNone, length, replicate, slice_set};
 ghost use Rattle.slot_heap.specs.Keys.{key_of, IsEmpty};
-ghost use Rattle.split_queue.specs.First.{IsFirstRank};
+ghost use Rattle.split_queue.specs.First.{IsFirstEntry};
 
 use bintree_addr::{Rank, Slot, rank_order_laws};
 use roam_errors::NoMemory;
@@ -73,7 +73,7 @@ impl SplitQueue {
     /// An entry that no other ranks before.
     pub fn first(&self) -> Option<(Slot, Rank)>
         ensures empty { IsNone result ↔ IsEmpty self.now }
-        ensures first { IfSome result (λ first. IsFirstRank self.now first.0 first.1) }
+        ensures first { IfSome result (λ first. IsFirstEntry self.now first.0 first.1) }
     {
         rank_order_laws();
         self.heap.head()

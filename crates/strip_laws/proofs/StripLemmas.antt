@@ -16,23 +16,23 @@ use Rattle.tiling_laws.proofs.TurnLemmas.{three, six, IsTurned, leg, IsRun-base,
 use Rattle.tiling_laws.proofs.DescentLemmas.{IsDown, IsDown-left, IsDown-right, IsDown-2, IsDown-3, forked_of}
 use Rattle.tiling_laws.proofs.ConformityLemmas.{IsConforming-leaves_of}
 use Rattle.mesh_defs.proofs.ListLemmas.{IsIn, Contains-in, IsIn-append-left, IsIn-append-right}
-use Rattle.strip_laws.specs.Strip.{has_even_level, strip_under, strip_of, SharesEdge, IsChain, one, more, IsRing}
+use Rattle.strip_laws.specs.Strip.{has_even_level, strip_under, strip_of, SharesEdge, IsStripChain, one, more, IsRing}
 use Rattle.strip_laws.proofs.EdgeLemmas.{HasEdgeAlong, HasEdgeAlong-longer, SharesEdge-along}
 use Rattle.strip_laws.proofs.OrderLemmas.{leaf-strip_of}
 
 -- ---- lists and chains
 
 -- the first and the last triangle of a chain are entries
-IsIn-first : (n first last : ℕ) (xs : List ℕ) → IsChain n first last xs → IsIn first xs
+IsIn-first : (n first last : ℕ) (xs : List ℕ) → IsStripChain n first last xs → IsIn first xs
 IsIn-first n first last xs (one a) = inl refl
 IsIn-first n first last xs (more a b z rest shares chain) = inl refl
 
-IsIn-last : (n first last : ℕ) (xs : List ℕ) → IsChain n first last xs → IsIn last xs
+IsIn-last : (n first last : ℕ) (xs : List ℕ) → IsStripChain n first last xs → IsIn last xs
 IsIn-last n first last xs (one a) = inl refl
 IsIn-last n first last xs (more a b z rest shares chain) = inr (IsIn-last n b z rest chain)
 
 -- a chain after a chain
-IsChain-append : (n a b c d : ℕ) (xs ys : List ℕ) → IsChain n a b xs → SharesEdge n b c → IsChain n c d ys → IsChain n a d (xs ++ ys)
+IsChain-append : (n a b c d : ℕ) (xs ys : List ℕ) → IsStripChain n a b xs → SharesEdge n b c → IsStripChain n c d ys → IsStripChain n a d (xs ++ ys)
 IsChain-append n a b c d xs ys (one e) shares chain = more e c d ys shares chain
 IsChain-append n a b c d xs ys (more e f z rest next front) shares chain =
     more e f d (rest ++ ys) next (IsChain-append n f z c d rest ys front shares chain)
@@ -48,7 +48,7 @@ record IsAtEnd (n : ℕ) (out back : Bool) (e : ℕ) (here there apex : Point) :
 record Crosses (n : ℕ) (out back : Bool) (from to apex : Point) (triangles : List ℕ) : Type 0 where
   first : ℕ
   last : ℕ
-  chain : IsChain n first last triangles
+  chain : IsStripChain n first last triangles
   entry : IsAtEnd n out back first from to apex
   exit : IsAtEnd n back out last to from apex
 

@@ -1,7 +1,7 @@
 -- The strip of a closed set: its leaves in an order in which each two neighbours share an edge, and so do
 -- the last and the first. Order of the children of a triangle: left first at even levels, right first at odd
 -- ones (this project's own form of the bintree's space-filling curve).
--- Words: has_even_level, strip_under, strip_of, AreLeavesInOrder, SharesEdge, IsChain, IsRing.
+-- Words: has_even_level, strip_under, strip_of, AreLeavesInOrder, SharesEdge, IsStripChain, IsRing.
 use Rattle.std.specs.Prelude.{◌≡◌, ℕ, zero, suc, ◌+◌, ◌*◌, ◌%◌, ◌≤◌, Bool, true, false, nat_eq, List, [], ◌∷◌, ◌++◌}
 use Rattle.mesh_defs.specs.declared.point.Point.{Point}
 use Rattle.mesh_defs.specs.Triangle.{level_of, corners_of, IsEdge}
@@ -41,13 +41,13 @@ pub record SharesEdge (n a b : ℕ) : Type 0 where
   pub there : IsEdge (corners_of n b) to from
 
 -- a list of triangles from the first to the last, of which each two neighbours share an edge
-pub data IsChain (n : ℕ) : ℕ → ℕ → List ℕ → Type 0 where
-  one : (a : ℕ) → IsChain n a a (a ∷ [])
-  more : (a b last : ℕ) (rest : List ℕ) → SharesEdge n a b → IsChain n b last rest → IsChain n a last (a ∷ rest)
+pub data IsStripChain (n : ℕ) : ℕ → ℕ → List ℕ → Type 0 where
+  one : (a : ℕ) → IsStripChain n a a (a ∷ [])
+  more : (a b last : ℕ) (rest : List ℕ) → SharesEdge n a b → IsStripChain n b last rest → IsStripChain n a last (a ∷ rest)
 
 -- a chain whose last and first triangle share an edge, too
 pub record IsRing (n : ℕ) (triangles : List ℕ) : Type 0 where
   pub first : ℕ
   pub last : ℕ
-  pub chain : IsChain n first last triangles
+  pub chain : IsStripChain n first last triangles
   pub closing : SharesEdge n last first

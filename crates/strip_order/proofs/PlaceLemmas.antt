@@ -8,7 +8,7 @@ use Rattle.mesh_defs.proofs.ListLemmas.{IsIn, Contains-in, count-cons, count-yes
 use Rattle.bintree_laws.proofs.LevelLemmas.{level-le}
 use Rattle.tiling_laws.proofs.DescentLemmas.{IsAddress-leaves_of}
 use Rattle.closure_laws.proofs.LeafLemmas.{leaves-most}
-use Rattle.strip_laws.specs.Strip.{strip_of, SharesEdge, IsChain, one, more}
+use Rattle.strip_laws.specs.Strip.{strip_of, SharesEdge, IsStripChain, one, more}
 use Rattle.strip_laws.proofs.OrderLemmas.{count-strip_of, leaf-strip_of, strip-once}
 use Rattle.strip_laws.proofs.StripLemmas.{IsRing-strip_of}
 use Rattle.closure_laws.proofs.ClosureLemmas.{leaves_under-some}
@@ -22,12 +22,12 @@ IsIn-at (x ∷ xs) zero d h = inl refl
 IsIn-at (x ∷ xs) (suc i) d h = inr (IsIn-at xs i d (omega arith))
 
 -- neighbours in a chain share an edge
-SharesEdge-at : (n first last : ℕ) (xs : List ℕ) (i d : ℕ) → IsChain n first last xs → suc i < length xs →
+SharesEdge-at : (n first last : ℕ) (xs : List ℕ) (i d : ℕ) → IsStripChain n first last xs → suc i < length xs →
     SharesEdge n (get_or xs i d) (get_or xs (suc i) d)
 SharesEdge-at n first last xs i d (one a) h = absurd (omega arith)
 SharesEdge-at n first last xs zero d (more a b z rest shares chain) h = first_of_rest n b z rest d a chain shares
   where
-    first_of_rest : (n b z : ℕ) (rest : List ℕ) (d a : ℕ) → IsChain n b z rest → SharesEdge n a b → SharesEdge n a (get_or rest 0 d)
+    first_of_rest : (n b z : ℕ) (rest : List ℕ) (d a : ℕ) → IsStripChain n b z rest → SharesEdge n a b → SharesEdge n a (get_or rest 0 d)
     first_of_rest n b z rest d a (one e) shares = shares
     first_of_rest n b z rest d a (more e f y others next chain) shares = shares
 SharesEdge-at n first last xs (suc i) d (more a b z rest shares chain) h = SharesEdge-at n b z rest i d chain (omega arith)

@@ -11,7 +11,7 @@ use Rattle.edge_laws.proofs.OwnerLemmas.{owner-whole}
 use Rattle.edge_laws.proofs.NetLemmas.{IsLinked-halving, IsTree-halving}
 use Rattle.triangle_pool.specs.declared.forest.Node.{Node}
 use Rattle.edge_laws.specs.Slots.{address_at, has_children, IsLive}
-use Rattle.triangle_pool.specs.Links.{node_at, edge_link, net_of, ArePairs, AreChildrenAt, IsForest, IsAcross, IsRelinked, MayHalve, IsInner, IsPlaced, with_link}
+use Rattle.triangle_pool.specs.Links.{node_at, edge_link, net_of, ArePairs, AreChildrenAt, IsForest, IsAcross, IsRelinked, MayHalve, AreInnerLinks, ArePlacedNodes, with_link}
 use Rattle.edge_laws.proofs.SlotLemmas.{child_at, has_children-added, has_children-kept}
 use Rattle.triangle_pool.proofs.RelinkLemmas.{edge-base, edge-left, edge-right, edge_low, relinked_turn}
 use Rattle.bintree_laws.proofs.LevelLemmas.{level_of-left, level_of-right}
@@ -327,8 +327,8 @@ module _ (pairs parents : List ℕ) (before after : List Node) (s k a mate : ℕ
 -- ---- what the code does to the nodes
 
 pub renewed_by : (pairs : List ℕ) (n0 n1 n2 n3 n4 : List Node) (s k a mate : ℕ) (one two : Node) → MayHalve pairs s k a mate →
-    IsRelinked pairs n0 n1 (2 * a) (2 * k) → IsRelinked pairs n1 n2 (2 * a + 1) (2 * k + 1) → IsInner pairs n2 n3 k a mate →
-    IsPlaced n3 n4 s k one two →
+    IsRelinked pairs n0 n1 (2 * a) (2 * k) → IsRelinked pairs n1 n2 (2 * a + 1) (2 * k + 1) → AreInnerLinks pairs n2 n3 k a mate →
+    ArePlacedNodes n3 n4 s k one two →
     one.children ≡ nowhere → one.base ≡ (node_at n0 s).left → one.left ≡ 2 * k + 1 → (mate ≡ nowhere → one.right ≡ nowhere) →
     (mate ≢ nowhere → one.right ≡ 2 * mate + 1) →
     two.children ≡ nowhere → two.base ≡ (node_at n0 s).right → (mate ≡ nowhere → two.left ≡ nowhere) →
@@ -376,7 +376,7 @@ mate_within pairs s k a mate ready given =
 pub inner_linked : (pairs : List ℕ) (n0 n1 n2 : List Node) (s k a mate : ℕ) → ArePairs pairs → MayHalve pairs s k a mate → mate ≢ nowhere →
     length n0 ≡ 2 * length pairs → length n1 ≡ length n0 →
     n1 ≡ set n0 (2 * mate) (with_link (node_at n0 (2 * mate)) false true (2 * k + 1)) →
-    n2 ≡ set n1 (2 * mate + 1) (with_link (node_at n1 (2 * mate + 1)) false false (2 * k)) → IsInner pairs n0 n2 k a mate
+    n2 ≡ set n1 (2 * mate + 1) (with_link (node_at n1 (2 * mate + 1)) false false (2 * k)) → AreInnerLinks pairs n0 n2 k a mate
 inner_linked pairs n0 n1 n2 s k a mate h ready given count count_1 is_1 is_2 =
     let low = ready.low in
     let within = mate_within pairs s k a mate ready given in
@@ -432,7 +432,7 @@ inner_linked pairs n0 n1 n2 s k a mate h ready given count count_1 is_1 is_2 =
       children = λ r. r2.children r ∙ r1.children r;
     }
 
-pub inner_alone : (pairs : List ℕ) (nodes : List Node) (k a mate : ℕ) → mate ≡ nowhere → IsInner pairs nodes nodes k a mate
+pub inner_alone : (pairs : List ℕ) (nodes : List Node) (k a mate : ℕ) → mate ≡ nowhere → AreInnerLinks pairs nodes nodes k a mate
 inner_alone pairs nodes k a mate none = record {
   there = λ r e live own given. absurd (given none);
   others = λ r e live own x y. refl;

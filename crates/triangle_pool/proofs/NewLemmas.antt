@@ -16,7 +16,7 @@ use Rattle.triangle_pool.specs.declared.forest.Node.{Node}
 use Rattle.triangle_pool.specs.declared.pool.TheConstants.{MOST_LEAVES}
 use Rattle.edge_laws.specs.Slots.{address_at, has_children, IsLive, split_set, room_of}
 use Rattle.triangle_pool.specs.Slots.{FreeState, IsFree}
-use Rattle.triangle_pool.specs.Links.{blank, node_at, edge_link, net_of, ArePairs, IsForest, IsMesh, HasPairs}
+use Rattle.triangle_pool.specs.Links.{blank_node, node_at, edge_link, net_of, ArePairs, IsForest, IsMesh, HasPairs}
 use Rattle.edge_laws.proofs.SlotLemmas.{has_children_by, pair_of, set-has_children}
 use Rattle.triangle_pool.proofs.RelinkLemmas.{edge-base, edge-left, edge-right}
 
@@ -186,8 +186,8 @@ first_of how_many zeros parents raw one two some few is parent_count raw_count i
       short = omega arith;
       parent_count = omega arith;
       node_count = omega arith;
-      lower = get_or-set_other (set raw 0 one) 1 0 two blank (λ z. omega arith) ∙ get_or-set_same raw 0 one blank (omega arith) ∙ is_one;
-      upper = get_or-set_same (set raw 0 one) 1 two blank (omega arith) ∙ is_two;
+      lower = get_or-set_other (set raw 0 one) 1 0 two blank_node (λ z. omega arith) ∙ get_or-set_same raw 0 one blank_node (omega arith) ∙ is_one;
+      upper = get_or-set_same (set raw 0 one) 1 two blank_node (omega arith) ∙ is_two;
     }
 
 -- the number of free pairs of the first pool

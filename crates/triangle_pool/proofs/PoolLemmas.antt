@@ -13,8 +13,8 @@ use Rattle.edge_laws.proofs.NetLemmas.{read_link}
 use Rattle.edge_laws.proofs.MateLemmas.{mate_of-low}
 use Rattle.triangle_pool.specs.declared.forest.Node.{Node}
 use Rattle.edge_laws.specs.Slots.{address_at, has_children, IsLive, split_set, room_of, IsSplit}
-use Rattle.triangle_pool.specs.Slots.{FreeState, IsNext, IsFree}
-use Rattle.triangle_pool.specs.Links.{node_at, blank, edge_link, net_of, IsForest, MaySplit, MaySplitMate, IsMesh, HasPairs}
+use Rattle.triangle_pool.specs.Slots.{FreeState, IsGivenOut, IsFree}
+use Rattle.triangle_pool.specs.Links.{node_at, blank_node, edge_link, net_of, IsForest, MaySplit, MaySplitMate, IsMesh, HasPairs}
 use Rattle.triangle_pool.proofs.RelinkLemmas.{edge-base}
 use Rattle.edge_laws.proofs.SlotLemmas.{live_within, has_children-added, set_more, set_only, has_children-set}
 use Rattle.triangle_pool.proofs.SplitLemmas.{whole_of}
@@ -29,7 +29,7 @@ node_at-read n pairs seen parents nodes s node m e live is =
     let old : IsLive pairs s = subst (λ t. IsLive t s) (sym e) live in
     let within = live_within pairs s old in
     let count = m.forest.node_count in
-    (old, get_or_default nodes s blank node (omega arith) ∙ sym is)
+    (old, get_or_default nodes s blank_node node (omega arith) ∙ sym is)
 
 -- ---- free pairs
 
@@ -42,14 +42,14 @@ room-set pairs k a within free some =
     omega arith
 
 -- one pair fewer is free
-pub next_room : (before after : FreeState) (k : ℕ) → IsNext before after k → length before.returned + after.unused ≡ length after.returned + before.unused + 1
+pub next_room : (before after : FreeState) (k : ℕ) → IsGivenOut before after k → length before.returned + after.unused ≡ length after.returned + before.unused + 1
 next_room before after k next = ⊎_elim
     (λ v. let is : length before.returned ≡ length after.returned + 1 = ap length v.0 ∙ length_push after.returned k in let same = v.1 in omega arith)
     (λ v. let old : length before.returned ≡ 0 = ap length v.0 in let new : length after.returned ≡ 0 = ap length v.1 in let more = v.3 in omega arith)
     next
 
 -- the pair that is given out is free
-pub next_vacant : (pairs : List ℕ) (before after : FreeState) (k : ℕ) → IsFree pairs before → 1 ≤ room_of pairs → IsNext before after k → (k < length pairs) × (get_or pairs k 0 ≡ 0)
+pub next_vacant : (pairs : List ℕ) (before after : FreeState) (k : ℕ) → IsFree pairs before → 1 ≤ room_of pairs → IsGivenOut before after k → (k < length pairs) × (get_or pairs k 0 ≡ 0)
 next_vacant pairs before after k h some next =
     let within = h.within in let count = h.count in
     ⊎_elim
@@ -60,7 +60,7 @@ next_vacant pairs before after k h some next =
     (λ v. let old : length before.returned ≡ 0 = ap length v.0 in let is = v.2 in ((omega arith), h.fresh k (omega arith)))
     next
 
-pub free_less : (pairs : List ℕ) (before after : FreeState) (k a : ℕ) → IsFree pairs before → 1 ≤ room_of pairs → IsNext before after k → after.pairs ≡ before.pairs → 1 ≤ a → IsFree (set pairs k a) after
+pub free_less : (pairs : List ℕ) (before after : FreeState) (k a : ℕ) → IsFree pairs before → 1 ≤ room_of pairs → IsGivenOut before after k → after.pairs ≡ before.pairs → 1 ≤ a → IsFree (set pairs k a) after
 free_less pairs before after k a h some next same_pairs low =
     let free = next_vacant pairs before after k h some next in
     let within : k < length pairs = free.0 in
@@ -109,13 +109,13 @@ base_across n pairs parents nodes s h live =
     (read_link (net_of pairs nodes) s (address_at pairs s) whole h.forest.linked live own)
 
 pub may_split_of : (n : ℕ) (pairs : List ℕ) (free after : FreeState) (s k : ℕ) → n ≤ 11 → IsFree pairs free → IsLive pairs s →
-    has_children pairs (address_at pairs s) ≡ false → level_of (address_at pairs s) < 2 * n → 1 ≤ room_of pairs → IsNext free after k → MaySplit n pairs s k (address_at pairs s)
+    has_children pairs (address_at pairs s) ≡ false → level_of (address_at pairs s) < 2 * n → 1 ≤ room_of pairs → IsGivenOut free after k → MaySplit n pairs s k (address_at pairs s)
 may_split_of n pairs free after s k high h live leaf coarse some next =
     let top = next_vacant pairs free after k h some next in
     record { address = refl; low = live; coarse = coarse; n_high = high; leaf = leaf; within = top.0; free = top.1 }
 
 -- the pair that is given out second
-pub second_vacant : (pairs : List ℕ) (free mid after : FreeState) (k j : ℕ) → IsFree pairs free → 2 ≤ room_of pairs → IsNext free mid k → mid.pairs ≡ free.pairs → IsNext mid after j →
+pub second_vacant : (pairs : List ℕ) (free mid after : FreeState) (k j : ℕ) → IsFree pairs free → 2 ≤ room_of pairs → IsGivenOut free mid k → mid.pairs ≡ free.pairs → IsGivenOut mid after j →
     (j < length pairs) × (get_or pairs j 0 ≡ 0) × (j ≢ k)
 second_vacant pairs free mid after k j h some first same second =
     let top = next_vacant pairs free mid k h (omega arith) first in
@@ -130,7 +130,7 @@ second_vacant pairs free mid after k j h some first same second =
 
 pub second_of : (pairs : List ℕ) (free mid after : FreeState) (s t k j : ℕ) → IsFree pairs free → 1 ≤ mate_of (address_at pairs s) →
     address_at pairs t ≡ owner (has_children pairs) (mate_of (address_at pairs s)) → has_children pairs (mate_of (address_at pairs s) / 2) ≡ true → 2 ≤ room_of pairs →
-    IsNext free mid k → mid.pairs ≡ free.pairs → IsNext mid after j → MaySplitMate pairs t k j (address_at pairs s)
+    IsGivenOut free mid k → mid.pairs ≡ free.pairs → IsGivenOut mid after j → MaySplitMate pairs t k j (address_at pairs s)
 second_of pairs free mid after s t k j h mate link same some first same_pairs second =
     let next = second_vacant pairs free mid after k j h some first same_pairs second in
     record {
@@ -141,7 +141,7 @@ second_of pairs free mid after s t k j h mate link same some first same_pairs se
       apart = next.2;
     }
 
-pub pairs_one : (most : ℕ) (pairs : List ℕ) (free mid : FreeState) (k a : ℕ) (after : List ℕ) → HasPairs most pairs free → 1 ≤ room_of pairs → IsNext free mid k → mid.pairs ≡ free.pairs → 1 ≤ a →
+pub pairs_one : (most : ℕ) (pairs : List ℕ) (free mid : FreeState) (k a : ℕ) (after : List ℕ) → HasPairs most pairs free → 1 ≤ room_of pairs → IsGivenOut free mid k → mid.pairs ≡ free.pairs → 1 ≤ a →
     after ≡ set pairs k a → HasPairs most after mid
 pairs_one most pairs free mid k a after h some next same low after_is =
     let pair_count = h.pair_count in
@@ -153,8 +153,8 @@ pairs_one most pairs free mid k a after h some next same low after_is =
       vacancies = subst (λ t. IsFree t mid) (sym after_is) (free_less pairs free mid k a h.vacancies some next same low);
     }
 
-pub pairs_two : (most : ℕ) (pairs : List ℕ) (free mid last : FreeState) (k j a b : ℕ) (after : List ℕ) → HasPairs most pairs free → 2 ≤ room_of pairs → IsNext free mid k → mid.pairs ≡ free.pairs →
-    IsNext mid last j → last.pairs ≡ mid.pairs → 1 ≤ a → 1 ≤ b → after ≡ set (set pairs k a) j b → HasPairs most after last
+pub pairs_two : (most : ℕ) (pairs : List ℕ) (free mid last : FreeState) (k j a b : ℕ) (after : List ℕ) → HasPairs most pairs free → 2 ≤ room_of pairs → IsGivenOut free mid k → mid.pairs ≡ free.pairs →
+    IsGivenOut mid last j → last.pairs ≡ mid.pairs → 1 ≤ a → 1 ≤ b → after ≡ set (set pairs k a) j b → HasPairs most after last
 pairs_two most pairs free mid last k j a b after h some first same second same_last low_a low_b after_is =
     let one = pairs_one most pairs free mid k a (set pairs k a) h (omega arith) first same low_a refl in
     let top = next_vacant pairs free mid k h.vacancies (omega arith) first in
@@ -172,12 +172,12 @@ pub room_seen : (most : ℕ) (pairs : List ℕ) (free : FreeState) (seen : List 
 room_seen most pairs free seen h e = let all = h.vacancies.all in let count = h.vacancies.count in let z : room_of pairs ≡ room_of seen = ap room_of e in omega arith
 
 -- a pair that is given out is a small number
-pub next_small : (most : ℕ) (pairs : List ℕ) (free after : FreeState) (k : ℕ) → HasPairs most pairs free → 1 ≤ room_of pairs → IsNext free after k → k < 2 ^ 31
+pub next_small : (most : ℕ) (pairs : List ℕ) (free after : FreeState) (k : ℕ) → HasPairs most pairs free → 1 ≤ room_of pairs → IsGivenOut free after k → k < 2 ^ 31
 next_small most pairs free after k h some next =
     let v = (next_vacant pairs free after k h.vacancies some next).0 in let high = h.most_high in let pair_count = h.pair_count in omega arith
 
 pub may_split_seen : (n most : ℕ) (pairs : List ℕ) (free after : FreeState) (s k : ℕ) (seen_n : ℕ) (seen : List ℕ) → n ≡ seen_n → pairs ≡ seen → n ≤ 11 → HasPairs most pairs free → IsLive seen s →
-    has_children seen (address_at seen s) ≡ false → level_of (address_at seen s) < 2 * seen_n → 1 ≤ room_of seen → IsNext free after k → MaySplit n pairs s k (address_at pairs s)
+    has_children seen (address_at seen s) ≡ false → level_of (address_at seen s) < 2 * seen_n → 1 ≤ room_of seen → IsGivenOut free after k → MaySplit n pairs s k (address_at pairs s)
 may_split_seen n most pairs free after s k seen_n seen e_n e_pairs high h live leaf coarse room next =
     let same : room_of pairs ≡ room_of seen = ap room_of e_pairs in
     let at : address_at pairs s ≡ address_at seen s = ap (λ t. address_at t s) e_pairs in
@@ -198,7 +198,7 @@ mate_room pairs s t seen e_pairs link given room =
 pub second_seen : (most : ℕ) (pairs : List ℕ) (free mid after : FreeState) (s t k j : ℕ) (seen : List ℕ) → pairs ≡ seen → HasPairs most pairs free →
     ((mate_of (address_at pairs s) ≡ 0) × (t ≡ nowhere)) ⊎ ((1 ≤ mate_of (address_at pairs s)) × (address_at pairs t ≡ owner (has_children pairs) (mate_of (address_at pairs s)))) → t ≢ nowhere →
     (1 ≤ mate_of (address_at seen s) → has_children seen (mate_of (address_at seen s) / 2) ≡ true) → (1 ≤ mate_of (address_at seen s) → 2 ≤ room_of seen) →
-    IsNext free mid k → mid.pairs ≡ free.pairs → IsNext mid after j → (2 ≤ room_of pairs) × MaySplitMate pairs t k j (address_at pairs s)
+    IsGivenOut free mid k → mid.pairs ≡ free.pairs → IsGivenOut mid after j → (2 ≤ room_of pairs) × MaySplitMate pairs t k j (address_at pairs s)
 second_seen most pairs free mid after s t k j seen e_pairs h link given level room first same second =
     let found = mate_room pairs s t seen e_pairs link given room in
     (found.0, second_of pairs free mid after s t k j h.vacancies found.2 found.3 (ap (λ t. has_children t (mate_of (address_at t s) / 2)) e_pairs ∙ level found.1) found.0 first same second)

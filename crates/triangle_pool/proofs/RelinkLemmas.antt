@@ -10,7 +10,7 @@ use Rattle.edge_laws.proofs.MateLemmas.{mate_of-back, mate_of-low, mate_of-level
 use Rattle.edge_laws.proofs.OwnerLemmas.{owner_cases, owner-low}
 use Rattle.triangle_pool.specs.declared.forest.Node.{Node}
 use Rattle.edge_laws.specs.Slots.{address_at, has_children, IsLive}
-use Rattle.triangle_pool.specs.Links.{blank, node_at, edge_link, with_link, ArePairs, IsAcross, IsRelinked}
+use Rattle.triangle_pool.specs.Links.{blank_node, node_at, edge_link, with_link, ArePairs, IsAcross, IsRelinked}
 
 -- ---- edges of a node
 
@@ -108,8 +108,8 @@ relinked_turn pairs nodes after x f to finer even h low is some within fine par 
     let same : level_of (mate_of f) ≡ level_of f = mate_of-level f (omega arith) mate in
     let parity : mate_of f % 2 + f % 2 ≡ 1 = mate_of-parity f (omega arith) mate in
     let g_four : 4 ≤ mate_of f = ⊎_elim (λ top. absurd (let z = mate_of-root (mate_of f) g_low top in omega arith)) (λ deep. deep) (cases_lt (mate_of f) 4) in
-    let here : node_at after x ≡ with_link (node_at nodes x) finer even to = ap (λ t. node_at t x) is_set ∙ get_or-set_same nodes x (with_link (node_at nodes x) finer even to) blank within in
-    let away : (r : ℕ) → r ≢ x → node_at after r ≡ node_at nodes r = λ r n. ap (λ t. node_at t r) is_set ∙ get_or-set_other nodes x r (with_link (node_at nodes x) finer even to) blank n in
+    let here : node_at after x ≡ with_link (node_at nodes x) finer even to = ap (λ t. node_at t x) is_set ∙ get_or-set_same nodes x (with_link (node_at nodes x) finer even to) blank_node within in
+    let away : (r : ℕ) → r ≢ x → node_at after r ≡ node_at nodes r = λ r n. ap (λ t. node_at t r) is_set ∙ get_or-set_other nodes x r (with_link (node_at nodes x) finer even to) blank_node n in
     record {
       there = λ r e r_live own is_f.
           let e_low = edge_low pairs r e r_live own in

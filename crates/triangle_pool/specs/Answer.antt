@@ -15,8 +15,8 @@ abbrev pub triangle_at : PoolState → Slot → ℕ
 triangle_at pool s = address_at pool.pairs s.0
 
 -- its corners
-abbrev pub corners_at : PoolState → Slot → Corners
-corners_at pool s = corners_of pool.n (triangle_at pool s)
+abbrev pub slot_corners : PoolState → Slot → Corners
+slot_corners pool s = corners_of pool.n (triangle_at pool s)
 
 -- t has the leaf across the edge from p to q of the leaf at s
 abbrev pub IsSlotAcross : PoolState → Slot → Point → Point → Slot → Type 0

@@ -10,11 +10,11 @@ use Rattle.mesh_defs.specs.ClosedSet.{IsClosed}
 use Rattle.mesh_defs.specs.Triangle.{level_of}
 use Rattle.mesh_defs.specs.declared.level.TheConstants.{GREATEST_LEVEL}
 
-abbrev pub blank : Node
-blank = record { children = 0; base = 0; left = 0; right = 0 }
+abbrev pub blank_node : Node
+blank_node = record { children = 0; base = 0; left = 0; right = 0 }
 
 abbrev pub node_at : List Node → ℕ → Node
-node_at nodes s = slice_index_or nodes s blank
+node_at nodes s = slice_index_or nodes s blank_node
 
 -- the link of a node with the address a across its edge e
 abbrev pub edge_link : Node → ℕ → ℕ → ℕ
@@ -84,7 +84,7 @@ pub record MayHalve (pairs : List ℕ) (s k a mate : ℕ) : Type 0 where
   pub paired : mate ≢ nowhere → (1 ≤ mate_of a) × (slice_index pairs mate ≡ mate_of a)
 
 -- the two edges between a's new children and those of its mate, where these have a pair already
-pub record IsInner (pairs : List ℕ) (before after : List Node) (k a mate : ℕ) : Type 0 where
+pub record AreInnerLinks (pairs : List ℕ) (before after : List Node) (k a mate : ℕ) : Type 0 where
   pub there : (r e : ℕ) → IsLive pairs r → owner (has_children pairs) e ≡ address_at pairs r → mate ≢ nowhere →
       ((mate_of e ≡ 4 * a + 1 → edge_link (node_at after r) (address_at pairs r) e ≡ 2 * k) × (mate_of e ≡ 4 * a + 2 → edge_link (node_at after r) (address_at pairs r) e ≡ 2 * k + 1))
   pub others : (r e : ℕ) → IsLive pairs r → owner (has_children pairs) e ≡ address_at pairs r → mate_of e ≢ 4 * a + 1 → mate_of e ≢ 4 * a + 2 →
@@ -92,7 +92,7 @@ pub record IsInner (pairs : List ℕ) (before after : List Node) (k a mate : ℕ
   pub children : (r : ℕ) → (node_at after r).children ≡ (node_at before r).children
 
 -- the two new nodes stand in the pair k, and the node at s has this pair as its children
-pub record IsPlaced (before after : List Node) (s k : ℕ) (one two : Node) : Type 0 where
+pub record ArePlacedNodes (before after : List Node) (s k : ℕ) (one two : Node) : Type 0 where
   pub left : node_at after (2 * k) ≡ one
   pub right : node_at after (2 * k + 1) ≡ two
   pub own : node_at after s ≡ record { children = k; base = (node_at before s).base; left = (node_at before s).left; right = (node_at before s).right }

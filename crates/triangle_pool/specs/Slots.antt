@@ -26,8 +26,8 @@ pub record HasSpace (returned : List ℕ) (unused pairs capacity : ℕ) : Type 0
   pub few : pairs < 2 ^ 32
 
 -- k is given out: the pair that was given back last, and where there is none, the first that was never given out
-abbrev pub IsNext : FreeState → FreeState → ℕ → Type 0
-IsNext before after k =
+abbrev pub IsGivenOut : FreeState → FreeState → ℕ → Type 0
+IsGivenOut before after k =
     ((before.returned ≡ after.returned ++ (k ∷ [])) × (after.unused ≡ before.unused))
     ⊎ ((before.returned ≡ []) × (after.returned ≡ []) × (k ≡ before.unused) × (after.unused ≡ before.unused + 1))
 

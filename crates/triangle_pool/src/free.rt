@@ -1,7 +1,7 @@
 //! The free pairs of slots.
 
 ghost use Rattle.std.specs.Prelude.{◌≡◌, ◌+◌, ◌^◌, ◌<◌, ◌≤◌, ◌++◌, [], ◌∷◌, IfOk, length};
-ghost use Rattle.triangle_pool.specs.Slots.{IsNext};
+ghost use Rattle.triangle_pool.specs.Slots.{IsGivenOut};
 
 use roam_errors::NoMemory;
 use std::alloc::Global;
@@ -55,7 +55,7 @@ impl FreePairs {
     /// Gives a pair out.
     pub fn take(&mut self) -> u32
         requires some { self.old.unused < length self.old.returned + self.old.pairs }
-        ensures next { IsNext self.old self.new result }
+        ensures next { IsGivenOut self.old self.new result }
         ensures pairs { self.new.pairs ≡ self.old.pairs }
     {
         match self.returned.pop() {

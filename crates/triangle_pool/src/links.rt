@@ -3,7 +3,7 @@
 ghost use Rattle.std.specs.Prelude.{◌≡◌, ℕ, ◌+◌, ◌*◌, ◌/◌, ◌%◌, ◌^◌, ◌<◌, ◌≤◌, ◌==◌, slice_index, slice_set, length};
 ghost use Rattle.mesh_defs.specs.Triangle.{level_of};
 ghost use Rattle.edge_laws.specs.Slots.{address_at, IsLive, split_set};
-ghost use Rattle.triangle_pool.specs.Links.{node_at, with_link, ArePairs, IsAcross, IsRelinked, IsForest, MayHalve, IsInner, IsPlaced, MaySplit, MaySplitMate, MayJoin, IsLeafAgain, MayMerge};
+ghost use Rattle.triangle_pool.specs.Links.{node_at, with_link, ArePairs, IsAcross, IsRelinked, IsForest, MayHalve, AreInnerLinks, ArePlacedNodes, MaySplit, MaySplitMate, MayJoin, IsLeafAgain, MayMerge};
 ghost use Rattle.mesh_defs.specs.ClosedSet.{IsClosed};
 ghost use Rattle.mesh_defs.specs.declared.level.TheConstants.{GREATEST_LEVEL};
 ghost use Rattle.std.specs.Prelude.{◌≢◌};
@@ -48,7 +48,7 @@ fn link_inner(pairs: &[u32], nodes: &mut [Node], s: u32, k: u32, mate: u32)
     requires pairs { ArePairs pairs.now }
     requires length { length nodes.old ≡ 2 * length pairs.now }
     requires ready { MayHalve pairs.now s k (address_at pairs.now s) mate }
-    ensures inner { IsInner pairs.now nodes.old nodes.new k (address_at pairs.now s) mate }
+    ensures inner { AreInnerLinks pairs.now nodes.old nodes.new k (address_at pairs.now s) mate }
 {
     if mate == NOWHERE {
         return;
@@ -77,7 +77,7 @@ fn place(nodes: &mut [Node], s: u32, k: u32, left: Node, right: Node)
     requires within { 2 * k + 1 < length nodes.old }
     requires small { 2 * k + 1 < 2 ^ 32 }
     requires own { s < length nodes.old }
-    ensures { IsPlaced nodes.old nodes.new s k left right }
+    ensures { ArePlacedNodes nodes.old nodes.new s k left right }
 {
     nodes[s as usize].children = k;
     nodes[2 * k as usize] = left;

@@ -10,7 +10,7 @@ ghost use Rattle.edge_laws.specs.Net.{nowhere};
 ghost use Rattle.edge_laws.specs.LeafAcross.{IsLeafAcross};
 ghost use Rattle.edge_laws.specs.Slots.{address_at, has_children, IsLive, split_set, room_of, IsPool, IsSplit, IsMergeReady, IsMerge, HasLeaf, IsMateLive, diamond_size};
 ghost use Rattle.triangle_pool.specs.declared.pool.TheConstants.{MOST_LEAVES};
-ghost use Rattle.triangle_pool.specs.Answer.{triangle_at, corners_at, IsSlotAcross, numbers, AreChildren, IsBirth, children_of};
+ghost use Rattle.triangle_pool.specs.Answer.{triangle_at, slot_corners, IsSlotAcross, numbers, AreChildren, IsBirth, children_of};
 
 use crate::forest::NOWHERE;
 use crate::free::FreePairs;
@@ -301,8 +301,8 @@ impl Pool {
     /// The slot of the leaf across the base.
     pub fn base(&self, s: Slot) -> Option<Slot>
         requires leaf { HasLeaf self.now.pairs s.0 }
-        ensures none { IsNone result ↔ OnOneSide (2 ^ self.now.n) (corners_at self.now s).v0 (corners_at self.now s).v1 }
-        ensures some { IfSome result (IsSlotAcross self.now s (corners_at self.now s).v0 (corners_at self.now s).v1) }
+        ensures none { IsNone result ↔ OnOneSide (2 ^ self.now.n) (slot_corners self.now s).v0 (slot_corners self.now s).v1 }
+        ensures some { IfSome result (IsSlotAcross self.now s (slot_corners self.now s).v0 (slot_corners self.now s).v1) }
         ensures border { IsNone result ↔ mate_of (triangle_at self.now s) ≡ 0 }
         ensures owner { IfSome result (λ t. triangle_at self.now t ≡ owner (has_children self.now.pairs) (mate_of (triangle_at self.now s))) }
         ensures valid { IsPool self.now.n self.now.pairs }
@@ -314,8 +314,8 @@ impl Pool {
     /// The slot of the leaf across the left leg.
     pub fn left(&self, s: Slot) -> Option<Slot>
         requires leaf { HasLeaf self.now.pairs s.0 }
-        ensures none { IsNone result ↔ OnOneSide (2 ^ self.now.n) (corners_at self.now s).apex (corners_at self.now s).v0 }
-        ensures some { IfSome result (IsSlotAcross self.now s (corners_at self.now s).apex (corners_at self.now s).v0) }
+        ensures none { IsNone result ↔ OnOneSide (2 ^ self.now.n) (slot_corners self.now s).apex (slot_corners self.now s).v0 }
+        ensures some { IfSome result (IsSlotAcross self.now s (slot_corners self.now s).apex (slot_corners self.now s).v0) }
         ensures valid { IsPool self.now.n self.now.pairs }
     {
         let _n = self.nodes.n();
@@ -325,8 +325,8 @@ impl Pool {
     /// The slot of the leaf across the right leg.
     pub fn right(&self, s: Slot) -> Option<Slot>
         requires leaf { HasLeaf self.now.pairs s.0 }
-        ensures none { IsNone result ↔ OnOneSide (2 ^ self.now.n) (corners_at self.now s).v1 (corners_at self.now s).apex }
-        ensures some { IfSome result (IsSlotAcross self.now s (corners_at self.now s).v1 (corners_at self.now s).apex) }
+        ensures none { IsNone result ↔ OnOneSide (2 ^ self.now.n) (slot_corners self.now s).v1 (slot_corners self.now s).apex }
+        ensures some { IfSome result (IsSlotAcross self.now s (slot_corners self.now s).v1 (slot_corners self.now s).apex) }
         ensures valid { IsPool self.now.n self.now.pairs }
     {
         let _n = self.nodes.n();

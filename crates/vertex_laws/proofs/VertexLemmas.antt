@@ -17,7 +17,7 @@ use Rattle.tiling_laws.proofs.DescentLemmas.{IsDown, IsDown-left, IsDown-right, 
 use Rattle.tiling_laws.proofs.OrientationLemmas.{apart}
 use Rattle.tiling_laws.proofs.ConformityLemmas.{IsLeaf, IsLeaf-leaves_of, same_middle}
 use Rattle.closure_laws.proofs.ClosureLemmas.{leaf-outer}
-use Rattle.vertex_laws.specs.Vertex.{is_vertex, centre_of, IsSquareCorner, IsCentre}
+use Rattle.vertex_laws.specs.Vertex.{is_mesh_vertex, centre_of, IsSquareCorner, IsCentre}
 
 -- corners
 
@@ -52,7 +52,7 @@ corner_of_child n v p low (inr (inr e)) = inr (subst (λ c. IsCorner c p) (sym (
 corner_of_leaf : (n : ℕ) (has : ℕ → Bool) (levels v : ℕ) (p : Point) → IsClosed n has →
     IsDown n levels v →
     (4 ≤ v → IsTrue (has (v / 2))) → (IsTrue (has v) → ⊥) → IsCorner (corners_of n v) p →
-    is_vertex n (leaves_of n has) p ≡ true
+    is_mesh_vertex n (leaves_of n has) p ≡ true
 corner_of_leaf n has levels v p closed down parent outside corner =
     list_any-in (λ a. has_corner (corners_of n a) p) (leaves_of n has) v
     (leaf-outer n has v closed record { address = IsAddress-down n levels v down; outside = outside; parent = parent })
@@ -62,7 +62,7 @@ corner_of_leaf n has levels v p closed down parent outside corner =
 corner_below : (n : ℕ) (has : ℕ → Bool) (levels v : ℕ) (p : Point) → IsClosed n has →
     IsDown n levels v →
     (4 ≤ v → IsTrue (has (v / 2))) → IsCorner (corners_of n v) p →
-    is_vertex n (leaves_of n has) p ≡ true
+    is_mesh_vertex n (leaves_of n has) p ≡ true
 corner_below n has zero v p closed down parent corner =
     corner_of_leaf n has zero v p closed down parent
     (λ is. let h = (closed.splittable v is).coarse in let l = down.height in omega arith)
@@ -80,7 +80,7 @@ corner_below n has (suc levels) v p closed down parent corner = ⊎_elim
 -- the centre of a member is a vertex
 pub centre-vertex : (n : ℕ) (has : ℕ → Bool) (a : ℕ) (p : Point) → IsClosed n has →
     IsTrue (has a) → centre_of n a ≡ p →
-    is_vertex n (leaves_of n has) p ≡ true
+    is_mesh_vertex n (leaves_of n has) p ≡ true
 centre-vertex n has a p closed is same =
     let s : IsSplittable n a = closed.splittable a is in
     let levels : ℕ = 2 * n - level_of a - 1 in
@@ -98,7 +98,7 @@ square_halves m p (inr x, inr y) = inr (inl (ap₂ (λ i j. point i j) x y))
 
 -- so it is a vertex
 pub square-vertex : (n : ℕ) (has : ℕ → Bool) (p : Point) → IsClosed n has →
-    IsSquareCorner (2 ^ n) p → is_vertex n (leaves_of n has) p ≡ true
+    IsSquareCorner (2 ^ n) p → is_mesh_vertex n (leaves_of n has) p ≡ true
 square-vertex n has p closed square = ⊎_elim
     (λ lower. corner_below n has (2 * n) 2 p closed (IsDown-2 n) (λ big. absurd (omega arith))
     (subst (λ c. IsCorner c p) (sym (corners_of-2 n)) lower))
@@ -109,7 +109,7 @@ square-vertex n has p closed square = ⊎_elim
 -- up from the leaves
 
 -- a vertex is a corner of the square or the centre of a member
-pub vertex-known : (n : ℕ) (has : ℕ → Bool) (p : Point) → is_vertex n (leaves_of n has) p ≡ true →
+pub vertex-known : (n : ℕ) (has : ℕ → Bool) (p : Point) → is_mesh_vertex n (leaves_of n has) p ≡ true →
     IsSquareCorner (2 ^ n) p ⊎ IsCentre n has p
 vertex-known n has p is =
     let e = Any-in (λ a. has_corner (corners_of n a) p) (leaves_of n has) is in
@@ -119,7 +119,7 @@ vertex-known n has p is =
 
 -- the vertices are just these
 pub vertex-place : (n : ℕ) (has : ℕ → Bool) (p : Point) → IsClosed n has →
-    IsTrue (is_vertex n (leaves_of n has) p) ↔ (IsSquareCorner (2 ^ n) p ⊎ IsCentre n has p)
+    IsTrue (is_mesh_vertex n (leaves_of n has) p) ↔ (IsSquareCorner (2 ^ n) p ⊎ IsCentre n has p)
 vertex-place n has p closed = (
   λ is. vertex-known n has p is,
   λ known. ⊎_elim (λ square. square-vertex n has p closed square) (λ y. centre-vertex n has y.0 p closed y.1 y.2) known,
@@ -145,8 +145,8 @@ centre-inside n a s square =
 
 -- the centre of a splittable triangle is a vertex exactly where it is a member
 pub centre-member : (n : ℕ) (has : ℕ → Bool) (a : ℕ) → IsClosed n has → IsSplittable n a →
-    is_vertex n (leaves_of n has) (centre_of n a) ≡ has a
-centre-member n has a closed s = same_tests (is_vertex n (leaves_of n has) (centre_of n a)) (has a)
+    is_mesh_vertex n (leaves_of n has) (centre_of n a) ≡ has a
+centre-member n has a closed s = same_tests (is_mesh_vertex n (leaves_of n has) (centre_of n a)) (has a)
     (λ is. ⊎_elim
     (λ square. absurd (centre-inside n a s square))
     (λ y. same_middle n has a y.0 closed s y.1 y.2)
@@ -156,14 +156,14 @@ centre-member n has a closed s = same_tests (is_vertex n (leaves_of n has) (cent
 -- closed sets that agree on the triangles with this centre both have the point as a vertex, or neither has
 pub vertex-same : (n : ℕ) (has other : ℕ → Bool) (p : Point) → IsClosed n has → IsClosed n other →
     ((a : ℕ) → IsSplittable n a → centre_of n a ≡ p → has a ≡ other a) →
-    is_vertex n (leaves_of n has) p ≡ is_vertex n (leaves_of n other) p
-vertex-same n has other p closed too agree = same_tests (is_vertex n (leaves_of n has) p) (is_vertex n (leaves_of n other) p)
+    is_mesh_vertex n (leaves_of n has) p ≡ is_mesh_vertex n (leaves_of n other) p
+vertex-same n has other p closed too agree = same_tests (is_mesh_vertex n (leaves_of n has) p) (is_mesh_vertex n (leaves_of n other) p)
     (carry has other closed too agree)
     (carry other has too closed (λ a s e. sym (agree a s e)))
   where
     carry : (one two : ℕ → Bool) → IsClosed n one → IsClosed n two →
         ((a : ℕ) → IsSplittable n a → centre_of n a ≡ p → one a ≡ two a) →
-        is_vertex n (leaves_of n one) p ≡ true → is_vertex n (leaves_of n two) p ≡ true
+        is_mesh_vertex n (leaves_of n one) p ≡ true → is_mesh_vertex n (leaves_of n two) p ≡ true
     carry one two c d same is = ⊎_elim
         (λ square. square-vertex n two p d square)
         (λ (y : IsCentre n one p). centre-vertex n two y.0 p d (sym (same y.0 (c.splittable y.0 y.1) y.2) ∙ y.1) y.2)

@@ -1,6 +1,6 @@
 -- Vertices of a mesh: corners of the square, and centres of triangles that are split.
 -- All of it is this project's own.
--- Words: is_vertex, centre_of, IsSquareCorner, IsCentre.
+-- Words: is_mesh_vertex, centre_of, IsSquareCorner, IsCentre.
 use Rattle.std.specs.Prelude.{◌≡◌, ◌⊎◌, ℕ, Bool, IsTrue, List}
 use Rattle.std.specs.List.{list_any}
 use Rattle.mesh_defs.specs.declared.point.Point.{Point}
@@ -8,8 +8,8 @@ use Rattle.mesh_defs.specs.Triangle.{corners_of, midpoint}
 use Rattle.mesh_defs.specs.MeshText.{has_corner}
 
 -- the point is a corner of a triangle of the list
-abbrev pub is_vertex : ℕ → List ℕ → Point → Bool
-is_vertex n triangles p = list_any (λ a. has_corner (corners_of n a) p) triangles
+abbrev pub is_mesh_vertex : ℕ → List ℕ → Point → Bool
+is_mesh_vertex n triangles p = list_any (λ a. has_corner (corners_of n a) p) triangles
 
 -- the point halfway along the base of a triangle, where its children have their apexes
 abbrev pub centre_of : ℕ → ℕ → Point

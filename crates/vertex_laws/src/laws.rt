@@ -4,7 +4,7 @@ ghost use Rattle.std.specs.Prelude.{◌≡◌, ℕ, ◌^◌, ◌↔◌, ◌⊎�
 ghost use Rattle.mesh_defs.specs.declared.point.Point.{Point};
 ghost use Rattle.mesh_defs.specs.Triangle.{IsSplittable};
 ghost use Rattle.mesh_defs.specs.ClosedSet.{IsClosed, leaves_of};
-ghost use Rattle.vertex_laws.specs.Vertex.{is_vertex, centre_of, IsSquareCorner, IsCentre};
+ghost use Rattle.vertex_laws.specs.Vertex.{is_mesh_vertex, centre_of, IsSquareCorner, IsCentre};
 
 /// The vertices of the mesh of a closed set are the corners of the square and the centres of its members.
 ///
@@ -12,10 +12,10 @@ ghost use Rattle.vertex_laws.specs.Vertex.{is_vertex, centre_of, IsSquareCorner,
 /// triangles whose centre a point is, it is a vertex of both meshes or of neither.
 pub fn vertex_laws()
     ensures place { (n : ℕ) (has : ℕ → Bool) (p : Point) → IsClosed n has →
-        (IsTrue (is_vertex n (leaves_of n has) p) ↔ (IsSquareCorner (2 ^ n) p ⊎ IsCentre n has p)) }
+        (IsTrue (is_mesh_vertex n (leaves_of n has) p) ↔ (IsSquareCorner (2 ^ n) p ⊎ IsCentre n has p)) }
     ensures centre { (n : ℕ) (has : ℕ → Bool) (a : ℕ) → IsClosed n has → IsSplittable n a →
-        is_vertex n (leaves_of n has) (centre_of n a) ≡ has a }
+        is_mesh_vertex n (leaves_of n has) (centre_of n a) ≡ has a }
     ensures same { (n : ℕ) (has other : ℕ → Bool) (p : Point) → IsClosed n has → IsClosed n other →
         ((a : ℕ) → IsSplittable n a → centre_of n a ≡ p → has a ≡ other a) →
-        is_vertex n (leaves_of n has) p ≡ is_vertex n (leaves_of n other) p }
+        is_mesh_vertex n (leaves_of n has) p ≡ is_mesh_vertex n (leaves_of n other) p }
 {}

@@ -1,5 +1,5 @@
 -- Changes of heights, and the triangles that they reach. This project's own words.
--- Words: area_of, is_in_row, placed_at, with_row, IsClearOf, AgreesOn; which rectangles share a point says `Areas` of bintree_laws.
+-- Words: area_between, is_in_row, placed_at, with_row, IsClearOf, AgreesOn; which rectangles share a point says `Areas` of bintree_laws.
 use Rattle.std.specs.Prelude.{◌≡◌, ℕ, ◌+◌, ◌-◌, ◌^◌, ◌/◌, ◌%◌, true, Bool, ◌&&◌, nat_le, nat_lt, nat_eq, if◌then◌else◌, List, length, map, slice_index}
 use Rattle.std.specs.List.{enumerate_from}
 use Rattle.mesh_defs.specs.declared.point.Point.{Point}
@@ -9,8 +9,8 @@ use Rattle.mesh_defs.specs.BoundingBox.{holds_point}
 use Rattle.mesh_defs.specs.State.{Area, is_in_area}
 
 -- the area of columns x0 to x1 and rows y0 to y1
-abbrev pub area_of : ℕ → ℕ → ℕ → ℕ → Area
-area_of left low right high = record { x0 = left; y0 = low; x1 = right; y1 = high }
+abbrev pub area_between : ℕ → ℕ → ℕ → ℕ → Area
+area_between left low right high = record { x0 = left; y0 = low; x1 = right; y1 = high }
 
 -- the point (i, j) is one of this many from (x, y) to the right
 abbrev pub is_in_row : ℕ → ℕ → ℕ → ℕ → ℕ → Bool

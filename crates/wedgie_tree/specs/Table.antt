@@ -1,5 +1,5 @@
 -- The table of wedges: an entry for each triangle above the last splittable levels, at its address.
--- Words: kept_levels, IsKept, IsWedge, HasEntry, AllUnder, IsRightOff, IsTable.
+-- Words: kept_levels, IsInTable, IsWedge, HasEntry, AllUnder, IsRightOff, IsTable.
 use Rattle.std.specs.Prelude.{◌≡◌, ℕ, zero, suc, ◌+◌, ◌-◌, ◌*◌, ◌^◌, ◌<◌, ◌≤◌, List, length, slice_index_or}
 use Rattle.mesh_defs.specs.HeightField.{HeightField, IsHeightField}
 use Rattle.mesh_defs.specs.Triangle.{level_of}
@@ -15,7 +15,7 @@ abbrev pub kept_levels : ℕ → ℕ
 kept_levels n = 2 * n - LEFT_OUT
 
 -- the table has a place for triangle a
-pub record IsKept (n a : ℕ) : Type 0 where
+pub record IsInTable (n a : ℕ) : Type 0 where
   pub low : 2 ≤ a
   pub coarse : level_of a < kept_levels n
 
@@ -36,10 +36,10 @@ AllUnder (suc levels) P a = P a × AllUnder levels P (2 * a) × AllUnder levels 
 
 -- the entry of each kept triangle that holds no point of the area is its wedge
 abbrev pub IsRightOff : HeightField → Area → List Wedge → Type 0
-IsRightOff g area table = (a : ℕ) → IsKept g.n a → IsClearOf g.n area a → HasEntry g table a
+IsRightOff g area table = (a : ℕ) → IsInTable g.n a → IsClearOf g.n area a → HasEntry g table a
 
 -- the table of a height field has a place for each address of a kept level, and the wedge of each kept triangle
 pub record IsTable (g : HeightField) (table : List Wedge) : Type 0 where
   pub valid : IsHeightField g
   pub count : length table ≡ 2 ^ (kept_levels g.n + 1)
-  pub each : (a : ℕ) → IsKept g.n a → HasEntry g table a
+  pub each : (a : ℕ) → IsInTable g.n a → HasEntry g table a

@@ -2,7 +2,7 @@
 
 ghost use Rattle.std.specs.Prelude.{IsTrue, ◌↔◌, ◌≡◌};
 ghost use Rattle.bintree_laws.specs.Areas.{MeetsArea, overlaps};
-ghost use Rattle.wedgie_tree.specs.Edits.{area_of};
+ghost use Rattle.wedgie_tree.specs.Edits.{area_between};
 
 use crate::shape::{greatest, least};
 use bintree_addr::Corners;
@@ -37,7 +37,7 @@ impl Area {
     pub fn new(x0: u32, y0: u32, x1: u32, y1: u32) -> Self
         requires columns { x0 ≤ x1 }
         requires rows { y0 ≤ y1 }
-        ensures { result ≡ area_of x0 y0 x1 y1 }
+        ensures { result ≡ area_between x0 y0 x1 y1 }
     {
         Area { x0, y0, x1, y1 }
     }

@@ -7,7 +7,7 @@ use Rattle.mesh_defs.specs.BoundingBox.{CameraAt}
 use Rattle.certificate_laws.specs.declared.reason.Reason.{Reason}
 use Rattle.roam_edge.specs.Sink.{Appends}
 use Rattle.cert_text.specs.declared.line.CertLine.TheVariants.{CameraLine}
-use Rattle.cert_text.specs.CertText.{ended, leaf_text, reason_text, cert_text}
+use Rattle.cert_text.specs.CertText.{ended_line, leaf_text, reason_text, cert_text}
 use Rattle.page_laws.specs.Page.{IsPut}
 use Rattle.page_laws.proofs.PageLemmas.{put-nothing, cut-longer, appends-cut}
 use Rattle.cert_text.proofs.writing.write_cert.Goals as goal
@@ -18,7 +18,7 @@ first before page empty = subst (λ l. IsPut before before l []) (sym empty) (pu
 
 -- the text of the parts of a certificate
 abbrev parts : CameraAt → List ℕ → List Reason → List ℕ
-parts seen_from leaves reasons = ended (CameraLine seen_from) ++ flat_map leaf_text leaves ++ flat_map reason_text reasons
+parts seen_from leaves reasons = ended_line (CameraLine seen_from) ++ flat_map leaf_text leaves ++ flat_map reason_text reasons
 
 same_parts : (seen_from camera : CameraAt) (mesh leaves : List ℕ) (why reasons : List Reason) → seen_from ≡ camera → mesh ≡ leaves → why ≡ reasons →
     parts seen_from mesh why ≡ parts camera leaves reasons
@@ -39,9 +39,9 @@ returns-in_err-put_leaves-clause-bytes g c =
     let cert = c.args.cert.now in
     let start = first before c.new-page.result.items c.new-page.ensures in
     rw p.1 (appends-cut before _ (cert_text cert) _
-    (cut-longer before _ (ended (CameraLine c.camera.result) ++ flat_map leaf_text c.leaves.result.now) (flat_map reason_text cert.reasons) (cert_text cert)
+    (cut-longer before _ (ended_line (CameraLine c.camera.result) ++ flat_map leaf_text c.leaves.result.now) (flat_map reason_text cert.reasons) (cert_text cert)
     (sym (same_parts c.camera.result cert.camera c.leaves.result.now cert.leaves cert.reasons cert.reasons c.camera.ensures c.leaves.ensures.value refl))
-    (c.in_err-put_leaves.ensures.err before (ended (CameraLine c.camera.result)) (c.in_ok-put_line.ensures.ok before [] start))))
+    (c.in_err-put_leaves.ensures.err before (ended_line (CameraLine c.camera.result)) (c.in_ok-put_line.ensures.ok before [] start))))
 
 pub returns-in_err-put_reasons-clause-bytes : goal.returns-in_err-put_reasons-clause-bytes
 returns-in_err-put_reasons-clause-bytes g c =
@@ -53,8 +53,8 @@ returns-in_err-put_reasons-clause-bytes g c =
     rw p.1 (appends-cut before _ (cert_text cert) _ (cut-longer before _ text [] (cert_text cert)
     (sym (same_parts c.camera.result cert.camera c.leaves.result.now cert.leaves c.reasons.result.now cert.reasons
     c.camera.ensures c.leaves.ensures.value c.reasons.ensures.value) ∙ sym (append-nil text))
-    (c.in_err-put_reasons.ensures.err before (ended (CameraLine c.camera.result) ++ flat_map leaf_text c.leaves.result.now)
-    (c.in_ok-put_leaves.ensures.ok before (ended (CameraLine c.camera.result)) (c.in_ok-put_line.ensures.ok before [] start)))))
+    (c.in_err-put_reasons.ensures.err before (ended_line (CameraLine c.camera.result) ++ flat_map leaf_text c.leaves.result.now)
+    (c.in_ok-put_leaves.ensures.ok before (ended_line (CameraLine c.camera.result)) (c.in_ok-put_line.ensures.ok before [] start)))))
 
 pub returns-clause-bytes : goal.returns-clause-bytes
 returns-clause-bytes g c =
@@ -66,5 +66,5 @@ returns-clause-bytes g c =
     (same_parts c.camera.result cert.camera c.leaves.result.now cert.leaves c.reasons.result.now cert.reasons
     c.camera.ensures c.leaves.ensures.value c.reasons.ensures.value)
     (c.put_rest.ensures.bytes before text
-    (c.in_ok-put_reasons.ensures.ok before (ended (CameraLine c.camera.result) ++ flat_map leaf_text c.leaves.result.now)
-    (c.in_ok-put_leaves.ensures.ok before (ended (CameraLine c.camera.result)) (c.in_ok-put_line.ensures.ok before [] start))))
+    (c.in_ok-put_reasons.ensures.ok before (ended_line (CameraLine c.camera.result) ++ flat_map leaf_text c.leaves.result.now)
+    (c.in_ok-put_leaves.ensures.ok before (ended_line (CameraLine c.camera.result)) (c.in_ok-put_line.ensures.ok before [] start))))

@@ -1,7 +1,7 @@
 use Rattle.std.proofs.Common.{◌≡◌, false, sym, ap₂, subst}
 use Rattle.mesh_defs.specs.ClosedSet.{among}
 use Rattle.frame_steps.specs.Deferred.{IsEntry}
-use Rattle.deferred_loop.specs.Seen.{IsTold}
+use Rattle.deferred_loop.specs.Seen.{IsRated}
 use Rattle.deferred_loop.proofs.asking.ask.Goals as goal
 
 pub tell-requires-clause-entry : goal.tell-requires-clause-entry
@@ -15,5 +15,5 @@ tell-requires-clause-unknown g c = subst (λ z. (g.M.QueuedMesh.seen c.args.mesh
 
 pub returns-clause-known : goal.returns-clause-known
 returns-clause-known g c =
-    subst (IsTold (g.M.QueuedMesh.seen c.args.mesh.now) (g.M.QueuedMesh.seen c.tell.new.self))
+    subst (IsRated (g.M.QueuedMesh.seen c.args.mesh.now) (g.M.QueuedMesh.seen c.tell.new.self))
     (ap₂ (λ p t. record { p = p; tri = t }) c.rank-rank.ensures.value c.rank-rank.ensures.tri) c.tell.ensures.told

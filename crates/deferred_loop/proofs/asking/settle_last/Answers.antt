@@ -4,7 +4,7 @@ use Rattle.mesh_defs.specs.Triangle.{level_of}
 use Rattle.mesh_defs.specs.ClosedSet.{among}
 use Rattle.bintree_addr.specs.declared.rank.Rank.{Rank}
 use Rattle.frame_steps.specs.Deferred.{IsEntry}
-use Rattle.deferred_loop.specs.Seen.{PoolSet, IsTold}
+use Rattle.deferred_loop.specs.Seen.{PoolSet, IsRated}
 use Rattle.deferred_loop.specs.Choice.{Priorities, IsLastRank}
 use Rattle.deferred_loop.specs.Kept.{IsAllowed, IsNoneMet}
 use Rattle.deferred_loop.specs.declared.queued.Located.{Located}
@@ -82,8 +82,8 @@ asking-smaller g c =
     let part = last_part before c.in-Some.head t c.in-Some.ensures.head c.in-Some-unasked.is in
     let after = g.M.QueuedMesh.seen c.ask.new.mesh in
     let rank : Rank = record { p = (g.G.Gauge.told c.asking.gauge).of t.tri; tri = t.tri } in
-    let known : IsTold before after rank =
-    subst (λ (z : Located). IsTold before after (record { p = (g.G.Gauge.told c.asking.gauge).of z.tri; tri = z.tri }))
+    let known : IsRated before after rank =
+    subst (λ (z : Located). IsRated before after (record { p = (g.G.Gauge.told c.asking.gauge).of z.tri; tri = z.tri }))
     c.in-Some-unasked.t-is c.ask.ensures.known in
     told_less before after rank t.tri known refl
     (last_entry g.w c.requires.1.1.0 before c.asking.invariant.asked.settled c.in-Some.head c.in-Some.ensures.head t.tri part.0)
@@ -97,8 +97,8 @@ asking-preserved g c =
     let t = c.in-Some-unasked.t in
     let part = last_part before c.in-Some.head t c.in-Some.ensures.head c.in-Some-unasked.is in
     let rank : Rank = record { p = (g.G.Gauge.told c.asking.gauge).of t.tri; tri = t.tri } in
-    let known : IsTold before after rank =
-    subst (λ (z : Located). IsTold before after (record { p = (g.G.Gauge.told c.asking.gauge).of z.tri; tri = z.tri }))
+    let known : IsRated before after rank =
+    subst (λ (z : Located). IsRated before after (record { p = (g.G.Gauge.told c.asking.gauge).of z.tri; tri = z.tri }))
     c.in-Some-unasked.t-is c.ask.ensures.known in
     let value = ap (λ (z : Priorities). z.of t.tri) (c.asking.invariant.told ∙ c.requires.1.1.1.0) in
     let allowed = subst (λ (z : PoolSet). IsAllowed g.w z.members c.args.limit.now) (sym c.asking.invariant.asked.set)

@@ -1,7 +1,7 @@
 -- Those so far have gone, and those that are to go have places.
 use Rattle.std.proofs.Common.{◌≡◌, ℕ, ◌+◌, ◌-◌, ◌≤◌, length, take, drop}
 use Rattle.draw_buffer.specs.Times.{times}
-use Rattle.draw_buffer.specs.Exchange.{addresses_of, IsTold}
+use Rattle.draw_buffer.specs.Exchange.{addresses_of, KeepsUntold}
 use Rattle.draw_buffer.proofs.buffer.leave_all.Given as goal
 
 abbrev pub invariant-loop-t : goal.invariant-loop-t
@@ -16,6 +16,6 @@ invariant-loop-t l = record {
   waiting : length l.exchange.waiting ≡ length l.initial.exchange.waiting - l.t-index;
   count : length l.exchange.triangles + length l.exchange.waiting + l.t-index
       ≡ length l.initial.exchange.triangles + length l.initial.exchange.waiting;
-  told : IsTold l.initial.exchange l.exchange;
+  told : KeepsUntold l.initial.exchange l.exchange;
   few : length l.exchange.written ≤ l.t-index;
 }

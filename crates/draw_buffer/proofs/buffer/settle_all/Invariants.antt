@@ -1,7 +1,7 @@
 -- Each that waits is to come behind the last.
 use Rattle.std.proofs.Common.{◌≡◌, ℕ, ◌+◌, length}
 use Rattle.draw_buffer.specs.Times.{times}
-use Rattle.draw_buffer.specs.Exchange.{addresses_of, IsTold}
+use Rattle.draw_buffer.specs.Exchange.{addresses_of, KeepsUntold}
 use Rattle.draw_buffer.proofs.buffer.settle_all.Given as goal
 
 abbrev pub invariant-loop-exchange : goal.invariant-loop-exchange
@@ -14,7 +14,7 @@ invariant-loop-exchange l = record {
       ≡ times l.initial.exchange.triangles a + times (addresses_of l.initial.exchange.waiting) a;
   count : length l.exchange.triangles + length l.exchange.waiting
       ≡ length l.initial.exchange.triangles + length l.initial.exchange.waiting;
-  told : IsTold l.initial.exchange l.exchange;
+  told : KeepsUntold l.initial.exchange l.exchange;
   few : length l.exchange.written + length l.exchange.waiting
       ≡ length l.initial.exchange.written + length l.initial.exchange.waiting;
 }

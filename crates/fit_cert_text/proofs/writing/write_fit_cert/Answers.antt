@@ -6,7 +6,7 @@ use Rattle.std.proofs.lemmas.Result.{err_from_is_err_and}
 use Rattle.roam_edge.specs.Sink.{Appends}
 use Rattle.fit_certificate_laws.specs.declared.reason.Off.{Off}
 use Rattle.fit_cert_text.specs.declared.line.FitLine.TheVariants.{ToleranceLine, MeshLine}
-use Rattle.fit_cert_text.specs.FitCertText.{ended, off_text, fit_cert_text}
+use Rattle.fit_cert_text.specs.FitCertText.{ended_fit_line, off_text, fit_cert_text}
 use Rattle.page_laws.specs.Page.{IsPut}
 use Rattle.page_laws.proofs.PageLemmas.{put-nothing, cut-longer, appends-cut}
 use Rattle.fit_cert_text.proofs.writing.write_fit_cert.Goals as goal
@@ -17,7 +17,7 @@ first before page empty = subst (λ l. IsPut before before l []) (sym empty) (pu
 
 -- the text of the parts of a certificate
 abbrev parts : ℕ → List Off → List Off → List ℕ
-parts tolerance needed beyond = ended (ToleranceLine tolerance) ++ flat_map off_text needed ++ ended MeshLine ++ flat_map off_text beyond
+parts tolerance needed beyond = ended_fit_line (ToleranceLine tolerance) ++ flat_map off_text needed ++ ended_fit_line MeshLine ++ flat_map off_text beyond
 
 same_parts : (own tolerance : ℕ) (front needed back beyond : List Off) → own ≡ tolerance → front ≡ needed → back ≡ beyond →
     parts own front back ≡ parts tolerance needed beyond
@@ -26,9 +26,9 @@ same_parts own tolerance front needed back beyond e f h =
 
 -- the first parts, and the others
 front_parts : (tolerance : ℕ) (needed beyond : List Off) → parts tolerance needed beyond
-    ≡ (ended (ToleranceLine tolerance) ++ flat_map off_text needed) ++ (ended MeshLine ++ flat_map off_text beyond)
+    ≡ (ended_fit_line (ToleranceLine tolerance) ++ flat_map off_text needed) ++ (ended_fit_line MeshLine ++ flat_map off_text beyond)
 front_parts tolerance needed beyond =
-    append_assoc (ended (ToleranceLine tolerance) ++ flat_map off_text needed) (ended MeshLine) (flat_map off_text beyond)
+    append_assoc (ended_fit_line (ToleranceLine tolerance) ++ flat_map off_text needed) (ended_fit_line MeshLine) (flat_map off_text beyond)
 
 pub returns-in_err-put_line-clause-bytes : goal.returns-in_err-put_line-clause-bytes
 returns-in_err-put_line-clause-bytes g c =
@@ -45,12 +45,12 @@ returns-in_err-put_offs-clause-bytes g c =
     let cert = c.args.cert.now in
     let start = first before c.new-page.result.items c.new-page.ensures in
     rw p.1 (appends-cut before _ (fit_cert_text cert) _
-    (cut-longer before _ (ended (ToleranceLine c.tolerance.result) ++ flat_map off_text c.needed.result.now)
-    (ended MeshLine ++ flat_map off_text cert.beyond) (fit_cert_text cert)
+    (cut-longer before _ (ended_fit_line (ToleranceLine c.tolerance.result) ++ flat_map off_text c.needed.result.now)
+    (ended_fit_line MeshLine ++ flat_map off_text cert.beyond) (fit_cert_text cert)
     (sym (same_parts c.tolerance.result cert.tolerance c.needed.result.now cert.needed cert.beyond cert.beyond
     c.tolerance.ensures c.needed.ensures.value refl)
     ∙ front_parts c.tolerance.result c.needed.result.now cert.beyond)
-    (c.in_err-put_offs.ensures.err before (ended (ToleranceLine c.tolerance.result)) (c.in_ok-put_line.ensures.ok before [] start))))
+    (c.in_err-put_offs.ensures.err before (ended_fit_line (ToleranceLine c.tolerance.result)) (c.in_ok-put_line.ensures.ok before [] start))))
 
 pub returns-in_err-put_line-2-clause-bytes : goal.returns-in_err-put_line-2-clause-bytes
 returns-in_err-put_line-2-clause-bytes g c =
@@ -58,14 +58,14 @@ returns-in_err-put_line-2-clause-bytes g c =
     let before = g.S.Sink.contents c.args.out.now in
     let cert = c.args.cert.now in
     let start = first before c.new-page.result.items c.new-page.ensures in
-    let text = ended (ToleranceLine c.tolerance.result) ++ flat_map off_text c.needed.result.now in
+    let text = ended_fit_line (ToleranceLine c.tolerance.result) ++ flat_map off_text c.needed.result.now in
     rw p.1 (appends-cut before _ (fit_cert_text cert) _
-    (cut-longer before _ text (ended MeshLine ++ flat_map off_text cert.beyond) (fit_cert_text cert)
+    (cut-longer before _ text (ended_fit_line MeshLine ++ flat_map off_text cert.beyond) (fit_cert_text cert)
     (sym (same_parts c.tolerance.result cert.tolerance c.needed.result.now cert.needed cert.beyond cert.beyond
     c.tolerance.ensures c.needed.ensures.value refl)
     ∙ front_parts c.tolerance.result c.needed.result.now cert.beyond)
     (c.in_err-put_line-2.ensures.err before text
-    (c.in_ok-put_offs.ensures.ok before (ended (ToleranceLine c.tolerance.result)) (c.in_ok-put_line.ensures.ok before [] start)))))
+    (c.in_ok-put_offs.ensures.ok before (ended_fit_line (ToleranceLine c.tolerance.result)) (c.in_ok-put_line.ensures.ok before [] start)))))
 
 pub returns-in_err-put_offs-2-clause-bytes : goal.returns-in_err-put_offs-2-clause-bytes
 returns-in_err-put_offs-2-clause-bytes g c =
@@ -73,23 +73,23 @@ returns-in_err-put_offs-2-clause-bytes g c =
     let before = g.S.Sink.contents c.args.out.now in
     let cert = c.args.cert.now in
     let start = first before c.new-page.result.items c.new-page.ensures in
-    let text = ended (ToleranceLine c.tolerance.result) ++ flat_map off_text c.needed.result.now in
+    let text = ended_fit_line (ToleranceLine c.tolerance.result) ++ flat_map off_text c.needed.result.now in
     let whole = parts c.tolerance.result c.needed.result.now c.beyond.result.now in
     rw p.1 (appends-cut before _ (fit_cert_text cert) _ (cut-longer before _ whole [] (fit_cert_text cert)
     (sym (same_parts c.tolerance.result cert.tolerance c.needed.result.now cert.needed c.beyond.result.now cert.beyond
     c.tolerance.ensures c.needed.ensures.value c.beyond.ensures.value) ∙ sym (append-nil whole))
-    (c.in_err-put_offs-2.ensures.err before (text ++ ended MeshLine) (c.in_ok-put_line-2.ensures.ok before text
-    (c.in_ok-put_offs.ensures.ok before (ended (ToleranceLine c.tolerance.result)) (c.in_ok-put_line.ensures.ok before [] start))))))
+    (c.in_err-put_offs-2.ensures.err before (text ++ ended_fit_line MeshLine) (c.in_ok-put_line-2.ensures.ok before text
+    (c.in_ok-put_offs.ensures.ok before (ended_fit_line (ToleranceLine c.tolerance.result)) (c.in_ok-put_line.ensures.ok before [] start))))))
 
 pub returns-clause-bytes : goal.returns-clause-bytes
 returns-clause-bytes g c =
     let before = g.S.Sink.contents c.args.out.now in
     let cert = c.args.cert.now in
     let start = first before c.new-page.result.items c.new-page.ensures in
-    let text = ended (ToleranceLine c.tolerance.result) ++ flat_map off_text c.needed.result.now in
+    let text = ended_fit_line (ToleranceLine c.tolerance.result) ++ flat_map off_text c.needed.result.now in
     subst (λ l. Appends before (g.S.Sink.contents c.put_rest.new.out) l c.put_rest.result)
     (same_parts c.tolerance.result cert.tolerance c.needed.result.now cert.needed c.beyond.result.now cert.beyond
     c.tolerance.ensures c.needed.ensures.value c.beyond.ensures.value)
     (c.put_rest.ensures.bytes before (parts c.tolerance.result c.needed.result.now c.beyond.result.now)
-    (c.in_ok-put_offs-2.ensures.ok before (text ++ ended MeshLine) (c.in_ok-put_line-2.ensures.ok before text
-    (c.in_ok-put_offs.ensures.ok before (ended (ToleranceLine c.tolerance.result)) (c.in_ok-put_line.ensures.ok before [] start)))))
+    (c.in_ok-put_offs-2.ensures.ok before (text ++ ended_fit_line MeshLine) (c.in_ok-put_line-2.ensures.ok before text
+    (c.in_ok-put_offs.ensures.ok before (ended_fit_line (ToleranceLine c.tolerance.result)) (c.in_ok-put_line.ensures.ok before [] start)))))

@@ -4,7 +4,7 @@ use Rattle.mesh_defs.specs.ClosedSet.{leaves_of}
 use Rattle.closure_laws.proofs.ClosureLemmas.{nothing_closed}
 use Rattle.least_laws.specs.Sweep.{is_flagged}
 use Rattle.fit_laws.proofs.FitLemmas.{closed-same}
-use Rattle.fit_certificate_laws.specs.Certificate.{FitCertificate, IsFitted, IsSound}
+use Rattle.fit_certificate_laws.specs.Certificate.{FitCertificate, LeadsToFit, IsFitSound}
 use Rattle.fit_certificate_laws.proofs.LeadLemmas.{leads-closed, leads-same}
 use Rattle.fit_certificate_laws.proofs.MakeLemmas.{made-sound}
 use Rattle.fit_certify.proofs.making.cert_of.Goals as goal
@@ -33,7 +33,7 @@ returns c =
       beyond =
           c.in_ok-beyond.beyond.items;
     } in
-    let fitted : IsFitted n heights cert has = record {
+    let fitted : LeadsToFit n heights cert has = record {
       needed = leads-same n heights c.args.tolerance (is_flagged c.args.flags.now)
           (λ a. false) cert.needed has c.requires.empty c.in_ok-needed.ensures.leads;
       within = c.in_ok-needed.ensures.within;
@@ -41,7 +41,7 @@ returns c =
     record {
       sound = (
         leaves_of n has,
-        subst (λ (x : FitCertificate). IsSound n heights c.args.target x (leaves_of n has)) (sym c.new.ensures)
+        subst (λ (x : FitCertificate). IsFitSound n heights c.args.target x (leaves_of n has)) (sym c.new.ensures)
             (made-sound n heights cert has (is_flagged c.settle_below.new.flags) fitted c.in_ok-beyond.ensures.leads
             c.args.target c.requires.best
             c.in_ok-beyond.ensures.below),

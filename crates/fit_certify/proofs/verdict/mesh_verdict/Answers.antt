@@ -4,7 +4,7 @@ use Rattle.mesh_defs.specs.ClosedSet.{leaves_of}
 use Rattle.least_laws.specs.Sweep.{is_flagged}
 use Rattle.fit_laws.proofs.ErrorLemmas.{worst-deviation}
 use Rattle.fit_certificate_laws.specs.declared.reason.Off.{Off}
-use Rattle.fit_certificate_laws.specs.Certificate.{LeadsTo, IsWithin, IsEnough}
+use Rattle.fit_certificate_laws.specs.Certificate.{LeadsTo, IsWithinTarget, IsEnough}
 use Rattle.fit_certify.proofs.verdict.mesh_verdict.Goals as goal
 
 pub returns : goal.returns
@@ -26,7 +26,7 @@ returns c =
           needed = c.requires.leads;
           within = subst (λ k. k ≤ cert.tolerance) c.measure-mesh.ensures.error within;
         };
-        few = subst (λ k. IsWithin c.args.target k) c.measure-mesh.ensures.triangles (c.is_within.ensures.0 c.if-not-is_within.false);
+        few = subst (λ k. IsWithinTarget c.args.target k) c.measure-mesh.ensures.triangles (c.is_within.ensures.0 c.if-not-is_within.false);
         beyond = subst (λ (l : List Off). LeadsTo n heights (cert.tolerance - 1) has l over) c.beyond.ensures.value
             (subst (λ k. LeadsTo n heights k has c.beyond.result.now over) less c.in_default.ensures.all);
         enough = subst (λ k. IsEnough c.args.target cert.tolerance k) count

@@ -3,7 +3,7 @@ use Rattle.std.proofs.Common.{ℕ, false, List, inl, sym, subst}
 use Rattle.least_laws.specs.Sweep.{is_flagged}
 use Rattle.fit_certificate_laws.specs.declared.reason.Off.{Off}
 use Rattle.fit_certificate_laws.specs.declared.reason.Verdict.{Verdict}
-use Rattle.fit_certificate_laws.specs.Certificate.{IsFor, IsFirstBad, IsVerdict}
+use Rattle.fit_certificate_laws.specs.Certificate.{IsFor, IsFirstBadFit, IsFitVerdict}
 use Rattle.fit_certificate_laws.proofs.LeadLemmas.{bad-same}
 use Rattle.fit_certify.proofs.verdict.verdict.Goals as goal
 
@@ -14,7 +14,7 @@ returns-in-Some c =
     let cert = c.args.cert.now in
     let flags = is_flagged c.args.flags.now in
     let own = subst (λ k. IsFor c.args.target k) c.tolerance-tolerance.ensures (c.is_for.ensures.0 c.if-not-is_for.false) in
-    let bad = subst (λ (l : List Off). IsFirstBad n heights cert.tolerance flags l c.in-Some.index) c.needed.ensures.value
-    (subst (λ k. IsFirstBad n heights k flags c.needed.result.now c.in-Some.index) c.tolerance-tolerance.ensures c.in-Some.ensures.bad) in
-    subst (λ (v : Verdict). IsVerdict n heights c.args.target cert v) (sym c.rejected-in-Some.ensures)
+    let bad = subst (λ (l : List Off). IsFirstBadFit n heights cert.tolerance flags l c.in-Some.index) c.needed.ensures.value
+    (subst (λ k. IsFirstBadFit n heights k flags c.needed.result.now c.in-Some.index) c.tolerance-tolerance.ensures c.in-Some.ensures.bad) in
+    subst (λ (v : Verdict). IsFitVerdict n heights c.args.target cert v) (sym c.rejected-in-Some.ensures)
     (own, inl (bad-same n heights cert.tolerance flags (λ a. false) cert.needed c.in-Some.index c.requires.empty bad))

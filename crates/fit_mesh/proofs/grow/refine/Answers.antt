@@ -9,7 +9,7 @@ use Rattle.closure_laws.proofs.ClosureLemmas.{IsOuter}
 use Rattle.least_laws.specs.Sweep.{is_flagged}
 use Rattle.fit_laws.specs.Error.{error_of}
 use Rattle.fit_laws.proofs.ErrorLemmas.{error-finest}
-use Rattle.fit_mesh.specs.Log.{IsGrown}
+use Rattle.fit_mesh.specs.Log.{HasLog}
 use Rattle.fit_mesh.specs.Waiting.{IsPending}
 use Rattle.fit_mesh.proofs.GrownLemmas.{counted, first-outer, first-worst, first-splittable, none-worst, waiting-left, best-mark, best-kept, below-step, address-small}
 use Rattle.fit_mesh.proofs.PendingLemmas.{pending-init}
@@ -119,7 +119,7 @@ returns-then-more-budget-clause-end c =
     c.n.ensures.value c.force-more.ensures.least in
     let next : List ℕ = take c.force-more.result c.force-more.new.room in
     let longer = length-take-le c.force-more.result c.force-more.new.room c.force-more.ensures.count in
-    let grown : IsGrown n c.force-more.new.flags next = record {
+    let grown : HasLog n c.force-more.new.flags next = record {
       room = c.force-more.ensures.flags ∙ i.grown.room;
       logged = c.force-more.ensures.log;
       closed = least.closed;
@@ -153,7 +153,7 @@ push_children-requires-clause-pending c =
     c.n.ensures.value c.force-more.ensures.least in
     let next : List ℕ = take c.force-more.result c.force-more.new.room in
     let longer = length-take-le c.force-more.result c.force-more.new.room c.force-more.ensures.count in
-    let grown : IsGrown n c.force-more.new.flags next = record {
+    let grown : HasLog n c.force-more.new.flags next = record {
       room = c.force-more.ensures.flags ∙ i.grown.room;
       logged = c.force-more.ensures.log;
       closed = least.closed;
@@ -183,7 +183,7 @@ loop-low-preserved c =
     c.n.ensures.value c.force-more.ensures.least in
     let next : List ℕ = take c.force-more.result c.force-more.new.room in
     let longer = length-take-le c.force-more.result c.force-more.new.room c.force-more.ensures.count in
-    let grown : IsGrown n c.force-more.new.flags next = record {
+    let grown : HasLog n c.force-more.new.flags next = record {
       room = c.force-more.ensures.flags ∙ i.grown.room;
       logged = c.force-more.ensures.log;
       closed = least.closed;

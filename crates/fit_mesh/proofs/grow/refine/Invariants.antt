@@ -2,7 +2,7 @@ use Rattle.std.proofs.Common.{◌+◌, ◌-◌, ◌*◌, ◌^◌, ◌≡◌, ◌
 use Rattle.std.specs.BinaryHeap.{heap_items, heap_len, heap_capacity}
 use Rattle.least_laws.specs.Sweep.{is_flagged}
 use Rattle.fit_laws.specs.Error.{error_of}
-use Rattle.fit_mesh.specs.Log.{IsGrown}
+use Rattle.fit_mesh.specs.Log.{HasLog}
 use Rattle.fit_mesh.specs.Waiting.{IsWaiting}
 use Rattle.fit_mesh.specs.Grown.{IsNeededBelow, IsBest}
 use Rattle.fit_mesh.proofs.grow.refine.Given as goal
@@ -13,7 +13,7 @@ invariant-loop-low l = record {
   len : heap_len l.heap ≤ 2 * l.count + 2;
   room : length l.room ≡ 2 ^ (2 * l.grid.n + 1);
   count : l.count ≤ length l.room;
-  grown : IsGrown l.grid.n l.flags (take l.count l.room);
+  grown : HasLog l.grid.n l.flags (take l.count l.room);
   waiting : IsWaiting l.grid.n (error_of l.grid.n l.grid.heights) (is_flagged l.flags) (heap_items l.heap);
   needed : IsNeededBelow l.grid.n (error_of l.grid.n l.grid.heights) l.low (is_flagged l.flags);
   best : IsBest l.grid.n (error_of l.grid.n l.grid.heights) l.tolerance l.budget l.low (take l.count l.room) l.mark;

@@ -2,7 +2,7 @@ use Rattle.std.proofs.Common.{◌+◌, ◌-◌, ◌*◌, ◌^◌, ◌≡◌, ◌
 use Rattle.least_laws.specs.Sweep.{is_flagged}
 use Rattle.fit_laws.specs.Error.{error_of}
 use Rattle.fit_laws.specs.Settled.{IsNeeded}
-use Rattle.fit_mesh.specs.Log.{IsGrown}
+use Rattle.fit_mesh.specs.Log.{HasLog}
 use Rattle.fit_mesh.specs.Grown.{AreSettled}
 use Rattle.fit_mesh.proofs.settle.settle.Given as goal
 
@@ -12,7 +12,7 @@ invariant-loop-next l = record {
   room : length l.room ≡ 2 ^ (2 * l.grid.n + 1);
   count : l.count ≤ length l.room;
   place : l.next ≤ l.count;
-  grown : IsGrown l.grid.n l.flags (take l.count l.room);
+  grown : HasLog l.grid.n l.flags (take l.count l.room);
   needed : IsNeeded l.grid.n l.tolerance (error_of l.grid.n l.grid.heights) (is_flagged l.flags);
   asked : AreSettled l.grid.n (error_of l.grid.n l.grid.heights) l.tolerance (is_flagged l.flags) (take l.next (take l.count l.room));
 }

@@ -1,5 +1,5 @@
 use Rattle.std.proofs.Common.{◌-◌, refl, ◌∙◌, sym, subst, arith}
-use Rattle.leaf_list.specs.Walk.{IsMarked}
+use Rattle.leaf_list.specs.Walk.{IsPathMarked}
 use Rattle.leaf_list.proofs.MarkLemmas.{marked_half, marked_absent, marked_by, not_live, half_slot, deep_by}
 use Rattle.leaf_list.proofs.marks.+mark.Goals as goal
 
@@ -21,12 +21,12 @@ returns-in-None-mark-clause-marked t c =
     marked_absent pairs c.args.t c.args.walk.now.touched c.mark.new.walk.touched
     (not_live c.args.pool.now.n pairs c.args.t c.n-n.ensures.valid (deep_by c.args.t c.in-Some.ensures.base.1)
     (λ r is. c.in-None-mark.ensures.absent refl r (is ∙ sym c.in-Some.ensures.half)))
-    (subst (λ k. IsMarked pairs k c.args.walk.now.touched c.mark.new.walk.touched) c.in-Some.ensures.half c.mark.ensures.marked)
+    (subst (λ k. IsPathMarked pairs k c.args.walk.now.touched c.mark.new.walk.touched) c.in-Some.ensures.half c.mark.ensures.marked)
 
 pub returns-in-Some-mark-clause-marked : goal.returns-in-Some-mark-clause-marked
 returns-in-Some-mark-clause-marked t c =
     let pairs = c.args.pool.now.pairs in
     marked_by c.args.pool.now.n pairs c.args.t c.args.walk.now c.mark.new.walk c.mark_child.new.walk c.mark_child.result c.n-n.ensures.valid
     (deep_by c.args.t c.in-Some.ensures.base.1)
-    (subst (λ k. IsMarked pairs k c.args.walk.now.touched c.mark.new.walk.touched) c.in-Some.ensures.half c.mark.ensures.marked)
+    (subst (λ k. IsPathMarked pairs k c.args.walk.now.touched c.mark.new.walk.touched) c.in-Some.ensures.half c.mark.ensures.marked)
     c.mark_child.ensures.there c.mark_child.ensures.absent c.mark_child.ensures.unmarked

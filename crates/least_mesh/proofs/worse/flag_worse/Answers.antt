@@ -2,7 +2,7 @@
 use Rattle.std.proofs.Common.{◌≡◌, ◌+◌, ◌*◌, ◌^◌, length, ap, subst, sym, ◌∙◌, arith}
 use Rattle.mesh_defs.specs.State.{priority_seen}
 use Rattle.least_laws.specs.Least.{is_worse}
-use Rattle.least_mesh.specs.Asked.{AreFlagged}
+use Rattle.least_mesh.specs.Asked.{AreWantedFlagged}
 use Rattle.least_mesh.proofs.AskedLemmas.{asked-none, asked-yes, asked-no, asked-all}
 use Rattle.least_mesh.proofs.worse.flag_worse.Goals.{then-is_worse, else-is_worse}
 use Rattle.least_mesh.proofs.worse.flag_worse.Goals as goal
@@ -32,13 +32,13 @@ loop-number-preserved c =
     let room = c.requires.room in
     elim c.if-is_worse.branch [
       | then-is_worse w ↦ record {
-        flagged = subst (λ l. AreFlagged wanted l (c.loop-number.number + 1)) (sym w.flags-is)
+        flagged = subst (λ l. AreWantedFlagged wanted l (c.loop-number.number + 1)) (sym w.flags-is)
             (asked-yes wanted c.loop-number.flags c.loop-number.number c.loop-number.invariant.flagged (omega arith) (sym c.is_worse.ensures.value ∙ w.if-is_worse.true));
         asked = omega arith;
         count = omega arith;
       }
       | else-is_worse w ↦ record {
-        flagged = subst (λ l. AreFlagged wanted l (c.loop-number.number + 1)) (sym w.flags-is)
+        flagged = subst (λ l. AreWantedFlagged wanted l (c.loop-number.number + 1)) (sym w.flags-is)
             (asked-no wanted c.loop-number.flags c.loop-number.number c.loop-number.invariant.flagged (sym c.is_worse.ensures.value ∙ w.if-is_worse.false));
         asked = omega arith;
         count = omega arith;

@@ -2,12 +2,12 @@
 use Rattle.std.proofs.Common.{◌+◌, ◌≤◌}
 use Rattle.mesh_defs.specs.State.{priority_seen}
 use Rattle.least_laws.specs.Least.{is_worse}
-use Rattle.least_mesh.specs.Asked.{AreFlagged}
+use Rattle.least_mesh.specs.Asked.{AreWantedFlagged}
 use Rattle.least_mesh.proofs.worse.flag_worse.Given as goal
 
 abbrev pub invariant-loop-number : goal.invariant-loop-number
 invariant-loop-number l = record {
-  flagged : AreFlagged (is_worse l.scene.grid.n l.tolerance (priority_seen l.scene)) l.flags l.number;
+  flagged : AreWantedFlagged (is_worse l.scene.grid.n l.tolerance (priority_seen l.scene)) l.flags l.number;
   asked : l.meter + 2 ≤ l.fn.meter + l.number;
   count : l.fn.meter ≤ l.meter;
 }

@@ -1,6 +1,6 @@
 use Rattle.std.proofs.Common.{◌≡◌, ℕ, ◌+◌, ◌-◌, ◌≤◌, ◌++◌, List, drop, length, vec_len}
 use Rattle.pgm_raster.specs.Progress.{reads}
-use Rattle.pgm_raster.specs.Stage.{HasRoom, IsPart}
+use Rattle.pgm_raster.specs.Stage.{HasSampleRoom, IsPart}
 use Rattle.pgm_raster.specs.declared.part.Part.TheVariants as part
 use Rattle.pgm_raster.proofs.plain.plain_after.Given as goal
 
@@ -9,7 +9,7 @@ abbrev pub invariant-loop-i : goal.invariant-loop-i
 invariant-loop-i l = record {
   told : (more : List ℕ) → reads l.limits l.fn.heights.items (part.Plain l.fn.digits) l.at (l.piece ++ more) ≡ reads l.limits l.heights.items (part.Plain l.digits) (l.at + l.i) (drop l.i l.piece ++ more);
   within : l.i ≤ length l.piece;
-  room : HasRoom l.limits l.heights;
+  room : HasSampleRoom l.limits l.heights;
   part : IsPart l.limits (vec_len l.heights) (part.Plain l.digits);
 }
 

@@ -4,7 +4,7 @@ use Rattle.std.proofs.lemmas.Option.{MatchOption-at_some}
 use Rattle.mesh_defs.specs.ClosedSet.{leaves_of, among}
 use Rattle.mesh_defs.specs.GridSet.{GridSet}
 use Rattle.closure_laws.proofs.ClosureLemmas.{leaves_of-none}
-use Rattle.plain_mesh.specs.Ranks.{triangles_of}
+use Rattle.plain_mesh.specs.Ranks.{ranked_triangles}
 use Rattle.plain_mesh.specs.Stop.{IsOver, IsStop}
 use Rattle.plain_mesh.proofs.PrefixLemmas.{closure-nothing, closure-forced, IsStop-over}
 use Rattle.plain_mesh.proofs.refining.refined.Goals as goal
@@ -15,7 +15,7 @@ loop-entry-init c =
     leaves_of-none c.args.n (among c.base-split.result.members) (λ a. ap (λ (l : List ℕ). among l a) c.base-split.ensures.empty) in
     record {
       same_grid = c.base-split.ensures.n;
-      closure = closure-nothing c.args.n (triangles_of c.args.ranking.now) c.base-split.result.members c.base-split.ensures.empty;
+      closure = closure-nothing c.args.n (ranked_triangles c.args.ranking.now) c.base-split.result.members c.base-split.ensures.empty;
       fits = let low = c.requires.budget in omega arith;
     }
 

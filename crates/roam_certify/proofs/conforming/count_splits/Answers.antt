@@ -2,7 +2,7 @@
 use Rattle.std.proofs.Common.{◌≡◌, ◌+◌, IfSome, IsTrue, sym, subst}
 use Rattle.mesh_defs.specs.Triangle.{IsSplittable, IsMate}
 use Rattle.least_laws.specs.Sweep.{is_flagged}
-use Rattle.roam_certify.specs.Climb.{IsCounted}
+use Rattle.roam_certify.specs.Climb.{IsCountedBelow}
 use Rattle.roam_certify.proofs.ClimbLemmas.{counted-first, counted-more, counted-skip}
 use Rattle.roam_certify.proofs.conforming.count_splits.Goals.{then-flags-number+else-not-has_mate, else-flags-number}
 use Rattle.roam_certify.proofs.conforming.count_splits.Goals as goal
@@ -28,10 +28,10 @@ unfolding is_flagged
 loop-number-preserved c = elim c.if-flags-number.branch [
   | then-flags-number+else-not-has_mate w ↦
       let visited : w.unwrap.result ≡ c.loop-number.number = subst (λ o. IfSome o (λ t. t ≡ c.loop-number.number)) w.unwrap.ensures w.new.ensures.value in
-      subst (λ z. IsCounted c.args.n (is_flagged c.args.flags.now) (c.loop-number.number + 1) z) (sym w.count-is)
+      subst (λ z. IsCountedBelow c.args.n (is_flagged c.args.flags.now) (c.loop-number.number + 1) z) (sym w.count-is)
       (counted-more c.args.n (is_flagged c.args.flags.now) c.loop-number.number c.loop-number.count c.loop-number.invariant w.if-flags-number.true
       (λ b m. w.has_mate.ensures.mate w.if-not-has_mate.false b (subst (λ t. IsMate c.args.n t b) (sym visited) m)))
   | else-flags-number w ↦
-      subst (λ z. IsCounted c.args.n (is_flagged c.args.flags.now) (c.loop-number.number + 1) z) (sym w.count-is)
+      subst (λ z. IsCountedBelow c.args.n (is_flagged c.args.flags.now) (c.loop-number.number + 1) z) (sym w.count-is)
       (counted-skip c.args.n (is_flagged c.args.flags.now) c.loop-number.number c.loop-number.count c.loop-number.invariant w.if-flags-number.false)
 ]

@@ -1,7 +1,7 @@
 -- What is below the counter was counted.
 use Rattle.least_laws.specs.Sweep.{is_flagged}
-use Rattle.roam_certify.specs.Climb.{IsCounted}
+use Rattle.roam_certify.specs.Climb.{IsCountedBelow}
 use Rattle.roam_certify.proofs.conforming.count_splits.Given as goal
 
 abbrev pub invariant-loop-number : goal.invariant-loop-number
-invariant-loop-number l = IsCounted l.n (is_flagged l.flags) l.number l.count
+invariant-loop-number l = IsCountedBelow l.n (is_flagged l.flags) l.number l.count

@@ -2,7 +2,7 @@ use Rattle.std.proofs.Common.{◌≡◌, ◌+◌, ◌-◌, ◌*◌, false, lengt
 use Rattle.roam_edge.specs.Fault.{next_count, IsInTime}
 use Rattle.roam_script.specs.declared.limits.TheConstants.{MOST_LINE_BYTES}
 use Rattle.cert_text.specs.declared.limits.TheConstants.{MOST_LEAVES, MOST_REASONS}
-use Rattle.run_files.specs.CertStage.{IsCounted}
+use Rattle.run_files.specs.CertStage.{IsStageCounted}
 use Rattle.run_laws.specs.Moment.{OnlyReads}
 use Rattle.run_files.proofs.CertStageLemmas.{IsReadingCert}
 use Rattle.run_files.proofs.cert_file.read_cert.Given as goal
@@ -12,7 +12,7 @@ abbrev pub invariant-pieces : goal.invariant-pieces
 invariant-pieces g l = record {
   reading : IsReadingCert l.n (g.O.Outside.moment l.fn.outside).shelf.files (g.O.Outside.moment l.outside).shelf.rest l.name l.stage;
   level : l.stage.reader.n ≡ l.n;
-  counted : IsCounted l.stage;
+  counted : IsStageCounted l.stage;
   open_file : (g.O.Outside.moment l.outside).shelf.ended ≡ false;
   same : g.O.Outside.is_same l.fn.outside l.outside;
   only : OnlyReads (g.O.Outside.moment l.fn.outside) (g.O.Outside.moment l.outside);

@@ -1,7 +1,7 @@
 use Rattle.std.proofs.Common.{◌≡◌, ◌-◌, ◌^◌, ◌≤◌, false}
 use Rattle.roam_edge.specs.Fault.{next_count, IsInTime}
 use Rattle.pgm_grid.specs.declared.fault.PgmFault.{PgmFault}
-use Rattle.pgm_grid.specs.Progress.{taken, IsSettled}
+use Rattle.pgm_grid.specs.Progress.{taken, StaysRefused}
 use Rattle.run_laws.specs.Moment.{OnlyReads}
 use Rattle.run_files.proofs.ReadingLemmas.{IsReading}
 use Rattle.run_files.proofs.grid_file.read_grid.Given as goal
@@ -10,7 +10,7 @@ use Rattle.run_files.proofs.grid_file.read_grid.Given as goal
 abbrev pub invariant-pieces : goal.invariant-pieces
 invariant-pieces g l = record {
   reading : IsReading (g.O.Outside.moment l.fn.outside).shelf.files (g.O.Outside.moment l.outside).shelf.rest l.name l.reader;
-  unsettled : (fault : PgmFault) → IsSettled l.reader fault → ⊥;
+  unsettled : (fault : PgmFault) → StaysRefused l.reader fault → ⊥;
   few : taken l.reader ≤ 2 ^ 28;
   open_file : (g.O.Outside.moment l.outside).shelf.ended ≡ false;
   same : g.O.Outside.is_same l.fn.outside l.outside;

@@ -2,7 +2,7 @@ use Rattle.std.proofs.Common.{Err, ◌∙◌, ap}
 use Rattle.word_laws.specs.Words.{CheckFit}
 use Rattle.run_words.specs.FitView.{fit_checking_seen}
 use Rattle.run_laws.proofs.RunLemmas.{spent-runs}
-use Rattle.run_fit_check.specs.FitJudging.{judged_text}
+use Rattle.run_fit_check.specs.FitJudging.{fit_judged_text}
 use Rattle.run_fit_check.proofs.FitJudgingLemmas.{check-runs, check-memory, check-fault}
 use Rattle.run_fit_check.proofs.checking.run_fit_check.Goals as goal
 
@@ -12,7 +12,7 @@ returns-in-Ok-judge-clause-runs g c =
     let j = c.in-Ok-judge.judgement in
     check-runs _ _ _ _ _ (fit_checking_seen c.args.words.now) c.in-Ok.grid c.as_slice.result.now c.status.result _
     c.requires.idle c.in-Ok.ensures.ok j c.in-Ok-judge.ensures.opened c.in-Ok-judge.ensures.ended judged
-    (c.as_slice.ensures.value ∙ c.judgement_report.ensures ∙ ap (λ k. judged_text k j) c.n-n.ensures.value) c.status.ensures
+    (c.as_slice.ensures.value ∙ c.judgement_report.ensures ∙ ap (λ k. fit_judged_text k j) c.n-n.ensures.value) c.status.ensures
     c.end_with_text.ensures.tells
 
 pub returns-in-Err-NoMemory-clause-runs : goal.returns-in-Err-NoMemory-clause-runs

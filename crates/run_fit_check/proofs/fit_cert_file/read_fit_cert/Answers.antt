@@ -2,7 +2,7 @@ use Rattle.std.proofs.Common.{◌≡◌, [], take, rules, arith, sym, ◌∙◌,
 use Rattle.std.proofs.lemmas.Grind.{common_steps}
 use Rattle.std.proofs.lemmas.Result.{err_from_is_err_and}
 use Rattle.run_files.specs.declared.cert_file.CertStop.TheVariants.{BadLine}
-use Rattle.fit_cert_text.specs.FitCertReader.{nothing_read, fit_line_in}
+use Rattle.fit_cert_text.specs.FitCertReader.{nothing_fit_read, fit_line_in}
 use Rattle.run_laws.specs.CertFile.{FitCertPlace, HasFitCertCome}
 use Rattle.run_laws.proofs.CertFileLemmas.{come-begin}
 use Rattle.run_laws.proofs.FileLemmas.{piece-read, stops-unopened}
@@ -13,7 +13,7 @@ pub pieces-init : goal.pieces-init
 pieces-init g c = record {
   reading = record {
     bytes = [];
-    come = subst (λ (here : FitCertPlace). HasFitCertCome c.args.n [] here) (sym c.new-stage.ensures.place) (come-begin (fit_line_in c.args.n) nothing_read);
+    come = subst (λ (here : FitCertPlace). HasFitCertCome c.args.n [] here) (sym c.new-stage.ensures.place) (come-begin (fit_line_in c.args.n) nothing_fit_read);
     in_file = search rules;
   };
   level = c.new-stage.ensures.n;

@@ -5,7 +5,7 @@ use Rattle.run_laws.specs.declared.status.Status.{Status}
 use Rattle.run_laws.specs.Act.{Told}
 use Rattle.run_laws.specs.Promise.{Seen}
 use Rattle.run_laws.specs.Maker.{EndsScript, ScriptHasCome}
-use Rattle.run_script.specs.StageView.{IsAt}
+use Rattle.run_script.specs.StageView.{IsScriptAt}
 use Rattle.run_laws.proofs.StepLemmas.{place, come-begin}
 use Rattle.run_laws.proofs.FileLemmas.{file-cut, piece-read, read-end, has-ended, stops-unopened, stops-behind}
 use Rattle.run_script.proofs.EndLemmas.{begins-at, ended-file, piece-file, ends-stop}
@@ -24,7 +24,7 @@ pieces-init g c = record {
   carried = λ show start begins. (
     [],
     record {
-      place = subst (λ (t : Told). IsAt (g.O.Outside.moment c.args.outside.now).sinks t show (g.K.FrameMaker.follows c.args.frames.now) start [] c.new-stage.result)
+      place = subst (λ (t : Told). IsScriptAt (g.O.Outside.moment c.args.outside.now).sinks t show (g.K.FrameMaker.follows c.args.frames.now) start [] c.new-stage.result)
           (sym c.in-Ok.ensures.only.sinks) (begins-at _ show _ start c.new-stage.result begins c.new-stage.ensures.lines c.new-stage.ensures.part);
       in_file = λ all is. (bytes_of all c.args.name.now, c.in-Ok.ensures.opened.chosen all is, refl);
     },
@@ -53,7 +53,7 @@ returns-then-count-eq0-clause-ends g c show start begins all told_files read =
     (g.O.Outside.moment c.end_script.new.outside).sinks show (g.K.FrameMaker.follows
     c.end_script.new.frames) start l c.end_script.result in
     subst P (sym same) (c.end_script.ensures.ends _ show start old.0 begins.starts
-    (subst (λ (t : Told). IsAt (g.O.Outside.moment c.args.outside.now).sinks t show (g.K.FrameMaker.follows c.pieces.frames) start old.0 c.pieces.stage)
+    (subst (λ (t : Told). IsScriptAt (g.O.Outside.moment c.args.outside.now).sinks t show (g.K.FrameMaker.follows c.pieces.frames) start old.0 c.pieces.stage)
     (sym c.in-Ok-read.ensures.only.sinks) old.1.place))
 
 pub returns-then-count-eq0-clause-leaves : goal.returns-then-count-eq0-clause-leaves
@@ -91,7 +91,7 @@ returns-in-Err-clause-ends g c show start begins all told_files read =
     c.take_piece.new.frames) start l c.status_of.result in
     let stop = ends-stop _ _ show (g.K.FrameMaker.follows c.take_piece.new.frames) start begins.alone (old.0 ++ take c.in-Ok-read.count c.read.new.buf) file.0 c.take_piece.new.stage c.in-Err.stop
     (c.in-Err.ensures.outcome _ show start old.0 begins.starts
-    (subst (λ (t : Told). IsAt (g.O.Outside.moment c.args.outside.now).sinks t show (g.K.FrameMaker.follows c.pieces.frames) start old.0 c.pieces.stage)
+    (subst (λ (t : Told). IsScriptAt (g.O.Outside.moment c.args.outside.now).sinks t show (g.K.FrameMaker.follows c.pieces.frames) start old.0 c.pieces.stage)
     (sym c.in-Ok-read.ensures.only.sinks) old.1.place)) in
     let Q = λ (status : Status). EndsScript (g.O.Outside.moment c.args.outside.now).sinks
     (g.O.Outside.moment c.take_piece.new.outside).sinks show (g.K.FrameMaker.follows
@@ -106,7 +106,7 @@ pieces-preserved g c = record {
         old.0 ++ take c.in-Ok-read.count c.read.new.buf,
         record {
           place = (c.in_default-take_piece.ensures.outcome _ show start old.0 begins.starts
-              (subst (λ (t : Told). IsAt (g.O.Outside.moment c.args.outside.now).sinks t show (g.K.FrameMaker.follows c.pieces.frames) start old.0 c.pieces.stage)
+              (subst (λ (t : Told). IsScriptAt (g.O.Outside.moment c.args.outside.now).sinks t show (g.K.FrameMaker.follows c.pieces.frames) start old.0 c.pieces.stage)
               (sym c.in-Ok-read.ensures.only.sinks) old.1.place)).ok;
           in_file = λ all is.
               let there = old.1.in_file all is in (

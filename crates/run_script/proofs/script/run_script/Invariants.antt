@@ -2,7 +2,7 @@ use Rattle.std.proofs.Common.{◌≡◌, ◌+◌, ◌-◌, ◌*◌, ℕ, List, S
 use Rattle.roam_edge.specs.Shelf.{NamedFile}
 use Rattle.run_laws.specs.Walk.{Walk}
 use Rattle.word_laws.specs.Words.{Show}
-use Rattle.run_script.specs.StageView.{IsStage}
+use Rattle.run_script.specs.StageView.{IsScriptStage}
 use Rattle.run_script.specs.Taking.{GoesOn}
 use Rattle.run_laws.specs.Maker.{Begins}
 use Rattle.run_script.proofs.EndLemmas.{IsCarried}
@@ -18,7 +18,7 @@ invariant-pieces g l = record {
   told_rest : (all : List NamedFile) → (g.O.Outside.moment l.fn.outside).shelf.files ≡ Some all
       → (unread : List ℕ) × ((g.O.Outside.moment l.outside).shelf.rest ≡ Some unread);
   ready : g.K.FrameMaker.is_ready l.frames l.stage.lines;
-  stage : IsStage l.stage;
+  stage : IsScriptStage l.stage;
   open_file : (g.O.Outside.moment l.outside).shelf.ended ≡ false;
   same : g.O.Outside.is_same l.fn.outside l.outside;
   goes_on : GoesOn (g.O.Outside.moment l.fn.outside) (g.O.Outside.moment l.outside);

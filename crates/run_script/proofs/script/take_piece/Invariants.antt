@@ -2,7 +2,7 @@ use Rattle.std.proofs.Common.{◌+◌, ◌*◌, ◌≤◌, ◌++◌, ℕ, List, 
 use Rattle.run_laws.specs.Walk.{Walk}
 use Rattle.word_laws.specs.Words.{Show}
 use Rattle.run_laws.specs.Act.{Told}
-use Rattle.run_script.specs.StageView.{IsStage, IsAt}
+use Rattle.run_script.specs.StageView.{IsScriptStage, IsScriptAt}
 use Rattle.run_script.specs.Taking.{OnlyTakes}
 use Rattle.run_laws.specs.Maker.{Starts}
 use Rattle.run_script.proofs.script.take_piece.Given as goal
@@ -11,12 +11,12 @@ use Rattle.run_script.proofs.script.take_piece.Given as goal
 abbrev pub invariant-loop-byte : goal.invariant-loop-byte
 invariant-loop-byte g l = record {
   carried : (before : Told) (show : Show) (start : Walk) (read : List ℕ) → Starts start
-      → IsAt before (g.O.Outside.moment l.fn.outside).sinks show
+      → IsScriptAt before (g.O.Outside.moment l.fn.outside).sinks show
       (g.K.FrameMaker.follows l.fn.frames) start read l.fn.stage
-      → IsAt before (g.O.Outside.moment l.outside).sinks show (g.K.FrameMaker.follows l.frames) start
+      → IsScriptAt before (g.O.Outside.moment l.outside).sinks show (g.K.FrameMaker.follows l.frames) start
       (read ++ take l.byte-index l.piece) l.stage;
   ready : g.K.FrameMaker.is_ready l.frames l.stage.lines;
-  stage : IsStage l.stage;
+  stage : IsScriptStage l.stage;
   longer : 201 * l.fn.stage.lines + length l.fn.stage.part.items + l.byte-index ≤ 201 * l.stage.lines + length l.stage.part.items;
   same : g.O.Outside.is_same l.fn.outside l.outside;
   only : OnlyTakes {T = Unit {0}} (g.O.Outside.moment l.fn.outside) (g.O.Outside.moment l.outside) (Ok tt);

@@ -1,6 +1,6 @@
 use Rattle.std.proofs.Common.{◌≡◌, ◌∙◌, ap, ap₂, sym, ℕ, List}
 use Rattle.pgm_raster.specs.declared.part.Part.{Part}
-use Rattle.pgm_raster.specs.Progress.{Reading, resume, nothing_of}
+use Rattle.pgm_raster.specs.Progress.{ReadingSamples, resume_raster, nothing_of}
 use Rattle.pgm_raster.proofs.ReaderLemmas.{resume-start, place-reading, refusal-reading}
 use Rattle.pgm_raster.proofs.reader.RasterReader.new.Goals.{in-Bytes, in-Words, in-Plain}
 use Rattle.pgm_raster.proofs.reader.RasterReader.new.Goals as goal
@@ -12,7 +12,7 @@ returns-clause-value c =
       | in-Words w ↦ w.part-is ∙ ap nothing_of (sym w.in-Words.is)
       | in-Plain w ↦ w.part-is ∙ ap nothing_of (sym w.in-Plain.is)
     ] in
-    λ more. ap₂ (λ (s : List ℕ) (p : Part). resume (Reading (record { count = c.args.count; maxval = c.args.maxval }) s p c.args.place) more) c.in_ok-with_capacity.ensures.items part
+    λ more. ap₂ (λ (s : List ℕ) (p : Part). resume_raster (ReadingSamples (record { count = c.args.count; maxval = c.args.maxval }) s p c.args.place) more) c.in_ok-with_capacity.ensures.items part
     ∙ resume-start c.args.form c.args.count c.args.maxval c.args.place more
 
 pub returns-clause-place : goal.returns-clause-place

@@ -4,7 +4,7 @@ use Rattle.std.proofs.lemmas.List.{get_or_read}
 use Rattle.std.specs.Vec.{with_item}
 use Rattle.bintree_addr.specs.declared.slot.Slot.{Slot}
 use Rattle.roam_mesh.specs.Parts.{PartsState, parts_of, IsWhole, blank, entry_at}
-use Rattle.roam_mesh.specs.Change.{heard, told, rekeyed}
+use Rattle.roam_mesh.specs.Change.{heard, rated, rekeyed}
 use Rattle.roam_mesh.specs.contracts.parts.Parts.{the_view}
 use Rattle.roam_mesh.specs.declared.parts.Parts.TheInside.{Inside}
 use Rattle.roam_mesh.specs.declared.entry.Entry.{Entry}
@@ -105,7 +105,7 @@ returns-clause-told c =
           let old : (slice_index_or c.self.inside.entries.items c.args.s.0 blank).listed ≡ true = sym (ap (λ (e : Entry). e.listed) read) ∙ w.if-not-index.false in
           again_state c.self.inside c.if-not-index.self-inside c.args.s c.args.p c.index_mut-2.result.now c.hear.new.self below old w.self-inside-is c.index_mut-2.ensures.value c.hear.ensures
     ] in
-    c.rekey.ensures ∙ ap (λ (z : PartsState). rekeyed z c.args.s.0) state ∙ ap (λ (z : PartsState). told z c.args.s.0 c.args.p) c.self.view_is
+    c.rekey.ensures ∙ ap (λ (z : PartsState). rekeyed z c.args.s.0) state ∙ ap (λ (z : PartsState). rated z c.args.s.0 c.args.p) c.self.view_is
 
 pub index-requires : goal.index-requires
 index-requires c = grind (arith, common_steps)

@@ -2,7 +2,7 @@ use Rattle.std.proofs.Common.{◌≡◌, ◌<◌, length, sym, ◌∙◌, ap, su
 use Rattle.std.proofs.lemmas.List.{get_or_read}
 use Rattle.edge_laws.specs.Slots.{address_at, IsLive}
 use Rattle.roam_mesh.specs.contracts.parts.Parts.{the_view}
-use Rattle.roam_mesh.specs.Parts.{PartsState, worst_of, worst_rank, blank}
+use Rattle.roam_mesh.specs.Parts.{PartsState, merging_key, worst_rank, blank}
 use Rattle.roam_mesh.proofs.PlaceLemmas.{live_below}
 use Rattle.roam_mesh.proofs.PlacedLemmas.{worst_read}
 use Rattle.roam_mesh.proofs.parts.Parts.worst_rank.Goals as goal
@@ -13,4 +13,4 @@ returns c =
     let within : c.args.s.0 < length c.self.inside.entries.items = let below = live_below c.self.inside.pool.pairs c.args.s.0 live in let long = c.self.invariant.0.entries in omega arith in
     subst (λ (q : PartsState). record { p = c.worst.result; tri = c.tri.result } ≡ worst_rank q (address_at q.pool.pairs c.args.s.0)) c.self.view_is
     (worst_read (the_view c.self.inside) c.args.s.0 c.worst.result c.tri.result c.tri.ensures.valid live
-    (c.worst.ensures ∙ ap worst_of (get_or_read c.self.inside.entries.items c.args.s.0 c.index.result.now within c.index.ensures blank)) c.tri.ensures.value)
+    (c.worst.ensures ∙ ap merging_key (get_or_read c.self.inside.entries.items c.args.s.0 c.index.result.now within c.index.ensures blank)) c.tri.ensures.value)

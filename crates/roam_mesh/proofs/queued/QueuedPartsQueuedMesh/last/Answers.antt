@@ -4,7 +4,7 @@ use Rattle.closure_laws.specs.Diamond.{CanMerge}
 use Rattle.edge_laws.specs.Slots.{address_at, IsLive}
 use Rattle.edge_laws.specs.Chief.{chief_of}
 use Rattle.slot_heap.specs.Keys.{IsEmpty}
-use Rattle.merge_queue.specs.Last.{IsLastRank}
+use Rattle.merge_queue.specs.Last.{IsLastEntry}
 use Rattle.bintree_addr.specs.declared.slot.Slot.{Slot}
 use Rattle.deferred_loop.specs.Seen.{IsLastHead}
 use Rattle.deferred_loop.specs.declared.queued.Last.{Last}
@@ -40,8 +40,8 @@ better_and_unasked-next-requires c =
     let view : the_view c.self-inside.inside.0.0 ≡ c.args.self.now.parts =
     ap (λ (z : Inside). z.parts) c.self-inside.view_is ∙ (ap (λ (z : QueuedState). z.parts) c.self.view_is) in
     let none : c.args.self.now.parts.fresh ≡ [] = settled_fresh c.args.self.now.parts c.requires.settled in
-    let last : IsLastRank c.args.self.now.parts.merge c.in_ok-head.head c.in_ok-head.rank =
-    subst (λ (z : PartsState). IsLastRank z.merge c.in_ok-head.head c.in_ok-head.rank) view
+    let last : IsLastEntry c.args.self.now.parts.merge c.in_ok-head.head c.in_ok-head.rank =
+    subst (λ (z : PartsState). IsLastEntry z.merge c.in_ok-head.head c.in_ok-head.rank) view
     c.in_ok-head.ensures.last in
     record {
       ready = subst (λ (z : PartsState). is_ready_at z.pool.pairs c.in_ok-head.head.0 ≡ true)
@@ -56,8 +56,8 @@ tri-requires c =
     let is : IsParts parts = subst IsParts state c.self.invariant in
     let view : the_view c.self-inside.inside.0.0 ≡ parts = ap (λ (z : Inside). z.parts) c.self-inside.view_is ∙ state in
     let none : parts.fresh ≡ [] = settled_fresh parts c.requires.settled in
-    let last : IsLastRank parts.merge c.in_ok-head.head c.in_ok-head.rank =
-    subst (λ (z : PartsState). IsLastRank z.merge c.in_ok-head.head c.in_ok-head.rank) view c.in_ok-head.ensures.last in
+    let last : IsLastEntry parts.merge c.in_ok-head.head c.in_ok-head.rank =
+    subst (λ (z : PartsState). IsLastEntry z.merge c.in_ok-head.head c.in_ok-head.rank) view c.in_ok-head.ensures.last in
     let unasked : IsUnasked parts c.in_ok-head.head.0 c.in-Some.s =
     subst (λ (o : Option Slot). MatchOption o (IsKnownRank parts c.in_ok-head.head.0) (IsUnasked parts c.in_ok-head.head.0)) c.in-Some.is
     (subst (λ (z : PartsState). MatchOption c.better_and_unasked-next.result.1 (IsKnownRank z c.in_ok-head.head.0)
@@ -76,8 +76,8 @@ returns-clause-head c =
     let is : IsParts parts = subst IsParts state c.self.invariant in
     let view : the_view c.self-inside.inside.0.0 ≡ parts = ap (λ (z : Inside). z.parts) c.self-inside.view_is ∙ state in
     let none : parts.fresh ≡ [] = settled_fresh parts c.requires.settled in
-    let last : IsLastRank parts.merge c.in_ok-head.head c.in_ok-head.rank =
-    subst (λ (z : PartsState). IsLastRank z.merge c.in_ok-head.head c.in_ok-head.rank) view c.in_ok-head.ensures.last in
+    let last : IsLastEntry parts.merge c.in_ok-head.head c.in_ok-head.rank =
+    subst (λ (z : PartsState). IsLastEntry z.merge c.in_ok-head.head c.in_ok-head.rank) view c.in_ok-head.ensures.last in
     let next : MatchOption c.better_and_unasked-next.result.1 (IsKnownRank parts c.in_ok-head.head.0)
     (IsUnasked parts c.in_ok-head.head.0) =
     subst (λ (z : PartsState). MatchOption c.better_and_unasked-next.result.1 (IsKnownRank z c.in_ok-head.head.0)
@@ -105,8 +105,8 @@ returns-clause-at c =
     let state = ap (λ (z : QueuedState). z.parts) c.self.view_is in
     let is : IsParts parts = subst IsParts state c.self.invariant in
     let view : the_view c.self-inside.inside.0.0 ≡ parts = ap (λ (z : Inside). z.parts) c.self-inside.view_is ∙ state in
-    let last : IsLastRank parts.merge c.in_ok-head.head c.in_ok-head.rank =
-    subst (λ (z : PartsState). IsLastRank z.merge c.in_ok-head.head c.in_ok-head.rank) view c.in_ok-head.ensures.last in
+    let last : IsLastEntry parts.merge c.in_ok-head.head c.in_ok-head.rank =
+    subst (λ (z : PartsState). IsLastEntry z.merge c.in_ok-head.head c.in_ok-head.rank) view c.in_ok-head.ensures.last in
     named_at parts is (settled_fresh parts c.requires.settled) c.in_ok-head.head c.in_ok-head.rank last c.better_and_unasked-next.result.0
     (subst (λ (z : PartsState). worst_rank z (address_at z.pool.pairs c.better_and_unasked-next.result.0.0)
     ≡ diamond_rank z (chief_of (address_at z.pool.pairs c.in_ok-head.head.0))) state c.better_and_unasked-next.ensures.better)

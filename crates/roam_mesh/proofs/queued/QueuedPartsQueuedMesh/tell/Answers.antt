@@ -3,10 +3,10 @@ use Rattle.std.proofs.lemmas.Bool.{both_ways}
 use Rattle.mesh_defs.specs.ClosedSet.{among}
 use Rattle.edge_laws.specs.Slots.{address_at, IsLive}
 use Rattle.frame_steps.specs.Deferred.{IsEntry}
-use Rattle.deferred_loop.specs.Seen.{IsTold}
+use Rattle.deferred_loop.specs.Seen.{IsRated}
 use Rattle.roam_mesh.specs.Mesh.{pool_members}
 use Rattle.roam_mesh.specs.Parts.{QueuedState, PartsState, IsParts, seen_parts, is_leaf_at, is_ready_at}
-use Rattle.roam_mesh.specs.Change.{told}
+use Rattle.roam_mesh.specs.Change.{rated}
 use Rattle.roam_mesh.proofs.RoleLemmas.{entry_live, entry_cases}
 use Rattle.roam_mesh.proofs.PlacedLemmas.{leaf_present, diamond_present}
 use Rattle.roam_mesh.proofs.HeadLemmas.{settled_fresh}
@@ -76,8 +76,8 @@ returns-clause-told c =
     (sym (ap (λ (z : QueuedState). z.parts) c.self.view_is)) c.requires.at in
     let live : IsLive c.self.inside.parts.pool.pairs c.args.slot.0 = entry_live c.self.inside.parts.pool.pairs c.args.slot.0
     (entry_told c.self.inside.parts c.args.slot.0 c.args.rank.tri c.self.invariant entry at) in
-    let seen : IsTold (seen_parts c.self.inside.parts) (seen_parts (told c.self.inside.parts c.args.slot.0 c.args.rank.p)) c.args.rank =
+    let seen : IsRated (seen_parts c.self.inside.parts) (seen_parts (rated c.self.inside.parts c.args.slot.0 c.args.rank.p)) c.args.rank =
     told_seen c.self.inside.parts c.args.slot.0 c.args.rank c.hear.ensures.whole c.self.invariant.pool live at in
-    subst (λ (z : PartsState). IsTold (seen_parts z) (seen_parts c.hear.new.self) c.args.rank)
+    subst (λ (z : PartsState). IsRated (seen_parts z) (seen_parts c.hear.new.self) c.args.rank)
     (ap (λ (z : QueuedState). z.parts) c.self.view_is)
-    (subst (λ (z : PartsState). IsTold (seen_parts c.self.inside.parts) (seen_parts z) c.args.rank) (sym c.hear.ensures.told) seen)
+    (subst (λ (z : PartsState). IsRated (seen_parts c.self.inside.parts) (seen_parts z) c.args.rank) (sym c.hear.ensures.told) seen)
